@@ -18,7 +18,7 @@ Words = dict[str, Any]
 
 
 class Driver:
-    """The commands, and what they share."""
+    """The commands, and the state that they share."""
 
     def __init__(self) -> None:
         self.lock = threading.Lock()
@@ -242,7 +242,7 @@ def saga_of(saga: sagas.ServiceSaga) -> Words:
 
 
 def item_of(task: sagas.Task[Any]) -> Words:
-    """The item of a task, as the service has it: the name of the step ends with its number."""
+    """Return the item of a task as the service has it: the end of its step's name."""
     if not task.has_item:
         return {"index": None, "item_key": None, "item": None}
     key = task.index if isinstance(task.index, str) else None
@@ -264,7 +264,7 @@ def told_of(error: Exception) -> Words:
 
 
 def main() -> None:
-    """Carries out commands until the end of its input."""
+    """Execute commands until the end of the input."""
     driver = Driver()
     for line in sys.stdin:
         words = json.loads(line)

@@ -23,7 +23,7 @@ Words = dict[str, Any]
 
 
 class Refused(Exception):
-    """An error that a driver answered."""
+    """An error that a driver returned."""
 
     def __init__(self, name: str, status: int, text: str) -> None:
         super().__init__(f"{name} ({status}): {text}")
@@ -31,7 +31,7 @@ class Refused(Exception):
 
 
 def command_of(language: str, room: pathlib.Path) -> list[str]:
-    """What starts a language's driver; Go's is built first."""
+    """Return the command that starts a language's driver; Go's is built first."""
     if language == "python":
         return [sys.executable, str(TOP / "clients/contract/driver.py")]
     if language == "node":
@@ -44,14 +44,14 @@ def command_of(language: str, room: pathlib.Path) -> list[str]:
 
 
 def languages() -> list[str]:
-    """Those that are asked for and there."""
+    """Return the languages that are requested and installed."""
     wanted = os.environ.get("SAGAS_CLIENTS", "python,node,go").split(",")
     return [one for one in wanted if one != "go" or (TOP / "clients/go/go.mod").exists()]
 
 
 @contextlib.contextmanager
 def commands() -> Iterator[Callable[[str], list[str]]]:
-    """The commands of all languages; each is made once."""
+    """Return the commands of all languages; each is made once."""
     room = pathlib.Path(tempfile.mkdtemp(prefix="sagas-drivers-"))
     made: dict[str, list[str]] = {}
     try:
@@ -67,7 +67,7 @@ def _made(made: dict[str, list[str]], language: str, room: pathlib.Path) -> list
 
 
 class Driver:
-    """A driver that runs."""
+    """A running driver."""
 
     def __init__(self, command: list[str]) -> None:
         path = f"{TOP / 'python/src'}{os.pathsep}{os.environ.get('PYTHONPATH', '')}"
@@ -107,7 +107,7 @@ class Driver:
             self._news.notify_all()
 
     def send(self, word: str, **words: Any) -> Future[Any]:
-        """Sends a command; its answer comes later."""
+        """Send a command; its reply comes later."""
         answer: Future[Any] = Future()
         number = next(self._numbers)
         with self._news:
@@ -119,17 +119,17 @@ class Driver:
         return answer
 
     def ask(self, word: str, **words: Any) -> Any:
-        """Sends a command, and waits for its answer."""
+        """Send a command and wait for its reply."""
         return self.send(word, **words).result(LONG)
 
     def refused(self, word: str, **words: Any) -> str:
-        """The name of the error of a command."""
+        """Return the name of the error of a command."""
         error = self.send(word, **words).exception(LONG)
         assert isinstance(error, Refused), (word, words, error)
         return error.name
 
     def heard(self, note: str, count: int = 1, **words: Any) -> list[Words]:
-        """Waits until so many notes are there that say this."""
+        """Wait until `count` notes with this content have arrived."""
         found: list[Words] = []
 
         def enough() -> bool:
@@ -142,13 +142,13 @@ class Driver:
         return found
 
     def calls(self, key: str, name: str) -> list[Words]:
-        """The calls of a step of a saga up to now."""
+        """Return the calls of a step of a saga up to now."""
         with self._news:
             told = {"note": "called", "key": key, "name": name}
             return [one for one in self.notes if told.items() <= one.items()]
 
     def told(self) -> str:
-        """What it wrote to its standard error."""
+        """Return what the driver wrote to its standard error."""
         self.errors.seek(0)
         return self.errors.read().decode(errors="replace")
 
@@ -158,7 +158,7 @@ class Driver:
         self._close()
 
     def end(self) -> None:
-        """Asks it to end, and sees that it does."""
+        """Ask the driver to end, and check that it does."""
         if self.process.poll() is None:
             self.ask("end")
             assert self.process.wait(LONG) == 0
@@ -173,7 +173,7 @@ class Driver:
 
     @contextlib.contextmanager
     def paused(self) -> Iterator[None]:
-        """It stands still meanwhile."""
+        """Stop the driver's process for the block."""
         self.process.send_signal(signal.SIGSTOP)
         try:
             yield

@@ -1,4 +1,7 @@
-"""Redis and RabbitMQ for tests: each in a folder and on ports of its own, killed with its children at the end."""
+"""Redis and RabbitMQ for tests.
+
+Each has its own folder and ports, and is killed with its children at the end.
+"""
 
 from __future__ import annotations
 
@@ -14,18 +17,18 @@ import threading
 from collections.abc import Iterator, Sequence
 
 PATIENCE = 90.0
-"""Seconds that a program has to say a word."""
+"""Seconds that a program has until it prints a line that a test waits for."""
 
 
 def free_port() -> int:
-    """A port that nobody has at this moment."""
+    """Return a port that no process uses at this moment."""
     with socket.socket() as one:
         one.bind(("127.0.0.1", 0))
         return int(one.getsockname()[1])
 
 
 class Program:
-    """A running program and what it said, in a session of its own."""
+    """A running program and its output, in its own session."""
 
     def __init__(
         self, words: Sequence[str], folder: pathlib.Path, environment: dict[str, str], log: str
@@ -60,7 +63,10 @@ class Program:
             self._change.notify_all()
 
     def wait_for(self, pattern: str, count: int = 1, seconds: float = PATIENCE) -> None:
-        """Waits until it has said it so often; raises where it ends before, or takes too long."""
+        """Wait until the output has `count` matches.
+
+        Raises if the program ends before, or takes too long.
+        """
         found = re.compile(pattern)
 
         def is_there() -> bool:
@@ -72,7 +78,7 @@ class Program:
             raise TimeoutError(f"{self.log}: {pattern!r} is not there: {''.join(self._said[-20:])}")
 
     def has_said(self, pattern: str) -> bool:
-        """Whether it has said that."""
+        """Return whether the output has a match."""
         with self._change:
             return any(re.search(pattern, line) for line in self._said)
 
@@ -85,7 +91,7 @@ class Program:
         return self.process.poll() is None
 
     def kill(self) -> None:
-        """Ends it and all that it started, at once."""
+        """Kill the program and all processes that it started."""
         with contextlib.suppress(ProcessLookupError):
             os.killpg(self.process.pid, signal.SIGKILL)
         self.process.wait(PATIENCE)
@@ -105,26 +111,26 @@ class Broker:
         self.program: Program | None = None
 
     def start(self) -> None:
-        """Starts it, and waits until it takes connections."""
+        """Start the broker, and wait until it accepts connections."""
         raise NotImplementedError
 
     def stop(self) -> None:
-        """Kills it with -9."""
+        """Kill the broker with SIGKILL."""
         if self.program:
             self.program.kill()
             self.program = None
 
     def forget(self) -> None:
-        """Its messages are lost. It must not run."""
+        """Delete its messages. The broker must not run."""
         raise NotImplementedError
 
     def close(self) -> None:
-        """Ends all that it started."""
+        """End all processes that it started."""
         self.stop()
 
 
 class Redis(Broker):
-    """Redis at a socket; what it was told is synced, unless it keeps nothing."""
+    """Redis at a socket. Each command is synced, unless the broker keeps nothing."""
 
     def __init__(self, folder: pathlib.Path, synced: bool = True) -> None:
         super().__init__(folder, synced)
@@ -153,7 +159,7 @@ class Redis(Broker):
 
 
 class RabbitMQ(Broker):
-    """RabbitMQ on a port of its own, with a port mapper of its own."""
+    """RabbitMQ on its own port, with its own port mapper."""
 
     def __init__(self, folder: pathlib.Path, synced: bool = True) -> None:
         super().__init__(folder, synced)
@@ -190,7 +196,10 @@ class RabbitMQ(Broker):
         )
 
     def start(self) -> None:
-        """As said; where another took a port meanwhile, it takes others."""
+        """Start the broker.
+
+        If another process took a port in the meantime, it takes other ports.
+        """
         for turn in range(3):
             self.program = Program([_rabbitmq()], self.folder, self.environment, "rabbitmq.log")
             try:
@@ -215,7 +224,7 @@ class RabbitMQ(Broker):
 
 
 def _rabbitmq() -> str:
-    """The server itself: the one in the path is Debian's, which changes the user."""
+    """Return the server itself: the one in the path is Debian's, which changes the user."""
     for place in ("/usr/lib/rabbitmq/bin/rabbitmq-server", shutil.which("rabbitmq-server")):
         if place and os.path.exists(place):
             return place
@@ -229,7 +238,7 @@ BROKERS: dict[str, type[Broker]] = {"redis": Redis, "rabbitmq": RabbitMQ}
 
 @contextlib.contextmanager
 def broker_at(kind: str, folder: pathlib.Path, synced: bool = True) -> Iterator[Broker]:
-    """A broker of that kind, until the block ends."""
+    """Run a broker of that kind until the block ends."""
     broker = BROKERS[kind](folder, synced)
     try:
         broker.start()

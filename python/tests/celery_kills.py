@@ -1,15 +1,22 @@
-"""Strikes at random moments at brokers, Celery's workers and the program that has the store, and a judgement when all is over.
+"""Strike brokers, Celery's workers and the program that has the store at random moments.
 
-    python3 tests/celery_kills.py [--rounds N] [--broker redis|rabbitmq] [--kinds ..] [--store sqlite|postgresql] [--sagas N] [--seed S] [--jobs N]
+A verdict follows when all sagas are over.
 
-A round is one store and one queue; the broker is one for all rounds of a job. Some messages are doubled and some come late, in each round. And
+    python3 tests/celery_kills.py [--rounds N] [--broker redis|rabbitmq] [--kinds KINDS]
+        [--store sqlite|postgresql] [--sagas N] [--seed S] [--jobs N]
 
-- `child` kills processes of the worker's pool, with -9; `worker` kills the worker itself, and starts another;
-- `broker` kills the broker, and starts it with its messages or without;
-- `owner` kills the program that has the store, or asks it to close, while messages are out;
-- `nodes` has two programs over one database (PostgreSQL alone), and kills one, asks it to close, or stops it past its lease: the other takes over what is out;
-- `store` keeps the store from being written for a while: its file is locked, or its server stopped as if its machine had failed;
-- `older` has a worker of an older definition take messages;
+A round is one store and one queue; the broker is the same for all rounds of a job. In each round
+some messages are duplicated and some are delayed. The kinds are:
+
+- `child` kills processes of the worker's pool with SIGKILL.
+- `worker` kills the worker itself, and starts another one.
+- `broker` kills the broker, and starts it with its messages or without.
+- `owner` kills the program that has the store, or asks it to close, while messages are out.
+- `nodes` has two programs over one database (PostgreSQL only), and kills one, asks it to close, or
+  stops it past its lease: the other one takes over the messages that are out.
+- `store` makes the store unwritable for a while: its file is locked, or its server stopped as if
+  its machine had failed.
+- `older` has a worker of an older definition take messages.
 - `all` does any of these.
 
 Every process that is signalled here was started here, and is named by its number.
@@ -47,12 +54,12 @@ HERE = pathlib.Path(__file__).resolve().parent
 KINDS = ("child", "worker", "broker", "owner", "store", "older", "all")
 NODES = "nodes"
 LEASE = 1.5
-"""Seconds, of each of two nodes."""
+"""Seconds: the lease of each of two nodes."""
 READY = r" ready\."
 
 
 def worker_words(queue: str, name: str) -> list[str]:
-    """How a worker is started: as always, and with what is of no use here left out."""
+    """Return the arguments that start a worker, without the options that are of no use here."""
     words = [
         sys.executable,
         "-m",
@@ -74,7 +81,7 @@ def worker_words(queue: str, name: str) -> list[str]:
 
 @dataclass
 class Strikes:
-    """Keeps the programs of one store running, and strikes them, until all is over."""
+    """The programs of one store. They are struck, and started again, until all sagas are over."""
 
     folder: pathlib.Path
     kind: str
@@ -140,7 +147,7 @@ class Strikes:
         return self.worker
 
     def until_over(self) -> str | None:
-        """Runs until all is over; says what went wrong with a program itself, if anything."""
+        """Run until all sagas are over; return the problems of the programs themselves."""
         try:
             self.start_worker()
             for name in self.names:
@@ -192,9 +199,8 @@ class Strikes:
 
     def _worker(self) -> None:
         assert self.worker
-        if (
-            self.draw.random() < 0.5
-        ):  # its children see it by themselves, when they have ended what they do
+        # its children notice it themselves, when they have ended their tasks
+        if self.draw.random() < 0.5:
             os.kill(self.worker.pid, signal.SIGKILL)
             self.worker.process.wait(60)
         self.worker.kill()
@@ -207,7 +213,7 @@ class Strikes:
         if lost:
             self.broker.forget()
         self.kills["the broker's messages" if lost else "the broker"] += 1
-        time.sleep(self.draw.uniform(0, 0.5))  # how long it is away
+        time.sleep(self.draw.uniform(0, 0.5))  # the time for which it is stopped
         self.broker.start()
 
     def _owner(self, name: str) -> None:
@@ -222,7 +228,7 @@ class Strikes:
         owner.kill()
         self.kills["the program"] += 1
         if len(self.names) > 1 and self.draw.random() < 0.5:
-            time.sleep(2 * LEASE)  # the other has all of it by then
+            time.sleep(2 * LEASE)  # the other node has all of it by then
         with contextlib.suppress(TimeoutError):
             self.start_owner(name).wait_for("^open", seconds=self.draw.choice((0.3, 60)))
 
@@ -230,9 +236,8 @@ class Strikes:
         if self.draw.random() < 0.4:
             process = self.owners[name].process
             process.send_signal(signal.SIGSTOP)
-            time.sleep(
-                self.draw.uniform(LEASE, 2 * LEASE)
-            )  # the other takes over, and this one goes on as if nothing had been
+            # the other node takes over, and this one continues as if nothing had happened
+            time.sleep(self.draw.uniform(LEASE, 2 * LEASE))
             process.send_signal(signal.SIGCONT)
             self.kills["a node stood still"] += 1
         else:
@@ -242,7 +247,7 @@ class Strikes:
         if self.server:
             self.server.stop()
             self.kills["the store's server"] += 1
-            time.sleep(self.draw.choice((0.1, 2)))  # how long it is away
+            time.sleep(self.draw.choice((0.1, 2)))  # the time for which it is unavailable
             self.server.start()
             return
         with contextlib.closing(
@@ -250,7 +255,7 @@ class Strikes:
         ) as db:
             db.execute("BEGIN EXCLUSIVE")
             self.kills["the store locked"] += 1
-            time.sleep(self.draw.choice((0.3, 2.5)))  # how long it is away
+            time.sleep(self.draw.choice((0.3, 2.5)))  # the time for which it is unavailable
             db.execute("ROLLBACK")
 
     def _older(self) -> None:
@@ -275,7 +280,11 @@ def play(
     quiet: int = 6,
     wrong: str | None = None,
 ) -> Round:
-    """One round: a store, its strikes, its judgement. Its files stay where something was found. With `wrong` there is no chance in it; the worker is one of `wrong_workers`, or where that is empty a right one."""
+    """Play one round: a store, its strikes and the verdict.
+
+    The files stay if there are faults. With `wrong` nothing is random; the worker is one of
+    `wrong_workers`, or a right one if that is empty.
+    """
     folder = pathlib.Path(tempfile.mkdtemp(prefix="sagas-celery-"))
     strikes = Strikes(folder, kind, random.Random(seed), broker, server, sagas, most, quiet, wrong)
     with witness_at(folder / "socket", folder / "notes"):
@@ -296,7 +305,7 @@ def play(
 
 
 def _job(broker: str, store: str, kinds: list[str], seeds: list[int], sagas: int) -> list[Round]:
-    """Rounds over one broker."""
+    """Play rounds over one broker."""
     folder = pathlib.Path(tempfile.mkdtemp(prefix="sagas-broker-"))
     try:
         with broker_at(broker, folder) as running, contextlib.ExitStack() as stack:
@@ -321,7 +330,7 @@ def _job(broker: str, store: str, kinds: list[str], seeds: list[int], sagas: int
 
 
 def main() -> int:
-    """The command."""
+    """Run the command."""
     parser = argparse.ArgumentParser(
         description=__doc__, formatter_class=argparse.RawDescriptionHelpFormatter
     )

@@ -1,4 +1,8 @@
-"""The sagas of test_celery.py: made by the test, and again by its workers (`python3 -m celery -A celery_shop worker`), by the same words."""
+"""The sagas of test_celery.py.
+
+The test makes them, and its workers make them again with the same arguments (`python3 -m celery -A
+celery_shop worker`).
+"""
 
 from __future__ import annotations
 
@@ -40,7 +44,7 @@ class Seat:
 
 
 class Shop:
-    """An app, a queue, and sagas whose functions note each call in a file."""
+    """An app, a queue, and sagas whose functions append each call to a file."""
 
     def __init__(
         self,
@@ -87,11 +91,11 @@ class Shop:
         ]
 
     def open(self, **words: Any) -> sagas.Store:
-        """The store."""
+        """Open the store."""
         return sagas.open(self.words["store"], self.sagas, program=program(), **words)
 
     def worker(self, folder: pathlib.Path, *more: str, name: str = "w", **other: Any) -> Program:
-        """A worker that is ready; `other` are words that it has otherwise."""
+        """Start a worker and wait until it is ready; `other` replaces options of its command."""
         here = pathlib.Path(__file__).resolve().parent
         environment = os.environ | {
             WORDS: json.dumps(self.words | other),
@@ -123,7 +127,7 @@ class Shop:
         return started
 
     def note(self, task: Any, **more: Any) -> None:
-        """A call, as a line."""
+        """Append a call as a line."""
         told = {
             "key": task.key,
             "step": task.step,
@@ -138,7 +142,7 @@ class Shop:
             notes.write(json.dumps(told | more) + "\n")
 
     def calls(self, key: str | None = None) -> list[dict[str, Any]]:
-        """The calls so far."""
+        """Return the calls up to now."""
         lines = self.notes.read_text().splitlines() if self.notes.exists() else []
         return [told for line in lines if key in (None, (told := json.loads(line))["key"])]
 
@@ -154,7 +158,8 @@ class Shop:
         async def cancel_flight(task: sagas.Task[Trip]) -> None:
             self.note(task, row=task.result.row, of=task.original_idempotency_key)
 
-        @trip.step(needs=[flight], keep=9, undo=1)  # this one is called where the store is
+        # this step is called in the process of the store
+        @trip.step(needs=[flight], keep=9, undo=1)
         def meal(task: sagas.Task[Trip]) -> str:
             self.note(task)
             return "soup"
@@ -248,11 +253,11 @@ class Shop:
         return self.notes.with_name("released")
 
     def release(self) -> None:
-        """Lets the step of `held` go on."""
+        """Let the step of `held` continue."""
         self._released.touch()
 
     def _shaped(self) -> tuple[sagas.Saga, sagas.Saga]:
-        """A saga with a step for each item, and one that includes it."""
+        """Return a saga with a step for each item, and one that includes it."""
         order = sagas.Saga("order")
 
         @order.step(
@@ -293,7 +298,7 @@ class Shop:
                 raise ValueError("behind its row")
             until = time.monotonic() + 30
             while task.key == "good" and len(self.calls("good")) < 2 and time.monotonic() < until:
-                time.sleep(0.01)  # until the message that came twice is begun twice
+                time.sleep(0.01)  # until the duplicated message is started twice
             return "booked"
 
         @book.compensation(timeout=60)
@@ -310,7 +315,7 @@ class Shop:
 
 
 def shop_in(broker: Broker, folder: pathlib.Path, store: str | None = None, **more: Any) -> Shop:
-    """A shop in a folder; its store is a file there, unless it is said."""
+    """Return a shop in a folder; its store is a file there, unless `store` names another one."""
     return Shop(
         broker.url,
         store or str(folder / "store.db"),

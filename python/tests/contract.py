@@ -1,5 +1,6 @@
-"""Each answer of a service in the tests is compared with the OpenAPI document, which the repository
-has as a file."""
+"""Check that each response of a service in the tests conforms to the OpenAPI document of the
+repository.
+"""
 
 from __future__ import annotations
 
@@ -44,7 +45,7 @@ def is_time(text: Any) -> bool:
 
 @functools.cache
 def patterns() -> list[tuple[re.Pattern[str], dict[str, Any]]]:
-    """The paths, those without parameters first."""
+    """Return the paths, those without parameters first."""
     found = []
     for path in sorted(DOCUMENT["paths"], key=lambda path: ("{" in path, path)):
         text = re.sub(r"\\{\w+\\}", "[^/]+", re.escape(path))
@@ -53,7 +54,7 @@ def patterns() -> list[tuple[re.Pattern[str], dict[str, Any]]]:
 
 
 def operation(method: str, path: str) -> dict[str, Any] | None:
-    """The operation of a request; HEAD has that of GET."""
+    """Return the operation of a request; HEAD has that of GET."""
     for pattern, methods in patterns():
         if pattern.fullmatch(path):
             found: dict[str, Any] | None = methods.get({"HEAD": "get"}.get(method, method.lower()))
@@ -62,7 +63,7 @@ def operation(method: str, path: str) -> dict[str, Any] | None:
 
 
 def resolved(told: dict[str, Any]) -> dict[str, Any]:
-    """What a reference leads to."""
+    """Return the object that a reference leads to."""
     while "$ref" in told:
         found: Any = DOCUMENT
         for part in told["$ref"].removeprefix("#/").split("/"):
@@ -73,14 +74,14 @@ def resolved(told: dict[str, Any]) -> dict[str, Any]:
 
 @functools.cache
 def validator(text: str) -> Any:
-    """A validator of a schema of the document."""
+    """Return a validator of a schema of the document."""
     schema = json.loads(text)
     resolver = jsonschema.RefResolver("", DOCUMENT)
     return jsonschema.Draft202012Validator(schema, resolver=resolver, format_checker=FORMATS)
 
 
 def check(answer: httpx.Response) -> None:
-    """Raises `AssertionError` where an answer is not as the document has it."""
+    """Raise `AssertionError` if a response is not as the document describes it."""
     request = answer.request
     raw = request.url.raw_path.decode().partition("?")[0]
     kind = answer.headers.get("content-type", "").partition(";")[0]

@@ -1,7 +1,7 @@
-"""Judges what a round of `kills_features.py` has left: the store, and the notes of the witness.
+"""The verifier of a round of `kills_features.py`: it compares the store with the witness's notes.
 
-Each fault begins with a name from `FAULTS`. The wrong variants of `features_wrong.py` are each
-found by one of them.
+Each fault begins with a name from `FAULTS`. Each wrong variant of `features_wrong.py` must be found
+by one of them.
 """
 
 from __future__ import annotations
@@ -46,15 +46,15 @@ FAULTS = stores.FAULTS | {
     "wrong-compensation": "a function of another definition was called, or of another step",
 }
 LATE = 3.0
-"""Seconds behind a deadline within which the store looks for it, also after a takeover."""
+"""Seconds after a deadline within which the store handles it, also after a takeover."""
 ROOT = re.compile(r"k(\d+)")
 AGAIN = re.compile(r":undo/\d+$")
-"""The end of the key of a saga that undoes a child once more: what is undone it leaves out."""
+"""The end of the key of a saga that undoes a child again; it leaves out what is already undone."""
 
 
 @dataclass
 class FeatureVerdict(Verdict):
-    """As `Verdict`, with the faults of features."""
+    """A `Verdict` with the faults of features."""
 
     def fault(self, name: str, text: object) -> None:
         """Note a fault by its name."""
@@ -64,7 +64,7 @@ class FeatureVerdict(Verdict):
 
 
 class FeatureJudge(stores.Judge):
-    """One round."""
+    """The verifier of one round."""
 
     def __init__(
         self, settings: Settings, notes: pathlib.Path, kills: Counter[str], is_exact: bool
@@ -90,7 +90,7 @@ class FeatureJudge(stores.Judge):
                 self.by_hand[where].append(note["value"])
 
     def verdict_of(self) -> FeatureVerdict:
-        """Look at everything."""
+        """Return the verdict of all checks."""
         if not self.settings.is_served:
             said = stores.records.integrity(pathlib.Path(self.settings.direct))
             if said != "ok":
@@ -132,7 +132,7 @@ class FeatureJudge(stores.Judge):
             if not said.startswith("yes"):
                 self.verdict.fault("audit", f"{shard.name}: {said}")
 
-    # -- what callers and operators were told
+    # -- acknowledgements of callers and operators
 
     def _acknowledged(self) -> None:
         fault, aborts = self.verdict.fault, Counter[str]()
@@ -182,7 +182,7 @@ class FeatureJudge(stores.Judge):
                 self.verdict.fault("handed", f"the end of {note['key']} has {value} of {step}")
 
     def _has_early(self, one: Instance, note: Json) -> bool:
-        """Whether a saga has a report, or never began the step."""
+        """Return whether a saga has a report, or never started the step."""
         step = note["step"]
         if step not in one.steps:
             return False
@@ -200,7 +200,7 @@ class FeatureJudge(stores.Judge):
         return False
 
     def _has_answer(self, one: Instance, note: Json) -> bool:
-        """Whether a saga ended a step as an operator was told."""
+        """Return whether a saga ended a step with the outcome that an operator reported."""
         word, step = note["word"], note["step"]
         if step not in one.steps or word == "retry":
             return step in one.steps
@@ -212,10 +212,10 @@ class FeatureJudge(stores.Judge):
                     return True
         return False
 
-    # -- what functions were handed
+    # -- arguments of functions
 
     def _is_result(self, key: str, step: str, value: Any) -> bool:
-        """Whether a step of a saga has given this, or somebody has reported it."""
+        """Return whether a step of a saga returned this, or a caller has reported it."""
         name = step.rpartition("-")[2]
         if name in CHILDREN and isinstance(value, dict) and "phase" in value:
             below = f"{key}/:{name}"
@@ -249,7 +249,7 @@ class FeatureJudge(stores.Judge):
                         fault("handed", f"{id} was handed {note['result']} of itself")
 
     def _function(self, one: Instance, note: Json) -> None:
-        """Whether the function is that of the saga's own definition."""
+        """Check that the function is that of the saga's own definition."""
         saga, version, name, *undo = note["function"].split(".")
         declared = one.declared.get(note["step"], "")
         is_right = (
@@ -262,7 +262,7 @@ class FeatureJudge(stores.Judge):
             self.verdict.fault("wrong-compensation", f"{one.key} {note['step']}: {note}")
 
     def _given(self, note: Json) -> None:
-        """Whether the input and the item are those of the saga."""
+        """Check that the input and the item are those of the saga."""
         root, given = ROOT.match(note["key"]), note["input"]
         if not root:
             return
@@ -282,7 +282,7 @@ class FeatureJudge(stores.Judge):
     # -- effects
 
     def _effects(self, one: Instance) -> None:
-        """Each effect is in a committed step, or was compensated; nothing else was."""
+        """Check each effect: it is of a committed step, or was compensated, and no other exists."""
         if one.is_undo:
             return
         for step in one.steps:
@@ -304,7 +304,7 @@ class FeatureJudge(stores.Judge):
             self.verdict.figures["undone"] += bool(tokens)
 
     def _failures(self, one: Instance, step: str) -> None:
-        """A failure is one that a function raised, or that an operator reported."""
+        """Check each failure: a function raised it, or an operator reported it."""
         begun = {note["token"] for kind in ("run", "undo") for note in self._of(one, step, kind)}
         for end in one.ends:
             if end.step != step or end.word in ("commit", "undone") or end.token in begun:
@@ -335,7 +335,7 @@ class FeatureJudge(stores.Judge):
             fault("wrong-attempt", said)
 
     def _ordered(self, one: Instance) -> None:
-        """Steps begin behind what they need, and are undone before it."""
+        """Check that steps start after the steps that they need, and are undone before them."""
         first, last = dict[tuple[str, str], int](), dict[tuple[str, str], int]()
         for step in one.steps:
             for kind in ("run", "undo"):
@@ -356,7 +356,7 @@ class FeatureJudge(stores.Judge):
     # -- children
 
     def _child(self, one: Instance, step: str) -> None:
-        """The children of a step agree with its state."""
+        """Check that the children of a step agree with its state."""
         fault, state = self.verdict.fault, one.states.get(step)
         key = f"{one.key}/:{step}"
         pattern = re.compile(re.escape(key) + r"(/\d+)?")
@@ -386,7 +386,7 @@ class FeatureJudge(stores.Judge):
             fault("child", f"{said}, and it was undone")
 
     def _undone(self, one: Instance, said: str) -> None:
-        """Each committed step of a completed child was undone."""
+        """Check that each committed step of a completed child was undone."""
         by = self.found.undoes.get(one.token, [])
         for step in one.steps:
             if (step, "run") not in one.good or one.declared[step] in NOT_UNDONE:
@@ -418,7 +418,7 @@ class FeatureJudge(stores.Judge):
         self.verdict.figures["overdue"] += bool(one.end and one.end["aborted"])
 
     def _limits(self) -> None:
-        """Calls that run at once: in a program, and over all nodes where that is exact."""
+        """Check the calls that ran at once: in a program, and over all nodes if the limit is exact."""
         if "concurrency_by" not in self.options:
             return
         inside: dict[tuple[Any, ...], set[str]] = defaultdict(set)
@@ -491,7 +491,7 @@ class FeatureJudge(stores.Judge):
                 )
 
     def _texts(self) -> Iterator[tuple[str, str]]:
-        """All that the store has."""
+        """Return all stored texts."""
         if self.settings.is_served:
             tables = self.found.rows("SELECT tablename FROM pg_tables WHERE schemaname = 'sagas'")
             for (table,) in tables:
@@ -518,7 +518,7 @@ class FeatureJudge(stores.Judge):
 
 
 def _seconds(key: str) -> int:
-    """The time of a key of a schedule."""
+    """Return the time of a key of a schedule."""
     import datetime
 
     text = key.partition("@")[2].replace("Z", "+00:00")

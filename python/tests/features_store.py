@@ -1,5 +1,6 @@
-"""What the store of a round of `kills_features.py` holds, and its archives, read without the
-package: each saga with its definition, its values and its part of the log.
+"""The store of a round of `kills_features.py` and its archives, read without the package.
+
+It returns each saga with its definition, its values and its part of the log.
 """
 
 from __future__ import annotations
@@ -34,7 +35,7 @@ GOOD = ("commit", "undone")
 
 
 def rows_of(url: str, query: str) -> list[tuple[Any, ...]]:
-    """The rows of a query; or a change, and nothing."""
+    """Return the rows of a query; execute a change."""
     if url.startswith("postgresql:"):
         with psycopg.connect(url, options="-csearch_path=sagas", autocommit=True) as link:
             cursor = link.execute(query)  # type: ignore[arg-type]
@@ -45,7 +46,7 @@ def rows_of(url: str, query: str) -> list[tuple[Any, ...]]:
 
 @dataclass
 class Instance:
-    """A saga. Its key may have been free again, and have another one, too."""
+    """A saga. Its key may have become free again, and be another saga's, too."""
 
     log: LogRows
     number: int
@@ -77,17 +78,17 @@ class Instance:
 
     @property
     def states(self) -> dict[str, str]:
-        """The state of each step at its end."""
+        """Return the state of each step at its end."""
         return dict(zip(self.steps, self.end["states"])) if self.end else {}
 
     @property
     def is_undo(self) -> bool:
-        """Whether it undoes a child."""
+        """Return whether the saga undoes a child."""
         return self.saga.endswith("-undo")
 
     @property
     def told(self) -> str:
-        """The phase that callers are told, before anybody resolves it."""
+        """Return the phase that callers see until an operator resolves the saga."""
         if self.phase == "stuck":
             return "stuck"
         is_planned = self.end and (self.end["answer"] or {}).get("kind") == "plan"
@@ -95,7 +96,7 @@ class Instance:
 
 
 class Values:
-    """Reads stored values."""
+    """A reader of stored values."""
 
     def __init__(self, settings: Settings) -> None:
         self.settings, self.codec = settings, Scramble()
@@ -116,7 +117,7 @@ class Values:
                 }
 
     def read(self, value: Any) -> Any:
-        """A value as it was before it was stored."""
+        """Return a value in its form before the store encoded it."""
         if isinstance(value, dict) and "$blob" in value:
             data = self.blobs.get(value["$blob"])
             if data is None:
@@ -131,7 +132,7 @@ class Values:
 
 
 class FeatureStore:
-    """All sagas of a round, those of its archives, too."""
+    """All sagas of a round, including those of its archives."""
 
     def __init__(self, settings: Settings) -> None:
         self.settings, self.values = settings, Values(settings)
@@ -148,8 +149,10 @@ class FeatureStore:
                 self.undoes.setdefault(token, []).append(one)
 
     def _undone_by(self, one: Instance) -> list[str]:
-        """The tokens of the children that a saga undoes: by its input; or by its key, if that is in
-        an archive and was in the blob store.
+        """Return the tokens of the children that a saga undoes.
+
+        They are in its input. If the input was in the blob store and the saga is in an archive,
+        they are found by its key.
         """
         if isinstance(one.input, dict) and "token" in one.input:
             return [one.input["token"]]
@@ -157,11 +160,11 @@ class FeatureStore:
         return [other.token for other in self.of(child)]
 
     def of(self, key: str) -> list[Instance]:
-        """The sagas that have, or had, a key."""
+        """Return the sagas that have, or had, a key."""
         return self.by_key.get(key, [])
 
     def rows(self, query: str) -> list[tuple[Any, ...]]:
-        """The rows of a query."""
+        """Return the rows of a query."""
         return rows_of(self.settings.direct, query)
 
     def _stored(self) -> Iterator[Instance]:
@@ -210,7 +213,7 @@ class FeatureStore:
 
     @staticmethod
     def _texts(log: LogRows) -> list[tuple[str, list[str]]]:
-        """The name of the saga of each definition, and its steps."""
+        """Return the name of the saga of each definition, and its steps."""
         told = [tomllib.loads(text) for text in log.texts]
         return [(one["name"], [step["name"] for step in one["step"]]) for one in told]
 

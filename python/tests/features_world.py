@@ -2,9 +2,9 @@
 
     python3 tests/features_world.py SETTINGS NODE RELEASE
 
-It prints `open`, then `done` once its callers were told of the ends of all sagas. SIGTERM closes
-it. What it is told it tells the witness. A file `quiet` beside the settings says that nothing is
-struck any more: then the operator also reports what nobody else does.
+It prints `open`, and then `done` once its callers have the results of all sagas. SIGTERM closes it.
+It reports each reply that it gets to the witness. A file `quiet` next to the settings says that the
+strikes are over: then the operator also reports the steps that nothing else reports.
 """
 
 from __future__ import annotations
@@ -50,11 +50,11 @@ EVERY = datetime.timedelta(seconds=1)
 RETENTION = datetime.timedelta(seconds=1.5)
 WORKER_LEASE = 1.0
 LATER = (sagas.TemporaryError, sagas.OwnerUnavailable)
-"""What is asked again."""
+"""The errors after which a call is repeated."""
 
 
 class Node:
-    """One program: its store, and all that it does with it."""
+    """One program: its store, and all its work with it."""
 
     def __init__(self, settings: Settings, name: str, release: int) -> None:
         self.settings, self.name = settings, name
@@ -65,11 +65,11 @@ class Node:
 
     @property
     def is_quiet(self) -> bool:
-        """Whether nothing is struck any more."""
+        """Return whether the strikes are over."""
         return pathlib.Path(self.settings.folder, "quiet").exists()
 
     def _told_before(self) -> set[str]:
-        """The sagas of whose ends this node was told: retention may have freed their keys."""
+        """Return the sagas whose results this node got: retention may have freed their keys."""
         notes = pathlib.Path(self.settings.folder, "notes")
         lines = notes.read_bytes().splitlines() if notes.exists() else []
         over = (note for note in map(json.loads, lines) if note["what"] == "over")
@@ -121,7 +121,7 @@ class Node:
             self.note(what="left", context=id)
 
     async def run(self) -> None:
-        """Do all of it until SIGTERM."""
+        """Do all of the work until SIGTERM."""
         while True:
             try:
                 await self.store.__aenter__()
@@ -155,7 +155,7 @@ class Node:
         asyncio.get_running_loop().remove_signal_handler(signal.SIGTERM)
 
     async def _surely(self, ask: Callable[[], Awaitable[Any]]) -> Any:
-        """Ask until there is an answer."""
+        """Repeat a call until it succeeds."""
         while True:
             try:
                 return await ask()
@@ -177,7 +177,7 @@ class Node:
         print("done", flush=True)
 
     async def _one(self, number: int) -> None:
-        """A saga from its start to its end, each thing told to the witness once it was told."""
+        """Run a saga to its end, and report each reply to the witness once it arrives."""
         key, words = f"k{number}", dict[str, Any]()
         if key in self.told:
             return
@@ -209,7 +209,7 @@ class Node:
             await job
 
     async def _abort(self, key: str) -> None:
-        """Two callers abort a saga at some moment."""
+        """Abort a saga from two callers at a random moment."""
         await asyncio.sleep(random.uniform(0.0, 0.6))
         for _ in range(2):
             with contextlib.suppress(sagas.NoSuchSaga, *LATER):
@@ -217,7 +217,7 @@ class Node:
                     self.note(what="aborted", key=key)
 
     async def _early(self, key: str) -> None:
-        """Report a step, mostly before it begins."""
+        """Report a step, mostly before it starts."""
         value = {"paper": key}
         is_refused = chance(f"{key}/paper") < 0.1
         report: Callable[[], Awaitable[Any]] = lambda: self.store.complete(key, "paper", value)
@@ -237,7 +237,7 @@ class Node:
         self.note(what="scheduled", name="tick")
 
     async def _bulk(self) -> None:
-        """Abort all sagas of a label, and retry all of another."""
+        """Abort all sagas of a label, and retry all sagas of another one."""
         await asyncio.sleep(random.uniform(0.2, 1.5))
         for word in random.sample(("abort", "retry"), 2):
             with contextlib.suppress(*LATER):
@@ -250,7 +250,7 @@ class Node:
                     self.note(what="retried", count=done)
 
     async def _operator(self) -> None:
-        """Somebody who answers at random what needs a person."""
+        """Resolve at random what needs an operator."""
         while True:
             with contextlib.suppress(sagas.SagasError):
                 for one in await self.store.attention():
@@ -261,7 +261,7 @@ class Node:
             await asyncio.sleep(random.uniform(0.05, 0.3))
 
     async def _answer(self, one: sagas.Attention) -> None:
-        """What an operator says of one; each answer is noted before it is given, and after it."""
+        """Resolve one attempt as an operator; note each decision before and after the call."""
         if one.step is None or one.why in ("stuck", "undo_failed"):
             await self.store.resolve(one.key, "somebody saw to it")
             self.note(what="resolved", key=one.key)
@@ -283,8 +283,10 @@ class Node:
         self.note(what="answered", **said)
 
     def _is_refused(self, one: sagas.Attention) -> bool:
-        """Whether operators say that a step failed for good. Of such a step no one asks for another
-        call: that may have its effect before the answer of one who looked earlier.
+        """Return whether operators report that a step failed permanently.
+
+        Operators never ask for another call of such a step. That call may have its effect before
+        the report of an operator who looked earlier.
         """
         number = int("".join(filter(str.isdigit, one.key.partition("/")[0])) or 0)
         is_retried = self.has("label") and number % 3 == 2
@@ -300,17 +302,17 @@ class Node:
                 await self.store.complete(one.key, "paper", value)
 
     async def _worker(self) -> None:
-        """A worker that asks this node for tasks, whichever node drives their sagas."""
+        """Work on the tasks of this node, whichever node drives their sagas."""
         workers = self.store.workers
         while True:
-            with contextlib.suppress(sagas.SagasError):  # another one does it again
+            with contextlib.suppress(sagas.SagasError):  # another worker does it again
                 for one in await workers.claim(EXTERNAL, limit=2, wait=0.2, lease=WORKER_LEASE):
                     report = await asyncio.to_thread(self._done, one.task)
                     await workers.report(one.attempt_id, one.lease, **report)
             await asyncio.sleep(0.01)
 
     def _done(self, task: Any) -> dict[str, Any]:
-        """What the worker says of a task."""
+        """Return a worker's report of a task."""
         try:
             return {"result": self.shop.act_in_thread(task, _external(task), 0.1, 0.1)}
         except ConnectionError as error:
@@ -320,7 +322,7 @@ class Node:
 
 
 def _external(task: Any) -> str:
-    """The name of what a worker does."""
+    """Return the name of the effect of a worker's task."""
     return f"main.0.far{'.undo' if task.is_compensation else ''}"
 
 

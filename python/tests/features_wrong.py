@@ -1,6 +1,6 @@
-"""Wrong variants of the package: each changes one thing in the nodes of a round by `apply`.
+"""Mutants of the package: each changes one thing in the nodes of a round by `apply`.
 
-`finds` is the name of the fault by which the judge has to find it, in a round of these features.
+`finds` is the name of the fault by which the verifier must find it, in a round of these features.
 """
 
 from __future__ import annotations
@@ -33,7 +33,7 @@ from sagas.storage import archive, blob_layer
 
 @dataclasses.dataclass(frozen=True)
 class Variant:
-    """One of them."""
+    """One mutant."""
 
     apply: Callable[[], None]
     finds: str
@@ -41,7 +41,7 @@ class Variant:
     deploy: str
     count: int
     seconds: float
-    """How long it lasts at least."""
+    """Its shortest duration."""
 
 
 VARIANTS: dict[str, Variant] = {}
@@ -50,7 +50,7 @@ VARIANTS: dict[str, Variant] = {}
 def variant(
     finds: str, *options: str, deploy: str = "", count: int = 10, seconds: float = 0.0
 ) -> Callable[[Callable[[], None]], Callable[[], None]]:
-    """Name a function as a variant."""
+    """Register a function as a variant."""
 
     def named(apply: Callable[[], None]) -> Callable[[], None]:
         VARIANTS[apply.__name__] = Variant(apply, finds, list(options), deploy, count, seconds)
@@ -61,7 +61,7 @@ def variant(
 
 @variant("child", "child", count=16)
 def child_undo_skipped() -> None:
-    """A completed child is taken as undone, and no saga undoes it."""
+    """A completed child counts as undone, and no saga undoes it."""
     right = Children._begun
 
     async def begun(self: Children, attempt: Any) -> Any:
@@ -84,13 +84,13 @@ def early_report_dropped() -> None:
 
 @variant("deadline", "deadline", count=6)
 def deadline_ignored() -> None:
-    """Nobody looks at deadlines."""
+    """No program looks at deadlines."""
     setattr(Deadlines, "look", lambda self: None)
 
 
 @variant("limit", "concurrency_by", count=16)
 def limit_not_held() -> None:
-    """Each attempt begins, whatever the limit of its step."""
+    """Each attempt starts, whatever the limit of its step."""
     setattr(Slots, "enter", Slots.come)
 
 
@@ -115,7 +115,7 @@ def blob_swept() -> None:
 
 @variant("plain", "codec", count=4)
 def plain_input_kept() -> None:
-    """Inputs are stored as they are."""
+    """Inputs are stored unencoded."""
     right = Payloads.encode
 
     def encode(self: Payloads, text: str) -> str:
@@ -126,7 +126,7 @@ def plain_input_kept() -> None:
 
 @variant("aborted-twice", count=11)
 def aborted_twice() -> None:
-    """Whoever aborts a saga hears that it was not aborted before."""
+    """Each caller that aborts a saga gets the reply that it was not aborted before."""
     right = Commands.abort
 
     async def abort(self: Commands, *words: Any) -> bool:
@@ -160,14 +160,14 @@ def wrong_result_handed() -> None:
 
 @variant("item", "for_each", count=8)
 def item_of_another() -> None:
-    """A function gets an item that is not its own."""
+    """A function gets the item of another step."""
     right: Any = Task.item
     setattr(Task, "item", property(lambda self: right.fget(self)[::-1]))
 
 
 @variant("schedule", "schedule", count=4, seconds=4.5)
 def schedule_not_started() -> None:
-    """A schedule goes on, and starts nothing."""
+    """A schedule continues, and starts nothing."""
 
     async def start(self: Scheduler, one: Any, key: str) -> None:
         return None
@@ -216,7 +216,7 @@ def compensation_not_called() -> None:
 
 @variant("context", "context", count=4)
 def context_of_another() -> None:
-    """Functions get a context that nobody has entered."""
+    """Functions get a context that was not entered."""
     setattr(Context, "get", lambda self: types.SimpleNamespace(id="another"))
 
 

@@ -1,4 +1,6 @@
-"""Wrong stores over PostgreSQL under strikes at random, which may miss what a store does wrong; test_wrong_stores.py finds each, each time. By hand:
+"""Mutants of the store over PostgreSQL under random strikes, which may miss a mutant.
+
+test_wrong_stores.py finds each of them reliably. By hand:
 
     python3 -m pytest tests/finds_wrong_stores.py
 """
@@ -19,13 +21,13 @@ NAMES = sorted(module.name for module in pkgutil.iter_modules(wrong_stores.__pat
 
 
 def test_there_are_enough() -> None:
-    """At least six."""
+    """At least six are needed."""
     assert len(NAMES) >= 6
 
 
 @pytest.mark.parametrize("name", NAMES)
 def test_a_wrong_store_is_found(postgresql: Server, name: str) -> None:
-    """Under the kind of strike at which it shows, within a few databases."""
+    """The kind of strike that reveals it finds it within a few databases."""
     module = importlib.import_module(f"wrong_stores.{name}")
     if not hasattr(module, "STRIKES"):
         pytest.skip(

@@ -1,6 +1,7 @@
-"""Compares what the witness, the database and the logs say of a store in which all is over.
+"""The verifier: it compares the witness, the database and the logs of a finished store.
 
-Each fault begins with a name from `FAULTS`; the wrong coordinators in `tests/wrong` are each found by one of them.
+Each fault begins with a name from `FAULTS`. Each wrong coordinator in `tests/wrong` must be found
+by one of them.
 """
 
 from __future__ import annotations
@@ -60,19 +61,19 @@ FAULTS = {
 
 @dataclass
 class Verdict:
-    """What the judge found, and some figures."""
+    """The faults that the verifier found, and some figures."""
 
     faults: list[str] = field(default_factory=list)
     figures: Counter[str] = field(default_factory=Counter)
 
     def fault(self, name: str, text: object) -> None:
-        """Notes a fault by its name."""
+        """Note a fault by its name."""
         assert name in FAULTS, name
         self.faults.append(f"{name}: {text}")
 
     @property
     def names(self) -> set[str]:
-        """The names of what was found."""
+        """Return the names of the faults."""
         return {fault.split(":", 1)[0] for fault in self.faults}
 
 
@@ -88,7 +89,7 @@ class Event:
 
 
 def ends_of(log: LogRows, steps: list[str], number: int) -> Iterator[Event]:
-    """The ends of attempts of one saga of a log, with their tokens."""
+    """Return the ends of attempts of one saga of a log, with their tokens."""
     misses: Counter[tuple[int, str]] = Counter()
     kinds = {
         "commit": "run",
@@ -111,11 +112,11 @@ def ends_of(log: LogRows, steps: list[str], number: int) -> Iterator[Event]:
 
 
 KEPT = {"completed": "ended", "recovered": "ended", "stuck": "stuck"}
-"""The phases that a caller is told, and what the store keeps of them."""
+"""The phases that callers see, and what the store keeps of them."""
 
 
 def told(phase: str | None, end: Json) -> tuple[str, list[str]]:
-    """The phase and the states that a caller is told of an end."""
+    """Return the phase and the states that a caller sees at an end."""
     by_plan = (end["answer"] or {}).get("kind") == "plan"
     words = ["undo_failed" if state == "fixed" else state for state in end["states"]]
     return "stuck" if phase == "stuck" else "recovered" if by_plan else "completed", words
@@ -137,11 +138,11 @@ class Judge:
             self.effects[note["key"], note["step"], note["kind"]][note["token"]].append(note)
 
     def of(self, what: str) -> Iterable[Json]:
-        """The witness's notes of a kind."""
+        """Return the witness's notes of a kind."""
         return (note for note in self.notes if note["what"] == what)
 
     def judge(self, count: int) -> Verdict:
-        """Looks at everything; `count` sagas were asked for."""
+        """Check everything; `count` sagas were requested."""
         fault = self.verdict.fault
         if (
             not str(self.store).startswith("postgresql:")
@@ -160,7 +161,7 @@ class Judge:
         self._figures()
         return self.verdict
 
-    # -- the logs ------------------------------------------------------------------------------------------
+    # -- the logs
 
     def _log(self, log: LogRows) -> None:
         fault, at = self.verdict.fault, 0
@@ -215,7 +216,7 @@ class Judge:
             if (said := audit(folder / "log", paths)) != wanted:
                 self.verdict.fault("audit", f"log {log.log}: {said}, and not {wanted}")
 
-    # -- what the program was told -------------------------------------------------------------------------
+    # -- replies to the program
 
     def _told(self) -> None:
         fault, sagas = self.verdict.fault, self.records.sagas
@@ -246,7 +247,7 @@ class Judge:
             if value != expected(note["key"], step):
                 self.verdict.fault("handed", f"the end of {note['key']} has {value} of {step}")
 
-    # -- what functions were handed ------------------------------------------------------------------------
+    # -- arguments of functions
 
     def _tokens(self) -> None:
         fault = self.verdict.fault
@@ -283,7 +284,7 @@ class Judge:
                     f"the compensation of {key} {note['step']} was handed {note['result']}",
                 )
 
-    # -- saga by saga --------------------------------------------------------------------------------------
+    # -- saga by saga
 
     def _saga(self, row: SagaRow) -> None:
         fault, log = self.verdict.fault, self.records.logs[row.log]
@@ -367,5 +368,5 @@ class Judge:
 
 
 def judge(store: pathlib.Path | str, notes: pathlib.Path, count: int) -> Verdict:
-    """Judges a store in which all is over, by its file and the witness's notes."""
+    """Judge a finished store by its file and the witness's notes."""
     return Judge(store, notes).judge(count)

@@ -1,14 +1,16 @@
-"""Kills at random moments, and a judgement of each store when all in it is over.
+"""Kill programs at random moments, and judge each store when all its sagas are over.
 
-    python3 tests/kills.py [--rounds N] [--kinds program,child,both,closing,disk] [--sagas N] [--seed S] [--jobs N]
+    python3 tests/kills.py [--rounds N] [--kinds program,child,both,closing,disk] [--sagas N]
+        [--seed S] [--jobs N]
 
-A round is one store: the program of `world.py` is started on it again and again until all its sagas are over. Meanwhile
+A round is one store: the program of `world.py` is started on it again and again until all its sagas
+are over. The kinds are:
 
-- `program` kills it with -9, also while it starts;
-- `child` kills the deciding child, again and again;
-- `both` does either;
-- `closing` asks it to close, and mostly kills it within that;
-- `disk` lets its files grow no further for a while, and mostly kills it then.
+- `program` kills it with SIGKILL, also while it starts.
+- `child` kills the engine process, again and again.
+- `both` does either.
+- `closing` asks it to close, and mostly kills it before it has.
+- `disk` stops its files from growing for a while, and mostly kills it then.
 
 Every process that is signalled here was started here, and is named by its number.
 """
@@ -40,7 +42,7 @@ KINDS = ("program", "child", "both", "closing", "disk")
 
 
 def children(pid: int) -> list[int]:
-    """The children of a process, of all its threads."""
+    """Return the children of a process, of all its threads."""
     found: list[int] = []
     try:
         for task in os.listdir(f"/proc/{pid}/task"):
@@ -52,14 +54,14 @@ def children(pid: int) -> list[int]:
 
 @dataclass
 class Round:
-    """What became of one store."""
+    """The result of one store."""
 
     kind: str
     seed: int
     verdict: Verdict
     kills: Counter[str]
     folder: pathlib.Path | None = None
-    """Where its files are, if something was found."""
+    """The folder of its files, if there are faults."""
 
     @property
     def found(self) -> list[str]:
@@ -68,7 +70,7 @@ class Round:
 
 @dataclass
 class Striker:
-    """Starts the program on a store, and strikes it, until all is over."""
+    """Start the program on a store, and strike it, until all is over."""
 
     folder: pathlib.Path
     kind: str
@@ -108,7 +110,7 @@ class Striker:
         return sum(self.kills.values())
 
     def until_over(self) -> str | None:
-        """Runs until all is over; says what went wrong with the program itself, if anything."""
+        """Run until all is over; return the problems of the program itself."""
         with open(self.folder / "errors", "ab") as errors:
             while not self.is_late:
                 process = subprocess.Popen(
@@ -147,7 +149,7 @@ class Striker:
         getattr(self, "_" + kind)(process)
 
     def _wait(self, process: subprocess.Popen[bytes], seconds: float) -> bool:
-        """Waits a moment; whether the program still runs."""
+        """Wait a moment; return whether the program still runs."""
         try:
             process.wait(seconds)
         except subprocess.TimeoutExpired:
@@ -183,7 +185,11 @@ class Striker:
                 self._kill(process, "while it closes")
 
     def _written(self) -> int:
-        """Where the next commit is written in the WAL, which is longer: SQLite's index of it says how many pages stand there (its wal-index header, `mxFrame`)."""
+        """Return where the next commit is written in the WAL.
+
+        The WAL itself is longer: SQLite's index of it has the number of valid pages (its wal-index
+        header, `mxFrame`).
+        """
         with open(self.folder / "store.db-shm", "rb") as index:
             (pages,) = struct.unpack("=I", index.read(20)[16:])
         return 32 + pages * (4096 + 24)
@@ -209,7 +215,7 @@ class Striker:
 
 
 def run_once(folder: pathlib.Path, sagas: int) -> int:
-    """Runs the program on a store that nothing strikes; gives its status."""
+    """Run the program on a store without strikes; return its status."""
     striker = Striker(folder, "program", random.Random(0), sagas, 16, 60)
     with witness_at(folder / "socket", folder / "notes"):
         return subprocess.run(
@@ -224,7 +230,7 @@ def run_once(folder: pathlib.Path, sagas: int) -> int:
 def play(
     kind: str, seed: int, sagas: int, *, most: float = 90, wrong: str | None = None, quiet: int = 12
 ) -> Round:
-    """One round: a store, its kills, its judgement. Its files stay where something was found."""
+    """Play one round: a store, its kills and the verdict. The files stay if there are faults."""
     draw = random.Random(seed)
     folder = pathlib.Path(tempfile.mkdtemp(prefix="sagas-kills-"))
     concurrency, small = draw.choice((1, 4, 16, 64)), wrong is None and draw.random() < 0.5
@@ -244,7 +250,7 @@ def play(
 
 
 def main() -> int:
-    """The command."""
+    """Run the command."""
     parser = argparse.ArgumentParser(
         description=__doc__, formatter_class=argparse.RawDescriptionHelpFormatter
     )

@@ -1,6 +1,8 @@
-"""The objects of OpenAPI 3.1, as the tables of the specification have them: which fields each may
-and must have, and of which type. Debian's package `openapi-specification` has the text, and no JSON
-Schema of 3.1."""
+"""The objects of OpenAPI 3.1, as the tables of the specification define them.
+
+They say which fields each object may and must have, and of which type. Debian's package
+`openapi-specification` has the text, and no JSON Schema of 3.1.
+"""
 
 from __future__ import annotations
 
@@ -51,8 +53,9 @@ class Of:
 
 @dataclasses.dataclass
 class Rules:
-    """The fields of an object by name, those that it must have, each perhaps only for one `type`,
-    and the types of the others by a pattern."""
+    """The fields of an object by name, its required fields, and the types of other fields by
+    pattern. A field may be required only for one `type`.
+    """
 
     fields: dict[str, Of] = dataclasses.field(default_factory=dict)
     required: dict[str, str] = dataclasses.field(default_factory=dict)
@@ -60,7 +63,7 @@ class Rules:
 
 
 def type_of(cell: str) -> Of:
-    """The type that a cell of a table has."""
+    """Return the type in a cell of a table."""
     words = [found for found in WORD.finditer(cell)]
 
     def one() -> Of:
@@ -90,19 +93,20 @@ def type_of(cell: str) -> Of:
 
 
 def read() -> dict[str, Rules]:
-    """The rules of all objects."""
+    """Return the rules of all objects."""
     found = {name: rules_of(text) for name, text in OBJECT.findall(TEXT.read_text())}
     header = Rules(dict(found["Parameter"].fields), {}, dict(found["Parameter"].patterns))
     for name in ("name", "in"):
         del header.fields[name]
+    # "follows the structure of the Parameter Object", except for these
     return {
         **found,
         "Header": header,
-    }  # "follows the structure of the Parameter Object", but for these
+    }
 
 
 def rules_of(text: str) -> Rules:
-    """Those of one object."""
+    """Return the rules of one object."""
     rules = Rules()
     for row in ROW.findall(text):
         cells = [cell.strip() for cell in re.split(r"(?<!\\)\|", row)]
@@ -119,13 +123,13 @@ def rules_of(text: str) -> Rules:
 
 
 class Checker:
-    """Compares a document with the rules."""
+    """Compare a document with the rules."""
 
     def __init__(self) -> None:
         self.rules, self.seen = read(), dict[str, int]()
 
     def faults(self, value: Any, of: Of, where: str) -> Iterator[str]:
-        """What is wrong with a value."""
+        """Return the errors of a value."""
         self.seen[of.word] = self.seen.get(of.word, 0) + 1
         if of.word == "or":
             is_reference = isinstance(value, dict) and "$ref" in value
@@ -168,7 +172,7 @@ class Checker:
 
 
 def schema_faults(schema: Any, where: str) -> Iterator[str]:
-    """By the meta-schema of JSON Schema 2020-12; no keyword is one that it does not have."""
+    """Return the errors by the meta-schema of JSON Schema 2020-12, which must define each keyword."""
     try:
         jsonschema.Draft202012Validator.check_schema(schema)
     except jsonschema.SchemaError as error:
@@ -177,7 +181,7 @@ def schema_faults(schema: Any, where: str) -> Iterator[str]:
 
 
 def keyword_faults(schema: Any, where: str) -> Iterator[str]:
-    """Keywords that JSON Schema does not have, in a schema and those within it."""
+    """Return keywords that JSON Schema does not define, in a schema and those within it."""
     known = ANNOTATIONS | {*jsonschema.Draft202012Validator.VALIDATORS}
     for name in schema if isinstance(schema, dict) else ():
         if name not in known and not name.startswith("x-"):
@@ -187,7 +191,7 @@ def keyword_faults(schema: Any, where: str) -> Iterator[str]:
 
 
 def subschemas(schema: Any) -> Iterator[tuple[Any, str]]:
-    """The schemas within one, with their places."""
+    """Return the schemas within one, with their locations."""
     for name, value in schema.items() if isinstance(schema, dict) else ():
         if name in ("properties", "$defs", "patternProperties", "dependentSchemas"):
             yield from ((one, f"{name}/{key}") for key, one in value.items())

@@ -33,7 +33,7 @@ python/tests/package_map.py` writes this page from the modules' docstrings.*
 
 
 def lines(layer: str) -> list[str]:
-    """A line for each module of a layer; `""` is the package's own folder."""
+    """Return a line for each module of a layer; `""` is the package's own folder."""
     found = []
     for path in sorted(SRC.glob("*.py") if not layer else (SRC / layer).rglob("*.py")):
         name = path.relative_to(SRC).as_posix()
@@ -44,7 +44,7 @@ def lines(layer: str) -> list[str]:
 
 
 def page(name: str) -> str:
-    """The text of a page."""
+    """Return the text of a page."""
     title, layers = PAGES[name]
     parts = [HEAD.format(title)]
     for layer in layers:

@@ -1,4 +1,4 @@
-"""What a store holds, read without the package."""
+"""The content of a store, read without the package."""
 
 from __future__ import annotations
 
@@ -56,7 +56,7 @@ class LogRows:
         return [json.loads(line) for line in self.lines]
 
     def steps(self, place: int) -> list[str]:
-        """The names of the steps of a definition."""
+        """Return the names of the steps of a definition."""
         return [step["name"] for step in tomllib.loads(self.texts[place])["step"]]
 
 
@@ -90,7 +90,7 @@ def _server(store: pathlib.Path | str) -> Iterator[Callable[[str], list[Any]]]:
 
 
 def read(store: pathlib.Path | str) -> Records:
-    """Reads a store, beside a running program too."""
+    """Read a store, even while a program runs on it."""
     rows = contextlib.contextmanager(_server if str(store).startswith("postgresql:") else _lite)
     with rows(store) as ask:
         logs = {
@@ -122,7 +122,7 @@ def read(store: pathlib.Path | str) -> Records:
 
 
 def integrity(store: pathlib.Path) -> str:
-    """What SQLite says of the file."""
+    """Return SQLite's integrity report on the file."""
     db = sqlite3.connect(store)
     try:
         return str(db.execute("PRAGMA integrity_check").fetchone()[0])

@@ -1,4 +1,7 @@
-"""The functions of the kill tests' workers in other languages: each call is a line at a socket, and is told to the witness as a Python worker's is."""
+"""The functions of the kill tests' workers in other languages.
+
+Each call is a line at a socket, and is reported to the witness as a Python worker's is.
+"""
 
 from __future__ import annotations
 
@@ -38,7 +41,7 @@ class _Actor(socketserver.ThreadingUnixStreamServer):
         super().__init__(address, _Handler)
 
     def act(self, told: dict[str, Any]) -> dict[str, Any]:
-        """One call; gives how it ended."""
+        """Make one call; return how it ended."""
         kind = "undo" if told.pop("undo") else "run"
         failing, unknown = RATES[told["saga"], told["step"], kind]
         try:
@@ -56,7 +59,7 @@ class _Actor(socketserver.ThreadingUnixStreamServer):
 def acting(
     address: pathlib.Path, socket: pathlib.Path, store: str, definitions: pathlib.Path
 ) -> Iterator[None]:
-    """Functions at an address, until the block ends."""
+    """Serve functions at an address until the block ends."""
     server = _Actor(str(address), Bare(Witness(str(socket)), Eye(store), definitions))
     thread = threading.Thread(target=server.serve_forever, args=(0.05,), daemon=True)
     thread.start()
@@ -71,7 +74,9 @@ def acting(
 def worker(
     command: list[str], url: str, address: pathlib.Path, lease: float, errors: BinaryIO
 ) -> subprocess.Popen[bytes]:
-    """A worker in another language: the driver of the contract suite, whose functions are at the address."""
+    """Start a worker in another language: the driver of the contract suite, whose functions are at
+    the address.
+    """
     process = subprocess.Popen(
         command, env=environment(), stdin=subprocess.PIPE, stdout=subprocess.DEVNULL, stderr=errors
     )

@@ -1,11 +1,15 @@
-"""Kills of the service and of its workers at random moments, and the package's judge over the store when all in it is over.
+"""Kill the service and its workers at random moments, and judge the store at the end.
 
-    python3 tests/service_kills.py [--rounds N] [--store sqlite|postgresql] [--sagas N] [--workers N|mixed] [--callers N] [--strikes N] [--seed S]
+    python3 tests/service_kills.py [--rounds N] [--store sqlite|postgresql] [--sagas N]
+        [--workers N|mixed] [--callers N] [--strikes N] [--seed S]
 
-A round is one store. Callers start sagas, wait for their ends and approve; workers do the steps. Meanwhile the service is killed with -9 or asked to
-end, workers are killed, or stand still past their leases and go on; reports are sent twice. Some sagas are aborted as a step of theirs is unknown. Over PostgreSQL there are two services, and callers and workers
-are half at one and half at the other; one of them may stand still past its lease, too. With `--workers mixed` one third of ten workers is in Python, one in Node,
-one in Go. Every process that is signalled here was started here.
+A round is one store. Callers start sagas, wait for their ends and approve; workers do the steps.
+Concurrently the service is killed with SIGKILL or asked to end, workers are killed, or are stopped
+past their leases and continued; reports are sent twice. Some sagas are aborted as a step of theirs
+is unknown. Over PostgreSQL there are two services, and half of the callers and workers use each;
+one service may be stopped past its lease, too. With `--workers mixed` one third of ten workers is
+in Python, one in Node, one in Go. The package's verifier judges the store. Every process that is
+signalled here was started here, and is named by its number.
 """
 
 from __future__ import annotations
@@ -45,11 +49,13 @@ from world import Eye, expected
 NAMES = ("chain", "trip", "must", "late")
 LEASE = 1.0
 NODE_LEASE = 2.0
-"""Seconds, of a task and of a service over PostgreSQL."""
+"""Seconds: the leases of a task and of a service over PostgreSQL."""
 
 
 class Callers:
-    """Threads that start sagas, and see them to their ends, whatever becomes of the services; each asks now one and now another."""
+    """Threads that start sagas, and wait for their ends despite failing services; each call goes to
+    one service or another.
+    """
 
     def __init__(
         self, services: list[Served], socket: pathlib.Path, sagas: int, count: int, most: float
@@ -74,7 +80,7 @@ class Callers:
         return any(thread.is_alive() for thread in self.threads)
 
     def end(self) -> None:
-        """Waits for all; then nobody is asked any more."""
+        """Wait for all threads; then no request is sent any more."""
         for thread in self.threads:
             thread.join()
         self.over.set()
@@ -83,7 +89,7 @@ class Callers:
     def _ask(
         self, clients: list[httpx.Client], ask: Callable[[httpx.Client], httpx.Response]
     ) -> httpx.Response:
-        """Asks until it is answered, one service after the other."""
+        """Repeat a request until a service replies, one service after the other."""
         while time.monotonic() < self.until:
             clients.append(clients.pop(0))
             with contextlib.suppress(httpx.HTTPError):
@@ -107,7 +113,7 @@ class Callers:
                             return
                         number = self.left.pop(0)
                     self._one(clients, number)
-        except Exception as error:  # told at the end
+        except Exception as error:  # reported at the end
             self.faults.append(f"a caller: {error!r}")
 
     def _one(self, clients: list[httpx.Client], number: int) -> None:
@@ -139,7 +145,10 @@ class Callers:
         note(what="over", key=key, there=self.eye.phase(key)[1], **told)
 
     def _is_unknown(self, clients: list[httpx.Client], key: str) -> bool:
-        """Waits until an outcome is unknown, and whether one is before the saga's end: a worker may have had its task from the service that does not drive it."""
+        """Wait for an unknown outcome, and return whether one occurs before the saga's end.
+
+        A worker may have had its task from the service that does not drive it.
+        """
         while True:
             saga = self._ask(
                 clients, lambda client: client.get(f"/v1/sagas/{key}/wait?seconds=0")
@@ -168,7 +177,7 @@ class Callers:
 
 
 class Round:
-    """One store, its services, workers and callers, and what strikes them."""
+    """One store, its services, workers and callers, and their strikes."""
 
     def __init__(
         self,
@@ -232,7 +241,7 @@ class Round:
             )
 
     def play(self) -> Verdict:
-        """Until all is over; then it is judged."""
+        """Run until all is over; then judge it."""
         with contextlib.ExitStack() as stack:
             stack.enter_context(witness_at(self.folder / "socket", self.folder / "notes"))
             for service in self.services:
@@ -323,7 +332,7 @@ def play(
     server: Server | None = None,
     others: Sequence[list[str]] = (),
 ) -> tuple[Verdict, Counter[str], pathlib.Path | None]:
-    """One round; its files stay where something was found."""
+    """Play one round; its files stay if there are faults."""
     folder = pathlib.Path(tempfile.mkdtemp(prefix="sagas-service-"))
     url = server.create() if server else None
     one = Round(folder, random.Random(seed), sagas, workers, callers, strikes, most, url, others)
@@ -337,7 +346,7 @@ def play(
 
 
 def main() -> int:
-    """The command."""
+    """Run the command."""
     parser = argparse.ArgumentParser(
         description=__doc__, formatter_class=argparse.RawDescriptionHelpFormatter
     )

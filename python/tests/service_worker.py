@@ -1,4 +1,6 @@
-"""A worker of the kill tests: each call is told to a witness outside, as those of `world.py` are.
+"""A worker of the kill tests.
+
+Each call is reported to a witness outside, as those of `world.py` are.
 
     python3 tests/service_worker.py URL STORE SOCKET DEFINITIONS [--lease SECONDS] [--concurrency N]
 """
@@ -52,7 +54,7 @@ RATES: dict[tuple[str, str, str], tuple[float, float]] = {
     ("late", "order", "undo"): (0.2, 0.0),
     ("late", "go", "run"): (0.3, 0.0),
 }
-"""How often a call fails, and how often its caller does not hear of it."""
+"""The chance that a call fails, and the chance that its outcome is unknown to its caller."""
 
 
 class Bare(World):
@@ -64,7 +66,7 @@ class Bare(World):
 
 
 class Twice(sagas.Worker):
-    """It sends some reports twice; the second one is found to be the same."""
+    """A client that sends some reports twice; the second one must be found to be the same."""
 
     def __init__(self, *words: Any, **more: Any) -> None:
         super().__init__(*words, **more)
@@ -83,13 +85,14 @@ class Twice(sagas.Worker):
                 assert again and again["repeated"], (path, body, again)
             except (
                 ServiceRefused
-            ) as refusal:  # of an unknown outcome a service knows no more when it has started again, and its lease is none
+                # a service that was restarted has forgotten an unknown outcome and its lease
+            ) as refusal:
                 assert refusal.status == 409 and path.endswith("/unknown"), (path, body, refusal)
         return told
 
 
 def texts() -> dict[str, str]:
-    """The definitions of `world.py`, and what goes with them."""
+    """Return the definitions of `world.py`, with their service files."""
     world = World.__new__(World)
     found = {
         f"{saga.name}.toml": saga.toml()
@@ -110,7 +113,7 @@ def texts() -> dict[str, str]:
 
 
 def main() -> None:
-    """Works until it is killed."""
+    """Work until it is killed."""
     parser = argparse.ArgumentParser(description=__doc__)
     for name in ("url", "store", "socket", "definitions"):
         parser.add_argument(name)

@@ -1,4 +1,7 @@
-"""A real service for tests: `sagas serve` as a process of its own, on an address of its own, which it keeps when it is started again."""
+"""A real service for tests: `sagas serve` as its own process.
+
+It has its own address, which it keeps when it is started again.
+"""
 
 from __future__ import annotations
 
@@ -88,7 +91,10 @@ DEFINITIONS = {
 
 
 def host() -> str:
-    """An address of the loopback that no other test has: so nobody takes its port while the service is away."""
+    """Return an address of the loopback that no other test has.
+
+    No process takes its port while the service is down.
+    """
     pid, count = os.getpid(), next(COUNT)
     return f"127.{1 + pid // 250 % 250}.{1 + pid % 250}.{1 + count % 250}"
 
@@ -137,7 +143,7 @@ class Served:
         ]
 
     def start(self) -> None:
-        """Starts it, and waits until it answers."""
+        """Start it, and wait until it answers."""
         with open(self.errors, "ab") as errors:
             self.process = subprocess.Popen(
                 self.command(),
@@ -154,13 +160,13 @@ class Served:
         self.address = line.split("http://")[1].strip().rstrip("/")
 
     def kill(self) -> None:
-        """Ends it at once."""
+        """Kill it."""
         if self.process:
             self.process.kill()
             self._ended()
 
     def stop(self) -> int:
-        """Asks it to end, and waits; gives its status."""
+        """Ask it to end, and wait; return its status."""
         process = self.process
         if process is None:
             return 0
@@ -179,9 +185,10 @@ class Served:
         self.process = None
 
     def client(self, token: str | None = None, **words: Any) -> httpx.Client:
-        """A client of it; it does not follow anybody's proxy."""
+        """Return a client of it, which follows no proxy settings."""
         headers = {"Authorization": f"Bearer {token}"} if token else {}
-        hooks = {"response": [contract.check]}  # each answer is as the OpenAPI document has it
+        # each response is as the OpenAPI document defines it
+        hooks = {"response": [contract.check]}
         words = {"verify": False} | words  # it speaks no TLS, so no certificates need be read
         return httpx.Client(
             base_url=self.url,
@@ -193,7 +200,7 @@ class Served:
         )
 
     def told(self) -> str:
-        """What it has logged."""
+        """Return its log output."""
         return self.errors.read_text(errors="replace")
 
 
@@ -201,7 +208,7 @@ class Served:
 def served(
     folder: pathlib.Path, files: dict[str, str] = DEFINITIONS, *words: str, store: str | None = None
 ) -> Iterator[Served]:
-    """A service until the block ends."""
+    """Run a service until the block ends."""
     one = Served(folder, files, *words, store=store)
     one.start()
     try:
@@ -211,18 +218,20 @@ def served(
 
 
 def command(*words: str) -> subprocess.CompletedProcess[str]:
-    """Run `sagas WORDS` in this process; return its status and what it prints."""
+    """Return a function that runs `sagas ARGUMENTS` in this process, and returns its status and
+    output.
+    """
     out, errors = io.StringIO(), io.StringIO()
     with contextlib.redirect_stdout(out), contextlib.redirect_stderr(errors):
         try:
             status = main([*words])
-        except SystemExit as ended:  # as `argparse` refuses words
+        except SystemExit as ended:  # as `argparse` refuses arguments
             status = int(str(ended.code))
     return subprocess.CompletedProcess(words, status, out.getvalue(), errors.getvalue())
 
 
 def token(folder: pathlib.Path, name: str, *roles: str) -> str:
-    """A token of the file `folder/tokens.toml`."""
+    """Return a token of the file `folder/tokens.toml`."""
     done = command("token", str(folder / "tokens.toml"), name, *roles)
     done.check_returncode()
     return done.stdout.strip()
@@ -231,7 +240,7 @@ def token(folder: pathlib.Path, name: str, *roles: str) -> str:
 def take(
     client: httpx.Client, *steps: str, wait: float = 30, lease: float = 600, most: int = 1
 ) -> list[dict[str, Any]]:
-    """Takes tasks."""
+    """Claim tasks."""
     answer = client.post(
         "/v1/tasks/claim",
         json={"steps": steps, "wait": wait, "lease": lease, "limit": most, "worker": "w"},
@@ -242,7 +251,7 @@ def take(
 
 
 def error_of(answer: httpx.Response) -> str:
-    """The name of an answer's problem."""
+    """Return the name of a response's problem."""
     told: dict[str, Any] = answer.json()
     return str(told["type"]).rpartition(":")[2]
 
@@ -250,19 +259,19 @@ def error_of(answer: httpx.Response) -> str:
 def report(
     client: httpx.Client, task: dict[str, Any], word: str = "complete", **more: Any
 ) -> httpx.Response:
-    """Reports a task."""
+    """Report a task."""
     return client.post(
         f"/v1/tasks/{task['attempt_id']}/{word}", json={"lease": task["lease"], **more}
     )
 
 
 def start(client: httpx.Client, definition: str, key: str, given: Any = None) -> httpx.Response:
-    """Starts a saga."""
+    """Start a saga."""
     return client.post("/v1/sagas", json={"definition": definition, "key": key, "input": given})
 
 
 def all_done(client: httpx.Client, *steps: str, failing: Sequence[str] = ()) -> None:
-    """Does these tasks, one after the other, each once it is there."""
+    """Do these tasks, one after the other, each once it exists."""
     for step in steps:
         (task,) = take(client, step)
         answer = (
@@ -274,7 +283,7 @@ def all_done(client: httpx.Client, *steps: str, failing: Sequence[str] = ()) -> 
 
 
 def stuck(client: httpx.Client, key: str) -> None:
-    """A saga that is stuck."""
+    """Return a saga that is stuck."""
     assert start(client, "licence", key).status_code == 201
     all_done(client, "licence/server", "licence/licence", failing=["licence/licence"])
     assert client.get(f"/v1/sagas/{key}/wait").json()["phase"] == "stuck"

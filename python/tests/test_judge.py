@@ -1,4 +1,7 @@
-"""The judge has teeth: a good store is spoilt in each way that has a name, and each is found by that name."""
+"""Mutation tests of the verifier: a good store is damaged in each way that has a fault's name.
+
+The verifier must find each by that name.
+"""
 
 from __future__ import annotations
 
@@ -19,7 +22,7 @@ COUNT = 24
 
 
 class Copy:
-    """A copy of a good store, to be spoilt."""
+    """A copy of a good store, to be damaged."""
 
     def __init__(self, folder: pathlib.Path) -> None:
         self.store, self.path = folder / "store.db", folder / "notes"
@@ -27,11 +30,11 @@ class Copy:
         self.db = sqlite3.connect(self.store, isolation_level=None)
 
     def write(self, *words: Any) -> None:
-        """A change of the database, which has to change something."""
+        """Change the database, which must change something."""
         assert self.db.execute(*words).rowcount > 0, words
 
     def first(self, **wanted: Any) -> Json:
-        """The first note that has these values."""
+        """Return the first note that has these values."""
         return next(
             note
             for note in self.notes
@@ -39,7 +42,7 @@ class Copy:
         )
 
     def names(self) -> set[str]:
-        """What the judge finds."""
+        """Return the faults that the verifier finds."""
         self.db.close()
         self.path.write_text("".join(json.dumps(note) + "\n" for note in self.notes))
         return judge(self.store, self.path, COUNT).names
@@ -97,7 +100,7 @@ def change_a_token(copy: Copy) -> None:
 
 
 def lose_an_effect(copy: Copy) -> None:
-    """Each note of it: a function that was interrupted is called again under its token."""
+    """Remove each note of it: a function that was interrupted is called again under its token."""
     token = copy.first(what="effect")["token"]
     copy.notes = [note for note in copy.notes if note["what"] != "effect" or note["token"] != token]
 
@@ -178,14 +181,14 @@ SPOILT: list[tuple[Callable[[Copy], None], str]] = [
 
 @pytest.fixture(scope="module")
 def good(tmp_path_factory: pytest.TempPathFactory) -> pathlib.Path:
-    """A store that nothing has struck, and its witness's notes."""
+    """Return a store without strikes, and its witness's notes."""
     folder = tmp_path_factory.mktemp("good")
     assert run_once(folder, COUNT) == 0
     return folder
 
 
 def test_a_good_store_is_good(good: pathlib.Path) -> None:
-    """Nothing is found where nothing is wrong."""
+    """A good store has no fault."""
     verdict = judge(good / "store.db", good / "notes", COUNT)
     assert not verdict.faults
     assert verdict.figures["committed"] > COUNT and verdict.figures["undone"] > 0
@@ -195,7 +198,7 @@ def test_a_good_store_is_good(good: pathlib.Path) -> None:
 def test_what_is_spoilt_is_found(
     good: pathlib.Path, tmp_path: pathlib.Path, spoil: Callable[[Copy], None], name: str
 ) -> None:
-    """Each fault by its name."""
+    """The verifier finds each fault by its name."""
     for path in good.iterdir():
         if path.name.startswith("store.db") or path.name == "notes":
             shutil.copy(path, tmp_path)
@@ -205,5 +208,5 @@ def test_what_is_spoilt_is_found(
 
 
 def test_each_name_is_tried() -> None:
-    """No fault has a name that nothing shows; a broken file is SQLite's own word."""
+    """Each fault has a damage that shows it; for a broken file SQLite's own word is used."""
     assert {name for _, name in SPOILT} | {"broken-file"} == set(FAULTS)

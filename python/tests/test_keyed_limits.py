@@ -37,7 +37,10 @@ class Order:
 
 
 class Inside:
-    """Who is in a function, by account, and how many at once. The first ones wait until there are as many as there may be."""
+    """The calls inside a function, by account, and the most at once.
+
+    The first ones wait until the allowed number is inside.
+    """
 
     def __init__(self, accounts: int) -> None:
         self.accounts, self.until = accounts, time.monotonic() + 60
@@ -47,7 +50,7 @@ class Inside:
         self.lock = threading.Lock()
 
     def is_first(self) -> bool:
-        """Whether others are to come in before anybody leaves."""
+        """Return whether other calls are expected before one leaves."""
         return self.all < self.accounts and time.monotonic() < self.until
 
     @contextlib.contextmanager
@@ -64,7 +67,7 @@ class Inside:
 
 
 def bank(inside: Inside, in_thread: bool, **limits: Any) -> sagas.Saga:
-    """A step that is called once at a time for each account."""
+    """Return a saga with a step that is called once at a time for each account."""
     saga = sagas.Saga("bank")
 
     def wait(task: sagas.Task[Order]) -> None:
@@ -91,7 +94,9 @@ def bank(inside: Inside, in_thread: bool, **limits: Any) -> sagas.Saga:
     indirect=["place"],
 )
 def test_a_limit_holds_for_each_key_by_itself(place: str, limit: str, in_thread: bool) -> None:
-    """Calls of one account go one behind the other, and those of others beside them; nothing of a key is kept behind it."""
+    """Calls of one account run one after the other, and those of others in parallel; no state of a
+    key is kept after it.
+    """
     inside = Inside(3)
     saga = bank(inside, in_thread, **{limit: 1})
 
@@ -119,7 +124,11 @@ def rows_of(url: str) -> list[tuple[str, str | None]]:
 
 
 def test_rows_of_keys_are_those_of_calls(url: str) -> None:
-    """A key of any length has a row for each call, under a digest, and none behind it. What another node had that is gone, and what an older release kept, goes at the opening; a limit of the step itself keeps its rows."""
+    """A key of any length has a row for each call, under a digest, and none after it.
+
+    The opening deletes the rows of a dead node and of an older release; a limit of the step itself
+    keeps its rows.
+    """
     keys = [1, "IBAN DE89", "x" * 9000, ["\ud800", None]]
     inside, opened = Counter[str](), asyncio.Event()
     saga, plain = sagas.Saga("bank"), sagas.Saga("plain")
@@ -161,7 +170,7 @@ def test_rows_of_keys_are_those_of_calls(url: str) -> None:
 
 
 def test_a_place_of_a_node_that_is_gone_is_taken(url: str) -> None:
-    """Its rows do not hold up a key."""
+    """Its rows do not block a key."""
     inside = Inside(1)
     saga = bank(inside, False, fleet_concurrency=2)
 
@@ -262,7 +271,10 @@ def test_what_is_no_limit_with_a_key_is_refused() -> None:
 def test_a_small_tenant_does_not_wait_for_a_large_one(
     place: str, again: bool, codec: Encryption | None
 ) -> None:
-    """Also where a store is opened again with what was begun. Sagas of one tenant go in their order."""
+    """This holds also after a restart with running attempts.
+
+    Sagas of one tenant run in their order.
+    """
     called: list[str] = []
     opened = asyncio.Event()
     saga = sagas.Saga("shop", fair_by=lambda given: given["tenant"])
@@ -305,7 +317,7 @@ def test_a_small_tenant_does_not_wait_for_a_large_one(
 def test_whose_a_saga_is_cannot_be_said(
     tmp_path: pathlib.Path, caplog: pytest.LogCaptureFixture
 ) -> None:
-    """It is nobody's, which the log says without the input."""
+    """Then the saga has no tenant; the log reports that without the input."""
     saga = sagas.Saga("shop", fair_by=lambda given: given["tenant"])
 
     @saga.step
@@ -346,7 +358,9 @@ asyncio.run(main())
 
 
 def test_a_program_that_is_killed_while_keys_are_taken(place: str, tmp_path: pathlib.Path) -> None:
-    """No key stays taken, and in each run of the program one saga of an account is called at a time."""
+    """No key stays taken, and in each run of the program one saga of an account is called at a
+    time.
+    """
     here = pathlib.Path(__file__).parent
     environment = os.environ | {
         "PYTHONPATH": f"{here.parent / 'src'}{os.pathsep}{here}",

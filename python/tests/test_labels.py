@@ -28,7 +28,7 @@ CUSTOMER = {"customer": "7"}
 
 
 def must() -> sagas.Saga:
-    """Is stuck: what cannot be undone may not stand."""
+    """Return a saga that gets stuck: a step that cannot be undone must not be kept."""
     must = sagas.Saga("must")
 
     @must.step(undo=sagas.NEVER, keep=sagas.NEVER)
@@ -43,13 +43,13 @@ def must() -> sagas.Saga:
 
 
 def rows(path: str, query: str) -> list[tuple[Any, ...]]:
-    """What a store has, beside the programs."""
+    """Return rows of a store, read without its programs."""
     with contextlib.closing(admin.connect(path)) as link:
         return link.ask(query)
 
 
 def aborts(path: str) -> dict[str, int]:
-    """How often the event log of each saga has an abort."""
+    """Return how often the event log of each saga has an abort."""
     found = {key: 0 for (key,) in rows(path, "SELECT key FROM sagas")}
     keys = {id: key for id, key in rows(path, "SELECT id, key FROM sagas")}
     for shard, text in rows(path, "SELECT shard, text FROM event_log"):
@@ -59,7 +59,7 @@ def aborts(path: str) -> dict[str, int]:
 
 
 def test_sagas_are_found_by_their_labels(place: str) -> None:
-    """Also once the store is opened again; a second start of a key leaves those of the first."""
+    """This holds also after a restart; a second start of a key keeps the labels of the first."""
 
     async def main() -> None:
         async with sagas.open(place, [kind := signed()]) as store:
@@ -101,7 +101,7 @@ def test_sagas_are_found_by_their_labels(place: str) -> None:
     ],
 )
 def test_labels_that_are_none(tmp_path: pathlib.Path, labels: Any, text: str) -> None:
-    """Nothing is begun, and no filter has them."""
+    """No saga is started, and no filter accepts them."""
 
     async def main() -> None:
         async with sagas.open(tmp_path / "store.db", [kind := signed()]) as store:
@@ -142,7 +142,7 @@ def test_labels_leave_with_their_sagas(
 def test_all_sagas_of_a_filter_are_aborted_and_resolved(
     place: str, monkeypatch: pytest.MonkeyPatch
 ) -> None:
-    """In several transactions; others stay as they are, and who did it is kept."""
+    """It takes several transactions; other sagas do not change, and the operator is recorded."""
     monkeypatch.setattr(batches, "MOST", 4)
     monkeypatch.setattr(operator_commands, "MOST", 3)
 
@@ -183,7 +183,7 @@ def test_all_sagas_of_a_filter_are_aborted_and_resolved(
 
 
 def test_the_command_counts_first(place: str, capsys: pytest.CaptureFixture[str]) -> None:
-    """What it asks while no program has the store is done by the next one."""
+    """A command that comes while no program has the store is executed by the next one."""
     shell = Shell(place, capsys)
 
     async def fill() -> None:
@@ -233,7 +233,10 @@ def test_the_command_counts_first(place: str, capsys: pytest.CaptureFixture[str]
 
 
 def test_a_clients_start_has_its_labels(url: str) -> None:
-    """From its own row until a node opens it; one that no node has begun is withdrawn so."""
+    """They come from its own row until a node opens it.
+
+    A start that no node has taken is withdrawn by them.
+    """
 
     async def main() -> None:
         async with sagas.Client(url) as client:
@@ -257,13 +260,13 @@ def test_a_clients_start_has_its_labels(url: str) -> None:
 
 
 async def sagas_of(url: str) -> None:
-    """Makes the tables."""
+    """Make the tables."""
     async with sagas.open(url, [signed()]):
         pass
 
 
 def test_without_async(place: str) -> None:
-    """The same calls, in a thread."""
+    """The same calls work in a thread."""
     with sagas.open_sync(place, [kind := signed()]) as store:
         store.start(kind, "a", labels=CUSTOMER)
         assert [one.key for one in store.list(labels=CUSTOMER)] == ["a"] and store.count(
@@ -300,7 +303,7 @@ DRIVER = """
 
 
 def child(file: pathlib.Path, text: str, **words: Any) -> subprocess.Popen[str]:
-    """A program of its own."""
+    """Start a separate program."""
     file.write_text(textwrap.dedent(text.format(**words)))
     environment = os.environ | {
         "PYTHONPATH": f"{HERE.parent / 'src'}:{HERE}",
@@ -312,7 +315,7 @@ def child(file: pathlib.Path, text: str, **words: Any) -> subprocess.Popen[str]:
 
 
 def heard(process: subprocess.Popen[str], count: int) -> list[str]:
-    """What it says, so many lines; then it is killed."""
+    """Return `count` lines of its output; then kill it."""
     assert process.stdout and process.stdin
     said = []
     for _ in range(count):
@@ -329,8 +332,9 @@ def heard(process: subprocess.Popen[str], count: int) -> list[str]:
 
 
 def test_a_batch_that_is_killed_goes_on(place: str, tmp_path: pathlib.Path) -> None:
-    """Killed are the program that starts sagas, the command behind its second transaction, and the
-    program that carries it out: no label is lost, and each saga is aborted once."""
+    """The program that starts sagas, the command after its second transaction, and the program that
+    executes it are killed: no label is lost, and each saga is aborted once.
+    """
     count = 18
     began = heard(child(tmp_path / "driver.py", DRIVER, path=place, count=99), count)
     having = "SELECT key FROM sagas JOIN labels USING (id) WHERE name = 'customer' AND value = '7'"

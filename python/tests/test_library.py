@@ -21,7 +21,7 @@ TWO = '{"def":0,"event":"open","saga":0}\n{"def":1,"event":"open","saga":1}\n'
 
 @pytest.fixture(params=["library", "program"])
 def way(request: pytest.FixtureRequest, monkeypatch: pytest.MonkeyPatch) -> str:
-    """By the library, or, where that is not there, by the program."""
+    """Use the library, or, without it, the program."""
     if request.param == "program":
         monkeypatch.setenv("SAGAS_LIBRARY", "/nowhere/libsagas.so")
     else:

@@ -1,5 +1,7 @@
-"""Lists are in the order of the starts, over any number of shards: in the store, in the command, in
-the service and in its dashboard."""
+"""Lists are in the order of the starts, over any number of shards.
+
+This holds in the store, in the command, in the service and in its dashboard.
+"""
 
 from __future__ import annotations
 
@@ -27,8 +29,9 @@ KEYS = [f"k{number}" for number in range(COUNT)]
 
 
 def kinds() -> list[sagas.Saga]:
-    """A saga whose steps come from its input, so that it has a shard of its own, and fixed ones: of
-    these one is stuck, and one has an undo that fails."""
+    """Return a saga whose steps come from its input, so that it has its own shard, and fixed ones:
+    one of these is stuck, and one has an undo that fails.
+    """
     many, fixed = sagas.Saga("many"), sagas.Saga("fixed")
     stuck, kept = sagas.Saga("stuck"), sagas.Saga("kept")
     many_stuck, many_kept = sagas.Saga("many-stuck"), sagas.Saga("many-kept")
@@ -48,20 +51,20 @@ def kinds() -> list[sagas.Saga]:
 
 
 def of_both(place: str) -> Any:
-    """The ids, in the order of the starts."""
+    """Return the ids in the order of the starts."""
     with contextlib.closing(admin.connect(place)) as link:
         return [id for (id,) in link.ask("SELECT id FROM sagas ORDER BY at")]
 
 
 async def begin(store: sagas.Store, some: list[sagas.Saga]) -> None:
-    """Starts sagas of two shards by turns."""
+    """Start sagas of two shards alternately."""
     for number, key in enumerate(KEYS):
         labels = {"half": str(number % 2), "all": "yes"}
         await store.start(some[number % 2], key, {"items": [1]}, labels=labels)
 
 
 def test_a_store_lists_by_the_start(place: str, capsys: pytest.CaptureFixture[str]) -> None:
-    """Pages by the last saga, or its id, of any filter; and so does the command."""
+    """Pages start after a saga, or an id, of any filter; so it is with the command."""
 
     async def main() -> None:
         async with sagas.open(place, some := kinds()) as store:
@@ -109,7 +112,7 @@ def test_a_store_lists_by_the_start(place: str, capsys: pytest.CaptureFixture[st
 
 
 def test_pages_go_on_when_their_last_saga_is_deleted(place: str) -> None:
-    """By the saga itself; of its id nobody knows any more where it was."""
+    """Pages continue from the saga itself; the position of its id is unknown."""
 
     async def main() -> None:
         async with sagas.open(place, some := kinds()) as store:
@@ -131,7 +134,7 @@ def test_pages_go_on_when_their_last_saga_is_deleted(place: str) -> None:
 
 
 def test_two_nodes_and_a_client_list_alike(url: str) -> None:
-    """Each node has a shard of its own."""
+    """Each node has its own shard."""
     kind = sagas.Saga("kind")
     kind.step(name="a", external=True)
 
@@ -154,7 +157,7 @@ def test_two_nodes_and_a_client_list_alike(url: str) -> None:
 
 
 def test_what_needs_a_person_is_by_age(place: str) -> None:
-    """The oldest are those that a limit leaves: stuck sagas, and undos that failed."""
+    """A limit returns the oldest ones: stuck sagas, and failed compensations."""
 
     async def main() -> None:
         async with sagas.open(place, some := kinds()) as store:
@@ -187,7 +190,7 @@ store = sagas.open("unused.db", [many, stuck, many_stuck])
 
 @pytest.fixture(scope="module")
 def client(tmp_path_factory: pytest.TempPathFactory) -> Iterator[httpx.Client]:
-    """Of a service with sagas of two shards, by turns, of which some are stuck."""
+    """Return a client of a service with sagas of two shards, alternately; some are stuck."""
     folder = tmp_path_factory.mktemp("order")
     (folder / "shop.py").write_text(SHOP)
     with served(folder, {"one.toml": ONE}, "--app", "shop:store") as service:
@@ -201,7 +204,7 @@ def client(tmp_path_factory: pytest.TempPathFactory) -> Iterator[httpx.Client]:
 
 
 def pages(client: httpx.Client, path: str, name: str) -> list[str]:
-    """The keys of all pages."""
+    """Return the keys of all pages."""
     keys, after = list[str](), ""
     while True:
         page = client.get(f"{path}&limit=2{after}").json()
@@ -215,7 +218,7 @@ def pages(client: httpx.Client, path: str, name: str) -> list[str]:
     "words", ["search=saga-", "phase=open", "search=saga-&phase=open", "error=never"]
 )
 def test_the_service_lists_the_newest_first(client: httpx.Client, words: str) -> None:
-    """Whatever shards they are of; also while others start."""
+    """This holds for any shards, also while other sagas start."""
     wanted = [f"stuck-{n}" for n in range(COUNT)] if "error" in words else OPEN
     assert [*reversed(pages(client, f"/v1/sagas?{words}", "sagas"))] == wanted
     first = client.get("/v1/sagas?search=saga-&phase=open&limit=4").json()
@@ -228,7 +231,7 @@ def test_the_service_lists_the_newest_first(client: httpx.Client, words: str) ->
 
 
 def test_attention_is_by_age(client: httpx.Client) -> None:
-    """In either order, and by pages."""
+    """It works in either order, and by pages."""
     keys = [f"stuck-{number}" for number in range(COUNT)]
     assert pages(client, "/v1/attention?kind=stuck", "entries") == keys
     assert pages(client, "/v1/attention?kind=stuck&order=newest", "entries") == keys[::-1]
@@ -240,7 +243,7 @@ def test_attention_is_by_age(client: httpx.Client) -> None:
 
 @pytest.mark.parametrize("path", ["/v1/sagas", "/v1/attention"])
 def test_a_cursor_that_is_none(client: httpx.Client, path: str) -> None:
-    """As any word of a query that has another form."""
+    """It gets the same error as any invalid parameter of a query."""
     kind = "" if path == "/v1/sagas" else "stuck."
     step = kind and ".-1"
     for cursor in ("7", "x", "1e3-7", "1.5", "1.5-", "-7", "1.5-x", "1.5-7-", "nan-7", "inf-7"):
@@ -273,7 +276,7 @@ def test_the_dashboard_lists_the_newest_first(client: httpx.Client) -> None:
 
 
 def has_index(place: str) -> bool:
-    """Whether the store has the index of the starts."""
+    """Return whether the store has the index of the starts."""
     if place.startswith("postgresql:"):
         with psycopg.connect(place) as link:
             found = link.execute("SELECT to_regclass('sagas.sagas_started') IS NOT NULL")
@@ -285,8 +288,10 @@ def has_index(place: str) -> bool:
 
 
 def test_an_older_store_gets_the_index(place: str, capsys: pytest.CaptureFixture[str]) -> None:
-    """When a program opens a file for writing; of a database when its owner does. A user without
-    rights opens it all the same."""
+    """It gets it when a program opens a file for writing; over PostgreSQL, when the owner does.
+
+    A user without rights opens it anyway.
+    """
     kind = simple(lambda task: 7)
 
     async def once(where: str, key: str) -> None:
@@ -338,7 +343,7 @@ def test_starts_round_trip(place: str) -> None:
 
 
 def test_the_index_does_not_wait_long(url: str, caplog: pytest.LogCaptureFixture) -> None:
-    """A transaction of somebody else holds it up: the store opens without it, and says so."""
+    """A transaction of another program blocks it: the store opens without it, and reports that."""
     kind = simple(lambda task: 7)
 
     async def once(key: str) -> None:

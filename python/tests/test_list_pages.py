@@ -52,11 +52,11 @@ FILTERS: dict[str, dict[str, Any]] = {
 
 
 def fill(place: str) -> None:
-    """Sagas of some shards, of which some started at the same time."""
+    """Make sagas of some shards, of which some started at the same time."""
     chance = random.Random(7)
     with contextlib.closing(admin.connect(place, "rw")) as link, link.transaction():
         true, false = (True, False) if place.startswith("postgresql:") else (1, 0)
-        for shard in () if true is True else range(3):  # a file finds by them what is open
+        for shard in () if true is True else range(3):  # a file uses them to find open sagas
             link.changed("INSERT INTO shards(shard, name) VALUES(?, ?)", shard, f"s{shard}")
         for number in range(COUNT):
             id, at = 1000 * (number % 3) + number, 1_000_000.0 + chance.randrange(100)
@@ -83,7 +83,7 @@ def fill(place: str) -> None:
 
 
 def of_pages(reader: StoreReader, of: Filter, newest: bool, most: int) -> list[Summary]:
-    """All pages, one behind the other."""
+    """Return all pages, one after the other."""
     found: list[Summary] = []
     word, place = "before" if newest else "after", None
     while True:
@@ -99,7 +99,7 @@ def of_pages(reader: StoreReader, of: Filter, newest: bool, most: int) -> list[S
 def test_pages_of_any_filter(
     place: str, few: int, near: int, most_near: int, monkeypatch: pytest.MonkeyPatch
 ) -> None:
-    """Whether those that are near are enough, or not, or all."""
+    """This holds whether the near ones are enough, or not, or all."""
     for name, value in (("FEW", few), ("NEAR", near), ("MOST_NEAR", most_near)):
         monkeypatch.setattr(pages, name, value)
 
@@ -126,7 +126,7 @@ def test_pages_of_any_filter(
 
 
 def reader_count(place: str, of: Filter) -> int:
-    """How many sagas of a filter there are."""
+    """Return how many sagas of a filter there are."""
     where, words = of.where()
     with contextlib.closing(admin.connect(place)) as link:
         return int(link.ask(f"SELECT count(*) FROM sagas s WHERE {where}", *words)[0][0])

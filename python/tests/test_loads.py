@@ -1,4 +1,4 @@
-"""How logs are taken up from PostgreSQL: many at once, and none of them holds back the others."""
+"""Loading logs from PostgreSQL: many at once, and none of them delays the others."""
 
 from __future__ import annotations
 
@@ -28,7 +28,9 @@ CREATE TRIGGER refuses BEFORE UPDATE ON sagas.shards FOR EACH ROW WHEN (NEW.shar
 
 @pytest.fixture
 def logs(url: str, monkeypatch: pytest.MonkeyPatch) -> list[int]:
-    """Logs of a node `me`, with sagas whose first step is over, at a whole second, and whose second one waits for a person."""
+    """Return logs of a node `me`, with sagas whose first step is over, at a whole second, and whose
+    second one waits for an operator.
+    """
     monkeypatch.setattr("sagas.definition.shelf.SHARD_CAPACITY", ROOM)
     kind, events = sagas.Saga("signed"), list[sagas.Event]()
 
@@ -59,7 +61,7 @@ def logs(url: str, monkeypatch: pytest.MonkeyPatch) -> list[int]:
 
 @contextlib.asynccontextmanager
 async def loading(url: str) -> AsyncIterator[Loads]:
-    """As the node `me` does it."""
+    """Return a loader, as the node `me` uses it."""
     asker = connections.Asker(url, url, 3)
     await asker.open()
     yield Loads(asker, "me", asyncio.get_running_loop().create_task)
@@ -67,7 +69,7 @@ async def loading(url: str) -> AsyncIterator[Loads]:
 
 
 def is_whole(loaded: Loaded | None, place: int, epoch: int) -> bool:
-    """Whether this is all that this log has, under a new epoch."""
+    """Return whether the loaded log is complete, under a new epoch."""
     assert loaded
     ids = [id for id, *_ in loaded.open]
     numbers = [*range(place * ROOM, place * ROOM + ROOM)]
@@ -91,7 +93,10 @@ def is_whole(loaded: Loaded | None, place: int, epoch: int) -> bool:
 
 
 def test_all_that_are_wanted_go_together(url: str, logs: list[int]) -> None:
-    """What is there comes whole; what is another's, closed, or not there does not; and what is not born yet is empty."""
+    """Existing logs are loaded whole.
+
+    Logs of other nodes, closed and missing ones are not, and new ones are empty.
+    """
 
     async def main() -> None:
         with psycopg.connect(url, autocommit=True) as link:
@@ -176,7 +181,9 @@ def test_a_commit_behind_a_chunk_that_is_not_there(
 
 
 def test_a_log_whose_commit_is_under_way(url: str, logs: list[int]) -> None:
-    """It is taken up behind that; those that are wanted with it and after it are there before."""
+    """It is loaded after that commit; logs that are requested with it and after it are loaded
+    before.
+    """
 
     async def main() -> None:
         with psycopg.connect(url) as commit:
@@ -184,9 +191,8 @@ def test_a_log_whose_commit_is_under_way(url: str, logs: list[int]) -> None:
                 commit.execute("SELECT 1 FROM sagas.shards WHERE shard = %s FOR SHARE", (logs[2],))
                 waits = asyncio.create_task(loads.load(logs[2], 1, None))
                 rest = [log for log in logs if log != logs[2]]
-                async with asyncio.timeout(
-                    connections.PATIENCE / 2
-                ):  # else they came only once the server had given the first statement up
+                # else they came only once the server had given the first statement up
+                async with asyncio.timeout(connections.PATIENCE / 2):
                     assert all(await asyncio.gather(*(loads.load(log, 1, None) for log in rest)))
                     assert await loads.load(logs[0], 2, None)
                 assert not waits.done()
@@ -205,7 +211,9 @@ def test_a_log_whose_commit_is_under_way(url: str, logs: list[int]) -> None:
 
 
 def test_locked_logs_hold_up_nobody(url: str, logs: list[int]) -> None:
-    """More of them than there are connections are wanted at once: whoever asks something else has one."""
+    """More of them than there are connections are requested at once: another request gets a
+    connection.
+    """
 
     async def main() -> None:
         with psycopg.connect(url) as stranger, psycopg.connect(url, autocommit=True) as eye:
@@ -218,9 +226,8 @@ def test_locked_logs_hold_up_nobody(url: str, logs: list[int]) -> None:
                         " wait_event_type = 'Lock'"
                     ).fetchall()
                 )
-                assert await loads._asker.ask("SELECT 1") == [
-                    (1,)
-                ]  # else it is behind them, and the pool gives up
+                # else it is after them, and the pool gives up
+                assert await loads._asker.ask("SELECT 1") == [(1,)]
                 assert not any(wait.done() for wait in waits)
                 stranger.rollback()
                 assert all([is_whole(await wait, place, 2) for place, wait in enumerate(waits)])
@@ -229,7 +236,7 @@ def test_locked_logs_hold_up_nobody(url: str, logs: list[int]) -> None:
 
 
 def test_a_log_that_cannot_be_taken_up(url: str, logs: list[int]) -> None:
-    """The others come."""
+    """The others are loaded."""
 
     async def main() -> None:
         with psycopg.connect(url, autocommit=True) as link:
@@ -250,7 +257,7 @@ def test_a_log_that_cannot_be_taken_up(url: str, logs: list[int]) -> None:
 
 
 def test_the_server_does_not_answer(url: str, logs: list[int]) -> None:
-    """Each who waits hears it, and who asks again has it."""
+    """Each waiting caller gets the error, and a repeated call succeeds."""
 
     async def main() -> None:
         async with loading(url) as loads, loading(url) as others:

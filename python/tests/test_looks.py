@@ -1,4 +1,4 @@
-"""What somebody sees who looks at a store, and what is written down of who did what: the same over both databases."""
+"""Reads of a store, and the record of who did what: the same over both databases."""
 
 from __future__ import annotations
 
@@ -18,7 +18,7 @@ from sagas.server import json_views
 
 
 def asking() -> sagas.Saga:
-    """A step, and an approval behind it."""
+    """Return a saga with a step, and then an approval."""
     asking = sagas.Saga("asking")
 
     @asking.step
@@ -37,7 +37,9 @@ def asking() -> sagas.Saga:
 
 
 def test_looks_and_who_did_what(place: str) -> None:
-    """Counts, pages, a search, what waits for a person, one saga, and the notes of an abort and of a finish."""
+    """Check counts, pages, a search, what needs an operator, one saga, and the notes of an abort
+    and of a finish.
+    """
     kind = asking()
 
     async def main() -> None:
@@ -87,7 +89,7 @@ def test_looks_and_who_did_what(place: str) -> None:
 
 
 class Clock:
-    """It can be put forward and back."""
+    """A clock that can be set forward and back."""
 
     by = 0.0
 
@@ -96,8 +98,11 @@ class Clock:
 
 
 def test_a_log_is_told_in_its_own_order(place: str) -> None:
-    """Its times step back, as where a clock is put back: its events stay as the log has them, each
-    with what came of it, and what somebody did stands before what followed."""
+    """Its times go back when a clock is set back.
+
+    Its events keep the order of the log, each with its effects, and an action of an operator comes
+    before its effects.
+    """
     kind, clock = sagas.Saga("order"), Clock()
 
     @kind.step(tries=3, backoff=QUICK)
@@ -148,7 +153,7 @@ def test_a_log_is_told_in_its_own_order(place: str) -> None:
 
 
 class Counting:
-    """A reader that counts the characters of what it read."""
+    """A reader that counts the characters that it read."""
 
     def __init__(self, reader: Any) -> None:
         self._reader, self.read = reader, 0
@@ -163,7 +168,7 @@ class Counting:
 
 
 def test_one_saga_of_a_long_shard(place: str) -> None:
-    """Of the shard's event log only what names the saga is read."""
+    """Only the parts of the shard's event log that name the saga are read."""
     kind = sagas.Saga("short")
 
     @kind.step
@@ -189,8 +194,9 @@ def test_one_saga_of_a_long_shard(place: str) -> None:
 
 
 def test_what_if_a_step_has_failed_permanently(tmp_path: pathlib.Path) -> None:
-    """While the saga waits for others, such a step is not told to be run, nor its compensation:
-    the answers are what then becomes of the saga."""
+    """While the saga waits for others, such a step is not reported as one to run, nor its
+    compensation: the answers are what then happens to the saga.
+    """
     run_fails, undo_fails = sagas.Saga("run"), sagas.Saga("undo")
     gate = asyncio.Event()
 

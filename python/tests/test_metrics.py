@@ -1,4 +1,4 @@
-"""The figures of a service, by the events that it is told."""
+"""The metrics of a service, by the events that it gets."""
 
 from __future__ import annotations
 
@@ -12,13 +12,13 @@ from sagas.server import metrics
 
 
 def seconds(figures: metrics.Metrics) -> str:
-    """How many steps' times were counted."""
+    """Return how many steps' times were counted."""
     only = figures.registry.restricted_registry(["sagas_step_seconds_count"])
     return str(generate_latest(only).decode())  # type: ignore[arg-type]
 
 
 def test_times_are_counted_whatever_else_began(monkeypatch: pytest.MonkeyPatch) -> None:
-    """Attempts that end at other nodes are never told of here: the first of them give way."""
+    """The ends of attempts at other nodes are never reported here: the oldest attempts are dropped."""
     monkeypatch.setattr(metrics, "MOST_BEGUN", 3)
     figures = metrics.Metrics(cast(Any, None))
 

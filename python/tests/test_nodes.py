@@ -1,4 +1,4 @@
-"""Several nodes over one database: what is owned, taken over, handed over and fenced."""
+"""Several nodes over one database: ownership, takeover, handover and fencing."""
 
 from __future__ import annotations
 
@@ -37,7 +37,10 @@ def pair(
     name: str = "pair",
     tokens: list[tuple[str, str]] | None = None,
 ) -> sagas.Saga:
-    """Two steps; the second waits for a gate, and each call of it is noted, with its token."""
+    """Return a saga of two steps.
+
+    The second waits for a gate, and each call of it is noted, with its token.
+    """
     pair = sagas.Saga(name)
 
     @pair.step
@@ -94,7 +97,7 @@ def node(
     lease: float = 2.0,
     seconds: float = 3600,
 ) -> Iterator[subprocess.Popen[str]]:
-    """A node in a process of its own, with sagas whose second step waits."""
+    """Return a node in its own process, with sagas whose second step waits."""
     file = path / f"{name}.py"
     file.write_text(
         textwrap.dedent(NODE.format(url=url, name=name, count=count, lease=lease, seconds=seconds))
@@ -114,7 +117,7 @@ def node(
 
 
 async def is_open(process: subprocess.Popen[str], called: int = 0) -> dict[str, str]:
-    """Returns once it has started its sagas, and so many second steps of them run: gives the tokens of those."""
+    """Wait until it has started its sagas, and `called` second steps run; return their tokens."""
     assert process.stdout
     opened, tokens = False, dict[str, str]()
     while line := await asyncio.to_thread(process.stdout.readline):
@@ -127,11 +130,11 @@ async def is_open(process: subprocess.Popen[str], called: int = 0) -> dict[str, 
     raise AssertionError("it ended")
 
 
-# -- keys ------------------------------------------------------------------------------------------------------------
+# -- keys
 
 
 def test_a_key_is_unique_over_all_nodes(url: str) -> None:
-    """Three nodes start the same keys at once: each is there once, and all three are told of its end."""
+    """Three nodes start the same keys at once: each saga exists once, and all three get its end."""
     kind = pair()
 
     async def main() -> None:
@@ -154,7 +157,7 @@ def test_a_key_is_unique_over_all_nodes(url: str) -> None:
 
 
 def test_who_waits_elsewhere_hears_of_the_end(url: str) -> None:
-    """`wait`, `abort` and `finish` at a node that does not have the saga."""
+    """`wait`, `abort` and `finish` work at a node that does not have the saga."""
     gate = asyncio.Event()
     kind = pair(gate)
     signed = sagas.Saga("signed")
@@ -184,7 +187,7 @@ def test_who_waits_elsewhere_hears_of_the_end(url: str) -> None:
     run(main())
 
 
-# -- takeover ----------------------------------------------------------------------------------------------------------
+# -- takeover
 
 
 def test_a_killed_nodes_sagas_go_on(tmp_path: pathlib.Path, url: str) -> None:
@@ -210,7 +213,10 @@ def test_a_killed_nodes_sagas_go_on(tmp_path: pathlib.Path, url: str) -> None:
 
 
 def test_a_node_that_slept_past_its_lease_writes_nothing(tmp_path: pathlib.Path, url: str) -> None:
-    """It is stopped while its steps run; another node ends them; when it goes on, its results are not recorded."""
+    """It is stopped while its steps run; another node ends them.
+
+    When it continues, its results are not recorded.
+    """
 
     async def main() -> None:
         with node(tmp_path, url, "sleeper", 5, lease=1.5, seconds=1.0) as process:
@@ -236,12 +242,14 @@ def test_a_node_that_slept_past_its_lease_writes_nothing(tmp_path: pathlib.Path,
 
 
 def pair_of(store: sagas.Store) -> sagas.Saga:
-    """The saga that a store was opened with."""
+    """Return the saga that a store was opened with."""
     return next(iter(store._shelf.sagas.values()))
 
 
 def test_sigterm_hands_over_at_once(tmp_path: pathlib.Path, url: str) -> None:
-    """Nothing new begins, what runs ends and is kept, and the logs are another node's long before the lease's end."""
+    """No attempt starts, running ones end and are stored, and another node has the logs long before
+    the lease's end.
+    """
     calls: list[str] = []
 
     async def main() -> None:
@@ -306,7 +314,7 @@ def test_a_node_that_opens_keeps_its_lease(url: str, tmp_path: pathlib.Path) -> 
 
 
 def test_two_nodes_of_one_name(url: str) -> None:
-    """The second has the first one's logs; both go on, and nothing is done twice by one of them."""
+    """The second has the first one's logs; both continue, and neither does anything twice."""
     gate = asyncio.Event()
     calls: list[list[str]] = [[], []]
     kinds = [pair(gate, calls[0]), pair(gate, calls[1])]
@@ -333,7 +341,9 @@ def test_two_nodes_of_one_name(url: str) -> None:
 def test_a_log_that_another_wrote_while_its_child_was_let_go(
     url: str, caplog: pytest.LogCaptureFixture
 ) -> None:
-    """A node reports into a log that another has ended meanwhile: it hears that the log is not its own, before it asks its child anything."""
+    """A node reports into a log that another one has ended in the meantime: it finds that the log
+    is not its own, before it asks its engine anything.
+    """
     gates = asyncio.Event(), asyncio.Event()
     calls: list[list[str]] = [[], []]
     kinds = [pair(gate, of) for gate, of in zip(gates, calls)]
@@ -357,7 +367,7 @@ def test_a_log_that_another_wrote_while_its_child_was_let_go(
 
 
 def test_a_log_that_a_node_has_no_functions_for_is_left(url: str) -> None:
-    """It is shown by name, and driven by the node that has them: a deploy that rolls from one program to the next."""
+    """It is listed by name, and driven by the node that has the functions, as in a rolling deploy."""
     gate = asyncio.Event()
     calls: list[str] = []
     old, new = pair(gate, calls), simple(lambda task: 1)
@@ -377,7 +387,9 @@ def test_a_log_that_a_node_has_no_functions_for_is_left(url: str) -> None:
 
 
 def test_a_log_that_was_left_is_judged_again(url: str, caplog: pytest.LogCaptureFixture) -> None:
-    """Another node has ended the sagas whose functions this one lacks: once that node is gone, this one drives the others."""
+    """Another node has ended the sagas whose functions this one lacks: once that node is gone, this
+    one drives the others.
+    """
     gates, calls = {name: asyncio.Event() for name in ("goes", "stays")}, list[str]()
     goes, stays = (pair(gate, calls, name) for name, gate in gates.items())
 
@@ -401,9 +413,10 @@ def test_a_log_that_was_left_is_judged_again(url: str, caplog: pytest.LogCapture
 
 
 def test_what_no_node_drives_is_told(url: str, caplog: pytest.LogCaptureFixture) -> None:
-    """A node that lacks the functions of open sagas says once which they are and how many, as soon
-    as nobody has driven them for a lease; to find that out it does not give up its own, where a
-    table is locked meanwhile. What was left is forgotten once it is closed."""
+    """A node without the functions of open sagas reports once which they are and how many, as soon
+    as no node has driven them for a lease. To find that out it does not give up its own shards,
+    even if a table is locked. The report of a log that was left is dropped once it is closed.
+    """
     gate, calls, told = asyncio.Event(), list[str](), list[sagas.Event]()
     old, new = pair(gate, calls), simple(lambda task: 1)
     says = (
@@ -448,7 +461,7 @@ def test_what_no_node_drives_is_told(url: str, caplog: pytest.LogCaptureFixture)
 
 
 class Nowhere:
-    """A queue of a broker that no worker listens to."""
+    """A queue of a broker without a worker."""
 
     timeout = 0.05
 
@@ -463,7 +476,7 @@ class Nowhere:
 
 
 def test_nothing_is_kept_of_reports_that_another_node_waits_for(url: str) -> None:
-    """Attempts whose messages are out, and such of which nobody knows, go to another node."""
+    """Attempts whose messages are out, and attempts with an unknown outcome, go to another node."""
 
     def kind_of() -> sagas.Saga:
         kind, patient = sagas.Saga("ordered"), Nowhere()
@@ -497,12 +510,12 @@ def test_nothing_is_kept_of_reports_that_another_node_waits_for(url: str) -> Non
 
 
 async def asked_all(store: sagas.Store, count: int) -> bool:
-    """Whether so many attempts are known to be unknown."""
+    """Return whether `count` attempts are recorded as unknown."""
     return len(await store.unknown()) == count
 
 
 def test_a_lost_connection_is_no_childs_death(postgresql: Server, url: str) -> None:
-    """The server cannot be reached as logs are to be taken up: that is said of the database."""
+    """The server cannot be reached as logs are to be loaded: the error names the database."""
     gate, calls, told = asyncio.Event(), list[str](), list[sagas.Event]()
     kind = pair(gate, calls)
 
@@ -528,7 +541,9 @@ def test_a_lost_connection_is_no_childs_death(postgresql: Server, url: str) -> N
 
 
 def test_a_rolling_deploy_of_a_changed_definition(url: str) -> None:
-    """Sagas of the old definition go on with the old functions while their node is there, and then by that definition with the new ones."""
+    """Sagas of the old definition continue with the old functions while their node is up, and then
+    by that definition with the new ones.
+    """
     gates = {"stays": asyncio.Event(), "leaves": asyncio.Event()}
     called: list[str] = []
 
@@ -578,7 +593,9 @@ def test_a_rolling_deploy_of_a_changed_definition(url: str) -> None:
 def test_a_large_commit_is_taken_apart_piece_by_piece(
     url: str, monkeypatch: pytest.MonkeyPatch
 ) -> None:
-    """What is more than PostgreSQL takes apart at once goes by the other form of the statement, and is the same."""
+    """A commit with more rows than PostgreSQL can unnest at once uses the other form of the
+    statement, with the same result.
+    """
     monkeypatch.setattr(commit_statement, "MOST", 0)
     kind = simple(lambda task: 1)
 
@@ -591,7 +608,7 @@ def test_a_large_commit_is_taken_apart_piece_by_piece(
 
 
 def test_a_lease_is_over_before_its_end() -> None:
-    """A node counts on its own clock, and leaves a tenth for what it began just before."""
+    """A node uses its own clock, and keeps a tenth of the lease as a margin for its last work."""
     lease = node_lease.Lease(None, "n", 10.0, "")  # type: ignore[arg-type]
     for left, held in ((10.0, True), (1.5, True), (0.9, False), (-1.0, False)):
         lease._until = node_lease.now() + left
@@ -600,7 +617,9 @@ def test_a_lease_is_over_before_its_end() -> None:
 
 
 def test_no_function_begins_behind_the_lease(url: str) -> None:
-    """A node cannot say that it lives: what it has is kept still, and nothing begins until it has said so and looked at its logs."""
+    """A node cannot renew its lease: its sagas pause, and no call starts until it has renewed it
+    and looked at its logs.
+    """
     gate, calls = asyncio.Event(), list[str]()
     kind = sagas.Saga("pair")
 
@@ -648,7 +667,9 @@ TAKEN = (
 def test_behind_its_lease_a_node_keeps_what_is_still_its_own(
     url: str, monkeypatch: pytest.MonkeyPatch
 ) -> None:
-    """Another node has taken one of its two logs meanwhile: it ends the children of both, lets go of that one, and goes on with the other."""
+    """Another node has taken one of its two logs in the meantime: it ends the engines of both,
+    releases that one, and continues with the other.
+    """
     monkeypatch.setattr("sagas.definition.shelf.SHARD_CAPACITY", 1)
     gate, calls, said = asyncio.Event(), list[str](), list[tuple[str, str | None]]()
     kind = pair(gate, calls)
@@ -694,7 +715,10 @@ def test_behind_its_lease_a_node_keeps_what_is_still_its_own(
 
 
 def test_new_sagas_go_to_a_log_of_the_nodes_own(url: str) -> None:
-    """Those of two nodes go apart; and where one has taken over what the other had, its new ones are still in logs that it owns."""
+    """Those of two nodes are in separate logs.
+
+    If one has taken over the logs of the other, its new ones are still in its own logs.
+    """
     gate = asyncio.Event()
     kind = pair(gate)
 
@@ -739,7 +763,7 @@ def test_new_sagas_go_to_a_log_of_the_nodes_own(url: str) -> None:
 
 
 def test_takeover_in_lots_goes_past_a_locked_log(url: str, monkeypatch: pytest.MonkeyPatch) -> None:
-    """More logs than a lot; one that somebody else is at is left, and taken later."""
+    """There are more logs than a batch takes; a locked one is left, and taken later."""
     monkeypatch.setattr("sagas.definition.shelf.SHARD_CAPACITY", 1)
     calls: list[str] = []
 
@@ -773,7 +797,9 @@ def test_takeover_in_lots_goes_past_a_locked_log(url: str, monkeypatch: pytest.M
 def test_a_node_says_between_two_lots_that_it_lives(
     url: str, monkeypatch: pytest.MonkeyPatch
 ) -> None:
-    """It takes over the shards of another, of which it has the functions of some: one lot for each beat."""
+    """It takes over the shards of another node, and has the functions of some: one batch for each
+    heartbeat.
+    """
     monkeypatch.setattr("sagas.definition.shelf.SHARD_CAPACITY", 1)
     monkeypatch.setattr(
         node_lease,
@@ -815,7 +841,7 @@ CREATE FUNCTION sagas.waits() RETURNS boolean LANGUAGE plpgsql AS 'BEGIN PERFORM
 
 @contextlib.contextmanager
 def as_it_takes(url: str, patch: pytest.MonkeyPatch) -> Iterator[psycopg.Connection[Any]]:
-    """Who takes a log over has begun to look, and goes on once the lock of this connection is given back."""
+    """Wait until a takeover has started; it continues once this connection's lock is released."""
     patch.setattr(
         node_lease,
         "TAKE",
@@ -831,7 +857,9 @@ def as_it_takes(url: str, patch: pytest.MonkeyPatch) -> Iterator[psycopg.Connect
 def test_the_last_commit_before_a_takeover_counts(
     url: str, monkeypatch: pytest.MonkeyPatch, lacks: bool
 ) -> None:
-    """A node that is taken for dead opens a saga while its log, where none was open, is taken: who has it then drives that too, if it has the functions."""
+    """A node that is taken for dead opens a saga while its log, without open sagas, is taken over:
+    the new owner then drives that one too, if it has the functions.
+    """
     gate, calls = asyncio.Event(), list[str]()
     before, now = pair(gate, calls), pair(calls=calls)
     other = pair(calls=calls, name="other")
@@ -864,8 +892,11 @@ def test_the_last_commit_before_a_takeover_counts(
 
 @pytest.mark.parametrize("is_born", [True, False], ids=["into a log", "with its log"])
 def test_a_start_that_comes_late(postgresql: Server, url: str, is_born: bool) -> None:
-    """Its statement waits at the server while its connection is cut. Who started it hears that this is not known, and starts it again: it is there once, and
-    driven, whether the first statement is done behind that or not."""
+    """Its statement waits at the server while its connection is cut.
+
+    The caller gets an unknown outcome, and starts it again: the saga exists once, and is driven,
+    whether the first statement is done later or not.
+    """
     calls: list[str] = []
     kind = simple(lambda task: calls.append(task.key))
     waits = (
@@ -919,7 +950,9 @@ def test_a_start_that_comes_late(postgresql: Server, url: str, is_born: bool) ->
 
 
 def test_a_log_that_could_not_be_given_back(url: str, monkeypatch: pytest.MonkeyPatch) -> None:
-    """A node lacks a function of a log that it just took, and the server does not answer as it gives it back: it is given back the next time."""
+    """A node lacks a function of a log that it just took, and the server does not answer as it
+    releases it: it is released the next time.
+    """
     ask, is_lost = connections.Asker.ask, True
 
     async def loses(self: connections.Asker, text: str, **words: Any) -> list[Any]:
@@ -952,7 +985,10 @@ def test_a_log_that_could_not_be_given_back(url: str, monkeypatch: pytest.Monkey
 
 
 def test_what_happens_is_told(url: str, monkeypatch: pytest.MonkeyPatch) -> None:
-    """A client's start that is taken, an answer, an end: whoever waits hears of it, and would look by himself minutes later."""
+    """A client's start that is taken, a reply, an end: a waiting caller is notified.
+
+    Without that it would look only minutes later.
+    """
     monkeypatch.setattr(notifications, "FIRST_LOOK", 600.0)
     monkeypatch.setattr(notifications, "MOST_LOOK", 600.0)
     gate = asyncio.Event()
@@ -981,7 +1017,9 @@ def test_what_happens_is_told(url: str, monkeypatch: pytest.MonkeyPatch) -> None
 
 
 def test_what_was_heard_before_a_connection_broke_counts_no_more(url: str) -> None:
-    """Another server may have taken over, at which a saga is open that had ended: who waits for it pauses between two looks."""
+    """Another server may have taken over, at which a saga is open that had ended: a caller that
+    waits for it pauses between two looks.
+    """
 
     async def main() -> None:
         looks, told = asyncio.Queue[str](), asyncio.Event()
@@ -1007,7 +1045,9 @@ def test_what_was_heard_before_a_connection_broke_counts_no_more(url: str) -> No
 
 
 def test_an_end_is_heard_of_without_a_word(url: str, monkeypatch: pytest.MonkeyPatch) -> None:
-    """What the database tells may be lost: whoever waits looks by himself, at intervals that grow."""
+    """A notification of the database may be lost: waiting callers look by themselves, at growing
+    intervals.
+    """
     monkeypatch.setattr(
         "sagas.storage.postgresql.announcer.Announcer.say", lambda self, words: None
     )
@@ -1029,20 +1069,21 @@ def test_an_end_is_heard_of_without_a_word(url: str, monkeypatch: pytest.MonkeyP
             await one.start(kind, "k")
             waiting = asyncio.create_task(other.wait("k"))
             await asyncio.sleep(1.0)
-            assert (
-                turns == [*range(len(turns))] and 3 <= len(turns) <= 10
-            )  # each second one, it would be a hundred
+            # with one look per second, it would be a hundred
+            assert turns == [*range(len(turns))] and 3 <= len(turns) <= 10
             gate.set()
             assert (await waiting).ok
 
     run(main())
 
 
-# -- the server ------------------------------------------------------------------------------------------------------
+# -- the server
 
 
 def test_the_server_is_stopped_and_started(postgresql: Server, tmp_path: pathlib.Path) -> None:
-    """Steps that run meanwhile keep their results until it is there again; no function is called twice by a node that lived."""
+    """Steps that run then keep their results until it is back; a node that was not killed calls no
+    function twice.
+    """
     from server import serving
 
     calls: Counter[str] = Counter()
@@ -1070,7 +1111,9 @@ def test_the_server_is_stopped_and_started(postgresql: Server, tmp_path: pathlib
 
 
 def test_a_start_without_a_server_is_refused(url: str, monkeypatch: pytest.MonkeyPatch) -> None:
-    """No number of a log is at hand, and none can be asked for: it hears so, as who finds the server gone; nobody waits for ever."""
+    """No number of a log is reserved, and none can be requested: the start fails as it does without
+    a server, and no caller waits forever.
+    """
     monkeypatch.setattr("sagas.definition.shelf.SHARD_CAPACITY", 1)
     kind = pair()
 
@@ -1094,7 +1137,9 @@ def test_a_start_without_a_server_is_refused(url: str, monkeypatch: pytest.Monke
 def test_who_looks_for_a_key_hears_that_the_store_is_closed(
     postgresql: Server, url: str, monkeypatch: pytest.MonkeyPatch
 ) -> None:
-    """The server has gone silent: who waits for its answer does not wait longer than the store is open."""
+    """The server does not respond: a caller that waits for it does not wait longer than the store
+    is open.
+    """
     kind, silent = pair(), threading.Event()
 
     async def main() -> None:
@@ -1124,7 +1169,10 @@ def test_who_looks_for_a_key_hears_that_the_store_is_closed(
 
 
 def test_the_answer_to_a_withdrawal_is_lost(postgresql: Server, url: str) -> None:
-    """What no worker has is withdrawn as its saga is aborted. The connection breaks before the answer: it is asked again, and the saga ends."""
+    """A task that no worker has is withdrawn as its saga is aborted.
+
+    The connection breaks before the reply: the withdrawal is repeated, and the saga ends.
+    """
     kind = sagas.Saga("outside")
     kind.step(name="a", external=True)
 
@@ -1149,7 +1197,9 @@ def test_the_answer_to_a_withdrawal_is_lost(postgresql: Server, url: str) -> Non
 def test_a_node_is_gone_in_the_middle_of_a_claim(
     postgresql: Server, url: str, monkeypatch: pytest.MonkeyPatch
 ) -> None:
-    """The server does not know it, as where a machine loses its power: others wait no longer for what that node has locked than a statement may take."""
+    """The server does not notice it, as when a machine loses its power: others wait for its locks
+    no longer than a statement may take.
+    """
     kind, words = sagas.Saga("outside"), [("outside", "a", "run")]
     kind.step(name="a", external=True, concurrency=1)
 
@@ -1175,7 +1225,7 @@ def test_a_node_is_gone_in_the_middle_of_a_claim(
                         await until(
                             lambda: link.execute("SELECT 1 FROM sagas.external_attempts").fetchall()
                         )
-                    relay.still = b"found AS MATERIALIZED"  # behind the lock
+                    relay.still = b"found AS MATERIALIZED"  # after the lock
                     claiming = asyncio.create_task(claimed(gone))
                     await until(relay.stands.is_set)
                     await until(lambda: claimed(store), 15)
@@ -1209,7 +1259,9 @@ def test_sessions_are_ended_by_the_server(url: str) -> None:
 
 
 def test_a_stranger_locks_a_table(url: str) -> None:
-    """For ten seconds: nothing is lost while nobody can write; a lease that runs out meanwhile costs nothing but time."""
+    """It lasts ten seconds: nothing is lost while no row can be written; a lease that expires in
+    the meantime costs only time.
+    """
     kind = pair()
 
     async def main() -> None:
@@ -1227,7 +1279,7 @@ def test_a_stranger_locks_a_table(url: str) -> None:
 
 
 def starved() -> float:
-    """For how many seconds this process's threads were ready and had no processor."""
+    """Return for how many seconds this process's threads were ready and had no processor."""
     total = 0
     for thread in pathlib.Path("/proc/self/task").iterdir():
         with contextlib.suppress(OSError):
@@ -1236,7 +1288,7 @@ def starved() -> float:
 
 
 class Turns:
-    """How long the event loop's longest turn was, without what others took of the processors."""
+    """The longest turn of the event loop, without the time that other processes had the processors."""
 
     def __init__(self) -> None:
         self.longest = 0.0
@@ -1257,7 +1309,7 @@ class Turns:
 
 
 def waits_in(url: str) -> bool:
-    """Whether somebody waits for a lock in this database."""
+    """Return whether a statement waits for a lock in this database."""
     text = (
         "SELECT 1 FROM pg_stat_activity "
         "WHERE datname = current_database() AND wait_event_type = 'Lock'"
@@ -1279,15 +1331,20 @@ READS: dict[str, Callable[[sagas.Store], Awaitable[Any]]] = {
     "log of a run": lambda store: sagas.Run(store, "k").log(),
     "plan of a run": lambda store: sagas.Run(store, "k").plan(),
 }
-"""All that reads."""
+"""All reads."""
 FREE = {"attempts": ["audit"], "suspensions": ["audit", "draw"]}
-"""What does not wait for a locked table, and starts a program, which takes the loop a while."""
+"""A read that does not wait for a locked table, and starts a program, which blocks the loop for a
+while.
+"""
 
 
 @pytest.mark.parametrize("table", ["sagas", "event_log", "attempts", "suspensions", "definitions"])
 def test_who_reads_holds_up_nobody(url: str, table: str) -> None:
-    """A stranger has a table for longer than a lease: the loop goes on while the store is asked for
-    whatever is in it, the node keeps its lease, and each answer comes once the table is free."""
+    """Another program locks a table for longer than a lease.
+
+    The loop continues while the store reads, the node keeps its lease, and each reply comes once
+    the table is free.
+    """
     kind, told = pair(), list[str]()
 
     async def main() -> None:
@@ -1321,8 +1378,9 @@ def test_who_reads_holds_up_nobody(url: str, table: str) -> None:
 
 
 def test_the_ends_of_many_sagas_at_once(postgresql: Server, url: str) -> None:
-    """They ended at another node: each who waits has the end of his own, also where connections are
-    cut meanwhile; a saga that is let go then is gone."""
+    """They ended at another node: each waiting caller gets the end of its own, also if connections
+    are cut in the meantime; a saga that is deleted then is gone.
+    """
     kind = simple(echo)
     keys = [f"k{number}" for number in range(600)]
 
@@ -1354,13 +1412,15 @@ def test_the_ends_of_many_sagas_at_once(postgresql: Server, url: str) -> None:
 
 
 async def echo(task: Task) -> Any:
-    """What it is given."""
+    """Return the input of the step."""
     return task.input
 
 
 def test_an_audit_in_the_background_holds_up_nobody(url: str) -> None:
-    """A settled log is to be audited, and a stranger has the table of its lines for longer than a
-    lease: the loop goes on, the lease is kept, and the log is closed once the table is free."""
+    """A finished log is to be audited, and another program locks the table of its lines for longer
+    than a lease: the loop continues, the lease is kept, and the log is closed once the table is
+    free.
+    """
     kind, told = pair(), list[str]()
 
     def tell(event: sagas.Event) -> None:
@@ -1386,11 +1446,13 @@ def test_an_audit_in_the_background_holds_up_nobody(url: str) -> None:
     assert told == ["shard_closed"]
 
 
-# -- clocks ----------------------------------------------------------------------------------------------------------
+# -- clocks
 
 
 def test_clocks_a_minute_apart_that_jump(url: str) -> None:
-    """Two nodes' clocks are two minutes apart and jump by a minute at each call: nobody's log is taken while he lives, and what goes over goes on."""
+    """Two nodes' clocks are two minutes apart and jump by a minute at each call: no live node's log
+    is taken, and a log that is handed over continues.
+    """
     clocks = {"late": -60.0, "early": 60.0}
     calls: Counter[str] = Counter()
     by: dict[str, str] = {}

@@ -1,5 +1,7 @@
-"""The tutorial on two nodes is run: a server, two nodes, a client; one node is killed, and the saga
-ends."""
+"""The tutorial on two nodes, executed: a server, two nodes, a client.
+
+One node is killed, and the saga ends.
+"""
 
 from __future__ import annotations
 
@@ -23,14 +25,14 @@ PAGE = (TOP / "docs/tutorials/cluster.md").read_text()
 
 
 def code(name: str) -> str:
-    """The block of the page that is to be saved under this name."""
+    """Return the block of the page that is to be saved under this name."""
     found = re.search(rf"as `{name}`:\n\n```python\n(.*?)^```$", PAGE, re.S | re.M)
     assert found, name
     return found[1]
 
 
 def test_two_nodes_and_a_client(url: str, postgresql: Server, tmp_path: pathlib.Path) -> None:
-    """As the page says: what the client prints, though the node that had the saga was killed."""
+    """The client prints what the page says, though the node that had the saga was killed."""
     for name in ("trip.py", "node.py", "client.py"):
         (tmp_path / name).write_text(code(name).replace("asyncio.sleep(10)", "asyncio.sleep(3)"))
     environment = os.environ | {
@@ -60,7 +62,7 @@ def test_two_nodes_and_a_client(url: str, postgresql: Server, tmp_path: pathlib.
         owner = None
         until = time.monotonic() + 120
         while owner is None and time.monotonic() < until:
-            # a start that no node has taken yet stands below the table
+            # a start that no node has taken yet is below the table
             table, _, _ = command("store", url, "nodes").stdout.partition("\n\n")
             owner = next(
                 (line.split()[0] for line in table.splitlines()[1:] if line.split()[-1] == "1"),

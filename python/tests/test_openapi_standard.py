@@ -1,5 +1,6 @@
-"""openapi.json is as the OpenAPI specification has it: each field of each object, and what its
-prose demands."""
+"""openapi.json conforms to the OpenAPI specification: each field of each object, and the rules in
+its prose.
+"""
 
 from __future__ import annotations
 
@@ -20,7 +21,7 @@ METHODS = ("get", "put", "post", "delete", "options", "head", "patch", "trace")
 
 
 def structure(document: Any) -> list[str]:
-    """What is wrong with the fields of a document."""
+    """Return the errors in the fields of a document."""
     return [*Checker().faults(document, Of("OpenAPI"), "")]
 
 
@@ -32,7 +33,7 @@ def operations(document: Any) -> Iterator[tuple[str, dict[str, Any]]]:
 
 
 def prose(document: Any) -> Iterator[str]:
-    """What is wrong by what the specification says of the fields in words."""
+    """Return the errors by the rules that the specification has in prose."""
     components = document["components"]
     ids, templates = list[str](), list[str]()
     tags = [one["name"] for one in document["tags"]]
@@ -87,7 +88,7 @@ def contents(operation: dict[str, Any]) -> Iterator[dict[str, Any]]:
 
 
 def test_the_rules_are_those_of_the_specification() -> None:
-    """The tables are read whole: all objects, with their fields, and those that must be there."""
+    """The tables are read whole: all objects, with their fields, and the required ones."""
     assert openapi_objects.TEXT.is_file(), "install it: apt-get install openapi-specification"
     rules = openapi_objects.read()
     assert len(rules) == 30 and {*rules["Info"].required} == {"title", "version"}
@@ -109,7 +110,7 @@ def test_the_rules_are_those_of_the_specification() -> None:
 
 
 def test_the_document_is_strictly_valid() -> None:
-    """Nothing of it is passed over: each operation, response and schema is looked at."""
+    """Nothing of it is skipped: each operation, response and schema is checked."""
     checker = Checker()
     assert [*checker.faults(DOCUMENT, Of("OpenAPI"), "")] == []
     assert [*prose(DOCUMENT)] == []
@@ -118,9 +119,9 @@ def test_the_document_is_strictly_valid() -> None:
 
 
 def test_the_official_validator_where_it_is_installed() -> None:
-    """`openapi-spec-validator` is no package of Debian's; where somebody has it, it agrees."""
+    """`openapi-spec-validator` is not a package of Debian's; if it is installed, it agrees."""
     if importlib.util.find_spec("openapi_spec_validator") is None:
-        assert structure(DOCUMENT) == []  # what holds without it
+        assert structure(DOCUMENT) == []  # the checks that work without it
         return
     module = importlib.import_module("openapi_spec_validator")
     (getattr(module, "validate", None) or module.validate_spec)(DOCUMENT)
@@ -153,7 +154,7 @@ WRONG: dict[str, tuple[str, Any, str]] = {
 
 @pytest.mark.parametrize("what", WRONG)
 def test_what_is_wrong_is_found(what: str) -> None:
-    """Each rule, by a document that breaks it."""
+    """Each rule finds a document that breaks it."""
     place, value, text = WRONG[what]
     document = copy.deepcopy(DOCUMENT)
     *parts, last = [part.replace("~", "/v1/sagas") for part in place.split("/")]

@@ -1,4 +1,4 @@
-"""What a function does, and what that means; and the tokens that it is handed."""
+"""The outcomes of functions, their effects, and the tokens that functions get."""
 
 from __future__ import annotations
 
@@ -23,7 +23,7 @@ import sagas.testing
 
 
 def test_returns(place: str) -> None:
-    """It is done, and its result is JSON."""
+    """The step is done, and its result is JSON."""
 
     async def main() -> sagas.SagaResult:
         saga = simple(lambda task: {"id": 7, "days": [1, 2]})
@@ -35,7 +35,7 @@ def test_returns(place: str) -> None:
 
 
 def test_returns_what_is_no_json(place: str, caplog: pytest.LogCaptureFixture) -> None:
-    """The effect is there and is not lost: it is kept as unstorable, with a warning."""
+    """The effect exists and is not lost: the result is kept as unstorable, with a warning."""
 
     async def main() -> sagas.SagaResult:
         saga = simple(lambda task: object())
@@ -54,7 +54,9 @@ HOWS = {"alone": {}, "in time": {"timeout": 60}, "in turn": {"concurrency": 1}}
 @pytest.mark.parametrize("how", HOWS)
 @pytest.mark.parametrize("waits", [False, True])
 def test_a_forgotten_await(tmp_path: pathlib.Path, how: str, waits: bool) -> None:
-    """What a function returns is awaited where it can be, as if the function had done it: its effect is there, what it raises counts, and its time too."""
+    """An awaitable that a function returns is awaited, as if the function had done it: its effect
+    exists, its exceptions count, and so does its time.
+    """
     told: list[int] = []
 
     async def book(task: Task) -> Any:
@@ -94,7 +96,7 @@ def test_a_forgotten_await(tmp_path: pathlib.Path, how: str, waits: bool) -> Non
 
 @pytest.mark.parametrize("plain", [False, True])
 def test_a_forgotten_await_has_its_time(tmp_path: pathlib.Path, plain: bool) -> None:
-    """Whoever takes longer has an outcome that nobody knows, also where another awaits it."""
+    """A call that takes longer has an unknown outcome, also if another coroutine awaits it."""
 
     async def slow(task: Task) -> None:
         await asyncio.sleep(60)
@@ -122,7 +124,9 @@ class Seat:
 
 
 def test_a_result_that_could_not_be_stored(place: str) -> None:
-    """It is never taken for one that could: a later step and the caller hear of it by a name; a compensation, which has to go on, sees what is kept."""
+    """It is never taken for a stored one: a later step and the caller get a named error; a
+    compensation, which must continue, sees what is kept.
+    """
     saga, told = sagas.Saga("odd"), list[str]()
 
     @saga.step
@@ -170,7 +174,7 @@ def test_a_result_that_could_not_be_stored(place: str) -> None:
 
 
 def test_a_set_crosses(place: str) -> None:
-    """As a list, which the hint makes a set again; `of` takes a step's name, too."""
+    """A set is stored as a list, which the hint makes a set again; `of` takes a step's name, too."""
     saga = sagas.Saga("sets")
 
     @saga.step
@@ -192,7 +196,9 @@ def test_a_set_crosses(place: str) -> None:
 
 
 def test_a_result_that_is_not_of_its_type(place: str) -> None:
-    """What could not be stored, or a person said, is told as it is kept: who waits, or asks for what is stuck, hears of it all the same."""
+    """An unstorable result, or an operator's, is returned as it is kept: a caller that waits, or
+    lists stuck sagas, gets it anyway.
+    """
     saga = sagas.Saga("typed")
 
     @saga.step
@@ -226,7 +232,10 @@ def test_a_result_that_is_not_of_its_type(place: str) -> None:
 
 
 def test_raises(place: str, caplog: pytest.LogCaptureFixture) -> None:
-    """It has had no effect: as many tries as it has, then it has failed. Each miss is a warning, the last with the function's traceback."""
+    """It has had no effect: after all its tries it has failed.
+
+    Each failed attempt is a warning, the last one with the function's traceback.
+    """
     attempts: list[int] = []
 
     def fails(task: Task) -> None:
@@ -243,7 +252,7 @@ def test_raises(place: str, caplog: pytest.LogCaptureFixture) -> None:
     assert end.errors == {"a": "ValueError: no"} and str(end).endswith(
         "failed    a: ValueError: no"
     )
-    assert run(main()) == end  # it is over: what is told is read from the store
+    assert run(main()) == end  # it is over: the reply is read from the store
     told = [record for record in caplog.records if record.name == "sagas"]
     assert [record.levelname for record in told] == 3 * ["WARNING"]
     assert [record.exc_info is None for record in told] == [True, True, False]
@@ -253,7 +262,7 @@ def test_raises(place: str, caplog: pytest.LogCaptureFixture) -> None:
 
 @pytest.mark.parametrize("group", [False, True], ids=["alone", "in a group"])
 def test_raises_fail(place: str, group: bool) -> None:
-    """No more tries: those that are left are reported without a call."""
+    """There are no more tries: the remaining ones are reported without a call."""
     attempts: list[int] = []
 
     async def fails(task: Task) -> None:
@@ -288,7 +297,9 @@ GROUP = ExceptionGroup(
     ids=lambda error: type(error).__name__,
 )
 def test_raises_unknown(place: str, error: Exception) -> None:
-    """Nobody knows: the same attempt again, with the same token, and nothing is reported; by default for timeouts and lost connections. The log says how often."""
+    """The outcome is unknown: the same attempt runs again, with the same token, and nothing is
+    reported; by default for timeouts and lost connections. The log has the number.
+    """
     tokens: list[str] = []
     told: list[str] = []
 
@@ -316,11 +327,13 @@ def test_raises_unknown(place: str, error: Exception) -> None:
 
 
 def test_a_failure_that_came_from_a_timeout(place: str) -> None:
-    """As clients raise it, from their own exceptions: it is a failure, and the log says what to declare where nobody knows."""
+    """Clients raise it from their own exceptions: it is a failure, and the log says what to declare
+    for an unknown outcome.
+    """
     told: list[str] = []
 
     class Late(Exception):
-        """A client's own."""
+        """An exception of a client."""
 
     def asks(task: Task) -> None:
         try:
@@ -353,7 +366,10 @@ def test_a_failure_that_came_from_a_timeout(place: str) -> None:
 def test_a_function_that_holds_the_loop(
     tmp_path: pathlib.Path, caplog: pytest.LogCaptureFixture, monkeypatch: pytest.MonkeyPatch
 ) -> None:
-    """It is named in the log, once: it returned, raised or waited behind that. One in a thread holds nobody up, nor does one that waits."""
+    """It is named in the log, once: it returned, raised or waited after that.
+
+    A function in a thread blocks nothing, nor does one that waits.
+    """
     monkeypatch.setattr("sagas.runtime.dispatcher.LONG", 0.1)
     saga = sagas.Saga("shop")
 
@@ -402,7 +418,9 @@ def test_a_function_that_holds_the_loop(
 
 
 def test_unknown_waits_for_its_back_off(place: str) -> None:
-    """The same attempt is made again once that is over, also where another program has the store by then."""
+    """The same attempt is made again once that is over, also if another program has the store by
+    then.
+    """
     clock = sagas.testing.Clock(datetime.datetime.now(datetime.timezone.utc))
     tokens: list[str] = []
 
@@ -432,7 +450,7 @@ def test_unknown_waits_for_its_back_off(place: str) -> None:
 
 
 def test_takes_longer_than_its_time(place: str) -> None:
-    """A timeout is no failure: its effect could be lost. The same attempt is made again."""
+    """A timeout is not a failure: its effect could be lost. The same attempt is made again."""
     tokens: list[str] = []
 
     async def slow(task: Task) -> int:
@@ -454,7 +472,9 @@ def test_takes_longer_than_its_time(place: str) -> None:
     indirect=["place"],
 )
 def test_unknown_for_too_long_waits_for_a_person(place: str, most: Any, done: bool) -> None:
-    """`max_unknown` bounds it; then it stands in `store.unknown()`, and a person says done or failed, also after a restart."""
+    """`max_unknown` bounds it; then it is listed in `store.unknown()`, and an operator reports
+    success or failure, also after a restart.
+    """
     calls: list[str] = []
 
     def lost(task: Task) -> None:
@@ -489,7 +509,7 @@ def test_unknown_for_too_long_waits_for_a_person(place: str, most: Any, done: bo
 
 
 def test_ends_well_after_its_time_in_a_thread(place: str) -> None:
-    """It is done; that it is late is told, and how long it took."""
+    """It is done; the log reports that it is late, and how long it took."""
     calls: list[str] = []
     told: list[sagas.Event] = []
 
@@ -529,7 +549,9 @@ def test_plain_functions_run_in_threads(tmp_path: pathlib.Path) -> None:
 
 
 def test_tokens(place: str) -> None:
-    """The effect token is the same over all tries, the token is not; a compensation has its own, and that of what it undoes."""
+    """The effect token is the same over all tries, the token is not; a compensation has its own,
+    and that of the action that it undoes.
+    """
     tasks: list[Task] = []
     saga = sagas.Saga("row")
 

@@ -1,4 +1,7 @@
-"""README.md is run: installed from a checkout into an empty environment, its code saved, each command given, each output compared."""
+"""README.md, executed: installed from a checkout into an empty environment.
+
+Its code is saved, each command is run, and each output compared.
+"""
 
 from __future__ import annotations
 
@@ -27,7 +30,9 @@ INTERPRETER = 3
 
 @pytest.fixture(scope="module")
 def folder(tmp_path_factory: pytest.TempPathFactory) -> pathlib.Path:
-    """An empty folder with the package beside it, and `python`, `pip` and `sagas` of an environment that has it installed by the page's first command."""
+    """Return an empty folder next to the package, with `python`, `pip` and `sagas` of an
+    environment. The page's first command has installed the package there.
+    """
     folder = tmp_path_factory.mktemp("page")
     subprocess.run(
         [sys.executable, "-m", "venv", "--without-pip", "environment"], cwd=folder, check=True
@@ -57,7 +62,7 @@ def clean() -> dict[str, str]:
 
 
 def shell(folder: pathlib.Path, command: str) -> str:
-    """What a command prints; unbuffered, so that what was printed before a kill is there."""
+    """Return the output of a command; unbuffered, so that it has what was printed before a kill."""
     path = f"{folder / 'environment/bin'}:{os.environ['PATH']}"
     env = clean() | {"PATH": path, "PYTHONUNBUFFERED": "1"}
     return subprocess.run(
@@ -72,13 +77,13 @@ def shell(folder: pathlib.Path, command: str) -> str:
 
 
 def blocks(language: str, page: str = PAGE) -> list[str]:
-    """The blocks of a page that are of this language."""
+    """Return the blocks of a page that are of this language."""
     found = re.findall(r"^```(\w*)\n(.*?)^```$", page, re.S | re.M)
     return [text for told, text in found if told == language]
 
 
 def commands() -> list[tuple[str, str]]:
-    """Each command of the page, with what it prints."""
+    """Return each command of the page, with its output."""
     found = []
     for block in blocks(""):
         for part in re.split(r"^\$ ", block, flags=re.M)[1:]:
@@ -99,7 +104,7 @@ def test_the_page(folder: pathlib.Path) -> None:
 def test_the_guide_to_steps() -> None:
     """Its fragments declare what it says they do."""
     guide = (PACKAGE.parent / "docs/guides/steps.md").read_text()
-    calls = ("open_sync", "await ")  # of a store, which there is none of here
+    calls = ("open_sync", "await ")  # of a store, which does not exist here
     fragments = [
         code for code in blocks("python", guide) if not any(word in code for word in calls)
     ]
@@ -131,7 +136,7 @@ def test_the_commands(folder: pathlib.Path) -> None:
 
 
 def test_the_help(folder: pathlib.Path) -> None:
-    """Also where what PostgreSQL and Celery need is not installed."""
+    """This holds also if the dependencies for PostgreSQL and Celery are not installed."""
     told = shell(
         folder,
         (
@@ -149,7 +154,7 @@ def test_the_help(folder: pathlib.Path) -> None:
 
 @pytest.fixture
 def wheels(monkeypatch: pytest.MonkeyPatch) -> Iterator[Any]:
-    """What builds the wheels."""
+    """Return the module that builds the wheels."""
     monkeypatch.syspath_prepend(str(PACKAGE / "packaging"))
     yield importlib.import_module("wheels")
     sys.modules.pop("wheels", None)
@@ -160,7 +165,8 @@ def test_a_wheel_and_an_archive(
     tmp_path: pathlib.Path, wheels: Any, processor: str, machine: int
 ) -> None:
     """`pip wheel` needs no network; the archive builds the same wheel; the same sources give the
-    same bytes. It is for glibc and musl, and has its processor's files."""
+    same bytes. The wheel is for glibc and musl, and has its processor's files.
+    """
     first, second = (tmp_path / name for name in ("first", "second"))
     for place in (first, second):
         place.mkdir()
@@ -189,7 +195,7 @@ def test_a_wheel_and_an_archive(
 
 
 def asks_for_a_loader(program: bytes) -> bool:
-    """Whether a program of 64 bits names a loader: one that is linked statically does not."""
+    """Return whether a 64-bit program names a loader: a statically linked one does not."""
     (start,), (size, count) = (
         struct.unpack_from(form, program, at) for form, at in (("<Q", 32), ("<HH", 54))
     )
@@ -198,7 +204,9 @@ def asks_for_a_loader(program: bytes) -> bool:
 
 
 def check_license(wheel: pathlib.Path) -> None:
-    """The wheel has the license's text, and its metadata name the license and the authors."""
+    """Check that the wheel has the license's text, and its metadata name the license and the
+    authors.
+    """
     with zipfile.ZipFile(wheel) as archive:
         told = "-".join(wheel.name.split("-")[:2]) + ".dist-info"
         metadata = archive.read(f"{told}/METADATA").decode().partition("\n\n")[0].splitlines()
@@ -208,7 +216,7 @@ def check_license(wheel: pathlib.Path) -> None:
 
 
 def elsewhere(monkeypatch: pytest.MonkeyPatch, system: str, machine: str) -> str:
-    """Makes the build believe that it is on another machine; gives how that is told."""
+    """Make the build believe that it is on another machine; return the text that names it."""
     monkeypatch.setattr(platform, "system", lambda: system)
     monkeypatch.setattr(platform, "machine", lambda: machine)
     return re.escape(f"{system} on {machine}")
@@ -233,7 +241,7 @@ def test_a_machine_that_gets_no_engine(
     compiler: str,
     said: str,
 ) -> None:
-    """No wheel is left, and a sentence says why, and what helps."""
+    """No wheel is left, and a sentence gives the reason and the remedy."""
     told = elsewhere(monkeypatch, system, machine)
     monkeypatch.setenv("CC", compiler)
     with pytest.raises(SystemExit, match=said.format(told)):
@@ -260,9 +268,10 @@ print(sagas.plan(order.toml(), '{"states":["committed","failed"]}').yes)
 def test_a_machine_that_compiles_its_engine(
     tmp_path: pathlib.Path, wheels: Any, monkeypatch: pytest.MonkeyPatch
 ) -> None:
-    """Where no program was released for a processor, the wheel has one that the machine's compiler
-    has made of the C file, with a tag for this machine alone; the package drives sagas by it. (It
-    is compiled without optimization here, which takes a third of the time.)"""
+    """If no program was released for a processor, the wheel has one that the machine's compiler
+    made of the C file, with a tag for this machine only. The package drives sagas with it. (It is
+    compiled without optimization here, which takes a third of the time.)
+    """
     compiler = tmp_path / "compiler"
     compiler.write_text('#!/bin/sh\nexec cc "$@" -O0\n')
     compiler.chmod(0o755)

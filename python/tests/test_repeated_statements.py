@@ -1,4 +1,4 @@
-"""The connection that repeats prepared statements: how it ends, and how it is renewed."""
+"""The connection that repeats prepared statements: its end, and its renewal."""
 
 from __future__ import annotations
 
@@ -23,12 +23,12 @@ SELECT 1 FROM pg_stat_activity WHERE datname = current_database() AND query LIKE
 
 
 async def are_gone(asker: Asker) -> bool:
-    """Whether no connection of this kind is open."""
+    """Return whether no connection of this kind is open."""
     return not await asker.ask(OTHERS)
 
 
 async def opened(url: str) -> tuple[Asker, Kept]:
-    """A pool, and a connection that is attached to it."""
+    """Return a pool, and a connection that is attached to it."""
     asker, kept = Asker(url, "here", 2), Kept(url, "here")
     asker.attach(kept)
     await asker.open()
@@ -36,7 +36,7 @@ async def opened(url: str) -> tuple[Asker, Kept]:
 
 
 def test_what_is_under_way_is_answered_before_the_end(url: str) -> None:
-    """Nothing can be asked afterwards."""
+    """Later statements are refused."""
 
     async def main() -> None:
         asker, kept = await opened(url)
@@ -68,7 +68,7 @@ def test_one_that_is_closed_while_it_connects(url: str) -> None:
 
 
 def test_another_server_has_taken_over(url: str) -> None:
-    """What is under way fails at once. The next statement connects again."""
+    """Statements in progress fail at once. The next statement connects again."""
 
     async def main() -> None:
         asker, kept = await opened(url)
@@ -85,7 +85,7 @@ def test_another_server_has_taken_over(url: str) -> None:
 
 
 def test_a_connection_that_the_server_ends(url: str) -> None:
-    """It is noticed while nothing is asked, so the next statement does not fail."""
+    """It is noticed between statements, so the next one does not fail."""
 
     async def main() -> None:
         asker, kept = await opened(url)

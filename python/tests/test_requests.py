@@ -1,4 +1,4 @@
-"""A request is done to the saga that it was asked of, and to no later one of its key."""
+"""A request is executed for the saga that it was made for, and for no later one of its key."""
 
 from __future__ import annotations
 
@@ -22,7 +22,7 @@ WAITS_FOR_ROW = (
 
 
 def signed() -> sagas.Saga:
-    """One step, which waits for an approval."""
+    """Return a saga of one step, which waits for an approval."""
     signed = sagas.Saga("signed")
 
     @signed.approval
@@ -34,7 +34,7 @@ def signed() -> sagas.Saga:
 
 @pytest.fixture
 def kind(url: str) -> sagas.Saga:
-    """A saga whose store has its tables, and no node."""
+    """Return a saga whose store has its tables, and no node."""
 
     async def made() -> None:
         async with sagas.open(url, [kind]):
@@ -47,27 +47,27 @@ def kind(url: str) -> sagas.Saga:
 
 @pytest.fixture
 def link(url: str) -> Iterator[psycopg.Connection[Any]]:
-    """A stranger's connection, which commits each statement."""
+    """Return a connection outside of the package, which commits each statement."""
     with psycopg.connect(url, autocommit=True, options="-c search_path=sagas") as link:
         yield link
 
 
 def one(link: psycopg.Connection[Any], text: str) -> Any:
-    """The one value of a query."""
+    """Return the single value of a query."""
     row = link.execute(text.encode()).fetchone()
     assert row
     return row[0]
 
 
 def asked(link: psycopg.Connection[Any]) -> int:
-    """How many requests nobody has answered."""
+    """Return how many requests have no reply."""
     of_sagas = "SELECT count(*) FROM operator_commands WHERE answer IS NULL"
     of_starts = "SELECT coalesce(sum(jsonb_array_length(commands)), 0) FROM pending_starts"
     return int(one(link, of_sagas) + one(link, of_starts))
 
 
 async def waits_for_a_person(url: str, store: sagas.Store, key: str) -> None:
-    """The saga is asked for, and nothing that was asked before is done to it."""
+    """Check that the saga waits for its approval, and that no earlier request is executed for it."""
     await until(lambda: [held.waits for held in store.active_attempts(key)] == ["approval"], 30)
     await store.complete(key, "sign", "by hand")
     end = await store.wait(key)
@@ -80,8 +80,9 @@ async def waits_for_a_person(url: str, store: sagas.Store, key: str) -> None:
 def test_who_asked_is_gone_when_another_saga_has_the_key(
     url: str, link: psycopg.Connection[Any], kind: sagas.Saga, by: str, what: str, same: bool
 ) -> None:
-    """What was asked of a start is on its way to the server; the start is withdrawn, who asked is
-    cancelled, and another start has the key: nothing is done to that one."""
+    """A request for a start is in transit to the server; the start is withdrawn, the caller is
+    cancelled, and another start has the key: the request is not executed for that one.
+    """
     other = sagas.Saga("other")
 
     @other.step
@@ -95,9 +96,8 @@ def test_who_asked_is_gone_when_another_saga_has_the_key(
         stranger = await psycopg.AsyncConnection.connect(url, options="-c search_path=sagas")
         async with sagas.Client(url) as client, sagas.open(url, [other]) as store, stranger:
             await client.start(kind, "k", "first")
-            link.execute(
-                "UPDATE pending_starts SET node = (SELECT node FROM nodes)"
-            )  # it is not taken back
+            # it is not withdrawn
+            link.execute("UPDATE pending_starts SET node = (SELECT node FROM nodes)")
             await stranger.execute("LOCK TABLE operator_commands, pending_starts IN EXCLUSIVE MODE")
             asking = asyncio.create_task(ask(client if by == "client" else store))
             await until(lambda: one(link, BLOCKED))
@@ -117,8 +117,10 @@ def test_who_asked_is_gone_when_another_saga_has_the_key(
 def test_a_start_of_the_same_key_is_not_taken_back(
     url: str, link: psycopg.Connection[Any], kind: sagas.Saga
 ) -> None:
-    """An abort waits for the node that has taken the start. That start is let go, and another one
-    has the key, which no node has taken: it stays."""
+    """An abort waits for the node that has taken the start.
+
+    That start is deleted, and another one has the key, which no node has taken: it stays.
+    """
 
     async def main() -> None:
         async with sagas.Client(url) as client:
@@ -141,7 +143,7 @@ def test_a_start_of_the_same_key_is_not_taken_back(
 def test_what_is_asked_of_a_start_is_asked_of_its_saga(
     url: str, link: psycopg.Connection[Any], kind: sagas.Saga, what: str
 ) -> None:
-    """Who asked is gone before a node comes; it is done all the same, once."""
+    """The caller is gone before a node comes; the request is executed anyway, once."""
 
     async def main() -> None:
         async with sagas.Client(url) as client:
@@ -162,8 +164,9 @@ def test_what_is_asked_of_a_start_is_asked_of_its_saga(
 def test_what_is_asked_while_a_start_is_opened(
     url: str, link: psycopg.Connection[Any], kind: sagas.Saga
 ) -> None:
-    """A node's commit opens the saga, and what is asked meanwhile waits for that commit: it is
-    asked of the saga, and answered."""
+    """A node's commit opens the saga, and a request that comes in the meantime waits for that
+    commit: it is made for the saga, and gets its reply.
+    """
 
     async def main() -> None:
         async with sagas.Client(url) as client, sagas.open(url, [kind]) as store:
@@ -185,7 +188,7 @@ def test_what_is_asked_while_a_start_is_opened(
 def test_what_was_asked_of_a_saga_that_is_gone(
     url: str, link: psycopg.Connection[Any], kind: sagas.Saga
 ) -> None:
-    """It is done to no other saga of its key, and goes with its own."""
+    """It is executed for no other saga of its key, and deleted with its own."""
     text = (
         "INSERT INTO operator_commands(key, command, value, at, saga) VALUES ('k', 'abort', 'null',"
         " 0, 5000)"
@@ -195,9 +198,8 @@ def test_what_was_asked_of_a_saga_that_is_gone(
         async with sagas.open(url, [kind]) as store:
             await store.start(kind, "k")
             link.execute(text)
-            await asyncio.to_thread(
-                store_command.main, [url, "abort", "nobody"]
-            )  # the nodes hear of it
+            # the nodes are notified
+            await asyncio.to_thread(store_command.main, [url, "abort", "nobody"])
             await waits_for_a_person(url, store, "k")
             with pytest.raises(sagas.NoSuchSaga):
                 await store._commands.abort("k", None, of=5000)
@@ -212,8 +214,9 @@ def test_what_was_asked_of_a_saga_that_is_gone(
 def test_who_asks_of_a_saga_that_is_let_go(
     url: str, link: psycopg.Connection[Any], kind: sagas.Saga
 ) -> None:
-    """The saga goes while something is asked of it: nothing of that is left, and a saga that has
-    the key by then is not asked."""
+    """The saga is deleted while a request is made: nothing is left of it, and a saga that has the
+    key by then does not get it.
+    """
 
     async def main() -> None:
         async with sagas.open(url, [kind]) as store:
@@ -242,8 +245,9 @@ def test_who_asks_of_a_saga_that_is_let_go(
 def test_what_is_asked_as_a_start_with_a_large_input_becomes_a_saga(
     url: str, link: psycopg.Connection[Any], kind: sagas.Saga, by: str, what: str, tmp_path: Path
 ) -> None:
-    """The commit that opens the saga, whose input is a blob there, comes between the look of who
-    asks and what is asked: that is asked of the saga."""
+    """The commit that opens the saga, whose input is then a blob, comes between the caller's look
+    and its request: the request is made for the saga.
+    """
     blobs, other = sagas.FolderBlobStore(tmp_path / "blobs"), sagas.Saga("other")
     other.step(lambda task: None, name="x")
 

@@ -1,4 +1,6 @@
-"""Ended sagas are let go with their log, exported before where that is wished, over both kinds of database."""
+"""Ended sagas are deleted with their log, exported before if requested, over both kinds of
+database.
+"""
 
 from __future__ import annotations
 
@@ -37,12 +39,12 @@ MONTH = 30 * 86400.0
 
 @pytest.fixture(autouse=True)
 def small(monkeypatch: pytest.MonkeyPatch) -> None:
-    """Logs of four sagas, so that some are full and closed."""
+    """Make logs of four sagas, so that some are full and closed."""
     monkeypatch.setattr("sagas.definition.shelf.SHARD_CAPACITY", ROOM)
 
 
 def shop() -> sagas.Saga:
-    """Ends well, is undone or is stuck, by its input."""
+    """Return a saga that ends well, is undone or is stuck, by its input."""
     shop = sagas.Saga("shop")
 
     @shop.step(undo=1, keep=5)
@@ -64,7 +66,9 @@ def shop() -> sagas.Saga:
 
 
 def must() -> sagas.Saga:
-    """Is stuck where its input says so: what cannot be undone may not stand."""
+    """Return a saga that is stuck if its input says so: a step that cannot be undone must not be
+    kept.
+    """
     must = sagas.Saga("must")
 
     @must.step(undo=1, keep=sagas.NEVER)
@@ -84,7 +88,7 @@ def must() -> sagas.Saga:
 
 
 def change(place: str, statement: str) -> None:
-    """Changes rows as nobody but a test does."""
+    """Change rows, as only a test does."""
     if place.startswith("postgresql:"):
         with psycopg.connect(place, options="-csearch_path=sagas") as link:
             link.execute(statement)
@@ -95,7 +99,7 @@ def change(place: str, statement: str) -> None:
 
 
 def age(place: str, *logs: int, days: int = 40) -> None:
-    """The sagas of these logs ended that long ago."""
+    """Set the time at which the sagas of these logs ended."""
     for log in logs:
         change(
             place,
@@ -109,7 +113,9 @@ def age(place: str, *logs: int, days: int = 40) -> None:
 async def fill(
     place: str, kind: sagas.Saga, count: int, given: Callable[[int], Any] = lambda number: None
 ) -> list[int]:
-    """Sagas that are over, in logs that are closed but for the last; gives the numbers of those that are closed."""
+    """Run sagas to their end, in logs that are closed except for the last; return the numbers of
+    the closed ones.
+    """
     async with sagas.open(place, [kind]) as store:
         for number in range(count):
             await ended(store, kind, f"k{number}", given(number))
@@ -120,7 +126,7 @@ async def fill(
 
 
 def tables(place: str) -> dict[str, int]:
-    """How many rows each table has."""
+    """Return how many rows each table has."""
     with contextlib.closing(admin.connect(place)) as link:
         return {
             table: link.ask(f"SELECT count(*) FROM {table}")[0][0]
@@ -139,14 +145,15 @@ def tables(place: str) -> dict[str, int]:
 def test_old_logs_go_as_a_whole_and_their_keys_are_free(
     place: str, capsys: pytest.CaptureFixture[str]
 ) -> None:
-    """What is younger, open or not closed stays; of what goes nothing is left; a key that is free takes another input."""
+    """Younger, open and unclosed ones stay; nothing is left of a deleted one; a free key takes
+    another input.
+    """
     kind = shop()
     first, second, third = run(fill(place, kind, 3 * ROOM + 2))
     open = max(records.read(place).logs)
     age(place, first, second, open)
-    change(
-        place, f"UPDATE sagas SET ended = ended + 86400 * 39 WHERE id = {1000 * second}"
-    )  # one of its sagas is younger
+    # one of its sagas is younger
+    change(place, f"UPDATE sagas SET ended = ended + 86400 * 39 WHERE id = {1000 * second}")
     change(
         place,
         (
@@ -196,7 +203,7 @@ def test_old_logs_go_as_a_whole_and_their_keys_are_free(
 
 
 def test_what_a_person_has_to_see_stays(place: str) -> None:
-    """A log with a stuck saga that nobody has resolved, and one whose audit said no."""
+    """They are a log with a stuck saga that is not resolved, and one whose audit failed."""
     kind = must()
 
     async def main() -> None:
@@ -215,7 +222,7 @@ def test_what_a_person_has_to_see_stays(place: str) -> None:
 
 
 def test_a_compensation_that_failed_stays(place: str) -> None:
-    """Its log is kept until somebody has resolved it, as one with a saga that is stuck."""
+    """Its log is kept until an operator has resolved it, as one with a stuck saga is."""
     kind = sagas.Saga("row")
     take = kind.step(name="take", keep=9, undo=0)(lambda task: None)
 
@@ -240,7 +247,9 @@ def test_a_compensation_that_failed_stays(place: str) -> None:
 
 
 def test_an_export_is_what_the_audit_judges(place: str, tmp_path: pathlib.Path) -> None:
-    """Log and definitions, keys with inputs and results, and each plan with its certificate, as the program judges them."""
+    """It has log and definitions, keys with inputs and results, and each plan with its certificate,
+    as the program judges them.
+    """
     kind, folder = shop(), tmp_path / "archive"
     logs = run(fill(place, kind, ROOM, lambda number: "fails" if number % 2 else None))
     age(place, *logs)
@@ -284,7 +293,7 @@ def test_an_export_is_what_the_audit_judges(place: str, tmp_path: pathlib.Path) 
 def test_nothing_goes_that_cannot_be_exported(
     place: str, tmp_path: pathlib.Path, capsys: pytest.CaptureFixture[str]
 ) -> None:
-    """A folder that cannot be made: the command says so, and the log stays."""
+    """The folder cannot be made: the command reports that, and the log stays."""
     logs = run(fill(place, shop(), ROOM))
     age(place, *logs)
     (tmp_path / "file").touch()
@@ -328,7 +337,9 @@ KILLED = """
 
 
 def test_a_run_that_is_killed(place: str, tmp_path: pathlib.Path) -> None:
-    """In the middle of the export, or before each statement: the log is there as a whole until it is gone as a whole, and then the export is whole."""
+    """It is killed during the export, or before each statement: the whole log exists until it is
+    deleted as a whole, and then the export is complete.
+    """
     logs = run(fill(place, shop(), ROOM))
     age(place, *logs)
     before, rows = records.read(place), tables(place)
@@ -350,7 +361,7 @@ def test_a_run_that_is_killed(place: str, tmp_path: pathlib.Path) -> None:
 
 
 def files(folder: pathlib.Path) -> dict[str, str]:
-    """What is in a folder."""
+    """Return the files of a folder."""
     return {
         str(path.relative_to(folder)): path.read_text()
         for path in folder.rglob("*")
@@ -361,7 +372,9 @@ def files(folder: pathlib.Path) -> dict[str, str]:
 def test_one_run_at_a_time(
     place: str, tmp_path: pathlib.Path, capsys: pytest.CaptureFixture[str]
 ) -> None:
-    """While one is at work another one says so, and deletes and writes nothing; afterwards it does."""
+    """While one is running another one reports that, and deletes and writes nothing; afterwards it
+    does.
+    """
     logs = run(fill(place, shop(), ROOM))
     age(place, *logs)
     words = [place, "prune", "--older-than", "30d", "--export", str(tmp_path / "archive")]
@@ -376,7 +389,10 @@ def test_one_run_at_a_time(
 
 
 def test_a_log_goes_while_it_is_exported(place: str, tmp_path: pathlib.Path) -> None:
-    """What is written is of one moment: all of the log; later nothing is, and what was written stays."""
+    """The export is of one moment: all of the log.
+
+    A later export has nothing, and the first one stays.
+    """
     (log,) = run(fill(place, shop(), ROOM))
     kind = admin.Base if place.startswith("postgresql:") else admin.File
     overtaken, ask, folder = kind(place, "rw"), kind.ask, tmp_path / "archive"
@@ -400,7 +416,7 @@ def test_a_log_goes_while_it_is_exported(place: str, tmp_path: pathlib.Path) -> 
 
 
 def test_a_forked_child_keeps_no_archive(tmp_path: pathlib.Path) -> None:
-    """Who forks while a log is written hinders no later one."""
+    """A process that forks while a log is written does not block a later one."""
     reader, writer = os.pipe()
     with archive._locked(tmp_path):
         child = os.fork()
@@ -418,7 +434,9 @@ def test_a_forked_child_keeps_no_archive(tmp_path: pathlib.Path) -> None:
 
 
 def test_a_run_takes_no_more_than_its_most(place: str) -> None:
-    """In order of the logs' numbers, and the rest in further runs; by itself 100,000 sagas."""
+    """It goes in order of the logs' numbers, and the rest follows in further runs; the default is
+    100,000 sagas.
+    """
     assert retention.MOST == 100_000
     logs = run(fill(place, shop(), 3 * ROOM))
     age(place, *logs)
@@ -440,7 +458,7 @@ def test_a_clock_that_is_put_forward_lets_nothing_go(place: str) -> None:
 
 
 def test_an_open_store_lets_them_go(place: str, tmp_path: pathlib.Path) -> None:
-    """`retention` and `archive_dir`, while sagas are started: a node says what went."""
+    """`retention` and `archive_dir` work while sagas are started: a node reports what was deleted."""
     kind = shop()
     told: list[sagas.Event] = []
 
@@ -466,7 +484,9 @@ def test_an_open_store_lets_them_go(place: str, tmp_path: pathlib.Path) -> None:
 
 
 def test_a_start_feels_no_lock_of_it(url: str) -> None:
-    """A log is being deleted, and that is not committed: sagas are started and end; another run goes past."""
+    """A log is being deleted, and that is not committed: sagas are started and end; another run
+    skips it.
+    """
     kind = shop()
 
     async def main() -> None:
@@ -488,7 +508,7 @@ def test_a_start_feels_no_lock_of_it(url: str) -> None:
 
 
 def waits_for_a_lock(url: str) -> bool:
-    """Whether somebody does, in this database."""
+    """Return whether a statement waits for a lock in this database."""
     text = (
         "SELECT 1 FROM pg_locks JOIN pg_database d ON d.oid = database "
         "WHERE NOT granted AND datname = current_database()"
@@ -502,7 +522,7 @@ ASKS: dict[str, Callable[[Any], Any]] = {
     "log": lambda asked: asked.log("k0"),
     "plan": lambda asked: asked.plan("k0"),
 }
-"""What is asked of a saga."""
+"""The reads of a saga."""
 
 
 @pytest.mark.parametrize(
@@ -511,8 +531,10 @@ ASKS: dict[str, Callable[[Any], Any]] = {
 )
 @pytest.mark.parametrize("who", ["client", "node"])
 def test_a_saga_that_goes_while_it_is_read(url: str, who: str, table: str, ask: str) -> None:
-    """Its row was read, and its log is deleted before the rest is: it is said to be gone, and is
-    not told with results of None, without events or as one without a plan."""
+    """Its row was read, and its log is deleted before the rest is: the error says that it is gone.
+
+    It is never returned with results of None, without events or without its plan.
+    """
     kind = shop()
 
     async def main() -> None:
@@ -539,7 +561,7 @@ FROM sagas WHERE key = 'k1'
 
 
 def test_a_saga_that_goes_while_it_is_looked_at(url: str) -> None:
-    """As above, of all that is kept of it; another saga that has the key by then is seen."""
+    """The same holds for all of its data; another saga that has the key by then is returned."""
     kind = shop()
 
     async def main() -> None:

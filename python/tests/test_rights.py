@@ -1,4 +1,6 @@
-"""Files that this user may not read or write, and files that are no store: what is said of them, and what is left beside them."""
+"""Files that this user may not read or write, and files that are not a store: the errors, and no
+files left.
+"""
 
 from __future__ import annotations
 
@@ -25,8 +27,9 @@ REMEDY = "this user must be able to read and write it, and to write to its folde
 
 @pytest.fixture(autouse=True)
 def reachable(monkeypatch: pytest.MonkeyPatch) -> Iterator[None]:
-    """Lets another user run the program and the package, also if the checkout is in a home folder:
-    the program is copied, and all modules are imported before."""
+    """Let another user run the program and the package, also if the checkout is in a home folder:
+    the program is copied, and all modules are imported before.
+    """
     for module in pkgutil.walk_packages(sagas.__path__, "sagas."):
         if not module.name.endswith("__main__") and ".celery" not in module.name:
             importlib.import_module(module.name)
@@ -40,7 +43,7 @@ def reachable(monkeypatch: pytest.MonkeyPatch) -> Iterator[None]:
 
 @contextlib.contextmanager
 def another() -> Iterator[None]:
-    """As a user without root's rights."""
+    """Become a user without root's rights."""
     if os.geteuid() != 0:
         yield
         return
@@ -53,7 +56,7 @@ def another() -> Iterator[None]:
 
 @pytest.fixture
 def store() -> Iterator[pathlib.Path]:
-    """A store in a folder that others may look into."""
+    """Return a store in a folder that others may look into."""
     with tempfile.TemporaryDirectory() as name:
         folder = pathlib.Path(name)
         folder.chmod(0o755)
@@ -62,7 +65,7 @@ def store() -> Iterator[pathlib.Path]:
 
 
 async def used(path: pathlib.Path) -> None:
-    """Opens a store, and runs a saga there if it has not run."""
+    """Open a store, and run a saga there if it has not run."""
     async with sagas.open(path, [SAGA]) as store:
         assert (await ended(store, SAGA)).ok
 
@@ -70,7 +73,7 @@ async def used(path: pathlib.Path) -> None:
 def test_the_command_says_what_it_may_not(
     store: pathlib.Path, capsys: pytest.CaptureFixture[str]
 ) -> None:
-    """A file that cannot be read, or a folder that cannot be looked into: one line, with the remedy."""
+    """For an unreadable file or folder it prints one line, with the remedy."""
     store.chmod(0)
     with another():
         for words in (["list"], ["abort", "k"], ["audit"]):
@@ -94,7 +97,7 @@ def test_the_command_says_what_it_may_not(
 def test_the_command_tells_of_what_is_spoilt(
     store: pathlib.Path, capsys: pytest.CaptureFixture[str]
 ) -> None:
-    """A file that turns out to be no whole database is told of in one line as well."""
+    """A file that turns out to be a damaged database is reported in one line as well."""
     data = bytearray(store.read_bytes())
     data[4096:] = b"\xff" * (len(data) - 4096)
     store.write_bytes(data)
@@ -105,7 +108,9 @@ def test_the_command_tells_of_what_is_spoilt(
 
 @pytest.mark.skipif(os.geteuid() != 0, reason="only root can give files to others")
 def test_open_says_whose_the_lock_is(store: pathlib.Path) -> None:
-    """The lock of another user's, and a file that cannot be written or read, with the remedy."""
+    """The error has the lock of another user, and a file that cannot be written or read, with the
+    remedy.
+    """
 
     def refused(match: str) -> None:
         with another(), pytest.raises(sagas.StoreUnavailable, match=match):
@@ -125,7 +130,7 @@ def test_open_says_whose_the_lock_is(store: pathlib.Path) -> None:
 
 @pytest.mark.skipif(os.geteuid() != 0, reason="only root can give files to others")
 def test_the_owner_deletes_after_root(store: pathlib.Path) -> None:
-    """A run of an administrator keeps the store's owner from none of his own."""
+    """A run of an administrator does not prevent runs of the store's owner."""
     for path in (store.parent, *store.parent.iterdir()):
         os.chown(path, NOBODY, NOBODY)
     words = [str(store), "prune", "--older-than", "0s"]
@@ -135,7 +140,9 @@ def test_the_owner_deletes_after_root(store: pathlib.Path) -> None:
 
 
 def test_nothing_is_left_beside_what_is_no_store(tmp_path: pathlib.Path) -> None:
-    """Whoever gives his program in place of a store's path finds it as it was, and nothing beside it."""
+    """A user who gives a program instead of a store's path finds it unchanged, and no file next to
+    it.
+    """
     path = tmp_path / "order1.py"
     path.write_text("print('no store')\n")
     with pytest.raises(

@@ -1,4 +1,8 @@
-"""A saga is opened where its log has room for its end: a log that has none for it is full, and another one takes it. Each has room for any definition."""
+"""A saga is opened only if its log has space for its end.
+
+A log without that space is full, and another one takes the saga. Each log has space for any
+definition.
+"""
 
 from __future__ import annotations
 
@@ -14,7 +18,9 @@ GREATEST = 10**9
 
 
 def row(name: str, steps: int, needs: int, tries: int = 1) -> sagas.Saga:
-    """Steps of the greatest costs, each of which needs so many before it; the first waits for the gate that its input names."""
+    """Return steps of the highest costs, each of which needs `needs` steps before it; the first
+    waits for the gate that its input names.
+    """
     row = sagas.Saga(name)
 
     async def go(task: Task) -> None:
@@ -41,7 +47,7 @@ GATES: dict[str, asyncio.Event] = {}
 
 @pytest.mark.parametrize("place", ["postgresql"], indirect=True)
 def test_the_greatest_definition_runs(place: str) -> None:
-    """An empty log has room for it, with nine attempts of each action and compensation."""
+    """An empty log has space for it, with nine attempts of each action and compensation."""
     greatest = row("greatest", 1024, 8, tries=9)
 
     async def main() -> None:
@@ -54,8 +60,9 @@ def test_the_greatest_definition_runs(place: str) -> None:
 
 @pytest.mark.parametrize("place", ["sqlite"], indirect=True)
 def test_a_log_that_fills_up_goes_on_in_another(place: str) -> None:
-    """One log takes four open sagas of 1,024 steps with 8,156 needs. The sagas of both logs end,
-    and both logs pass their audit.
+    """One log takes four open sagas of 1,024 steps with 8,156 needs.
+
+    The sagas of both logs end, and both logs pass their audit.
     """
     wide = row("wide", 1024, 8)
 

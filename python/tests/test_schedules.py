@@ -38,7 +38,7 @@ EVERY = datetime.timedelta(hours=6)
 
 
 class Clock:
-    """A wall clock that is set."""
+    """A wall clock that the test sets."""
 
     def __init__(self, now: float = START) -> None:
         self.now = now
@@ -52,7 +52,7 @@ def nightly(**words: Any) -> sagas.Saga:
 
 
 def keys(path: str) -> list[str]:
-    """The keys of all sagas, in order."""
+    """Return the keys of all sagas, in order."""
     with contextlib.closing(admin.connect(path)) as link:
         return [key for (key,) in link.ask("SELECT key FROM sagas ORDER BY key")]
 
@@ -67,7 +67,7 @@ TIMES = [
     ("0 0 */10 * 1", "UTC", "2026-03-01 00:00", ["05-11 00:00", "06-01 00:00"]),
     ("@weekly", "UTC", "2026-02-27 00:00", ["03-01 00:00", "03-08 00:00"]),
     ("5 0 * * *", "Asia/Kathmandu", "2026-03-01 00:00", ["03-01 18:20", "03-02 18:20"]),
-    # the hour from two to three is left out on the 29th of March, and there twice on the 25th of
+    # the hour from two to three is missing on the 29th of March, and occurs twice on the 25th of
     # October
     ("30 2 * * *", "Europe/Berlin", "2026-03-28 12:00", ["03-29 01:30", "03-30 00:30"]),
     ("30 2,3 * * *", "Europe/Berlin", "2026-03-29 00:00", ["03-29 01:30", "03-30 00:30"]),
@@ -87,7 +87,7 @@ def test_times_of_an_expression(cron: str, zone: str, after: str, wanted: list[s
 
 @pytest.mark.parametrize("cron", [None, "* * * * *", "0 0 29 2 *", "30 2 * 3,10 *", "*/7 3 1 * 1"])
 def test_times_of_many_years_are_not_gone_through(cron: str | None) -> None:
-    """The last one that was missed, and the next one, as if each had been looked at."""
+    """The last missed time, and the next one, are the same as if each had been looked at."""
     every, zone = (None if cron else datetime.timedelta(seconds=1)), "Europe/Berlin"
     when = timing.timing(cron, every, zone, "last")
     began = time.monotonic()
@@ -107,7 +107,7 @@ def test_times_in_equal_distances() -> None:
 
 @pytest.mark.parametrize("seconds", [1.1, 7.3, DAY / 7])
 def test_each_time_is_behind_the_one_before(seconds: float) -> None:
-    """Also where the distance is no binary fraction, so that times are rounded."""
+    """This holds also if the interval is not a binary fraction, so that times are rounded."""
     every = datetime.timedelta(seconds=seconds)
     each, last = (timing.timing(None, every, "UTC", catch_up) for catch_up in ("all", "last"))
     times, later = each.due(each.next_after(START), START + 60 * seconds, 50)
@@ -140,7 +140,7 @@ WRONG = [
 
 
 def test_schedules_that_are_none(tmp_path: pathlib.Path) -> None:
-    """Nothing is kept of them."""
+    """They are not stored."""
 
     async def main() -> None:
         async with sagas.open(tmp_path / "store.db", [kind := nightly()]) as store:
@@ -162,7 +162,7 @@ def test_schedules_that_are_none(tmp_path: pathlib.Path) -> None:
 
 
 def test_a_schedule_starts_sagas(place: str) -> None:
-    """Of real time: each time's saga has its input and labels; a removed one starts no more."""
+    """In real time: each time's saga has its input and labels; a removed schedule starts no more."""
 
     async def main() -> None:
         async with sagas.open(place, [kind := nightly()]) as store:
@@ -183,7 +183,7 @@ def test_a_schedule_starts_sagas(place: str) -> None:
 
 @pytest.mark.parametrize("catch_up", ["last", "all", "skip"])
 def test_times_that_were_missed(place: str, catch_up: str, monkeypatch: pytest.MonkeyPatch) -> None:
-    """No program ran for two days; a paused schedule misses nothing; what is changed is new."""
+    """No program ran for two days; a paused schedule misses nothing; a changed one is new."""
     monkeypatch.setattr(scheduler, "MOST", 3)
     clock = Clock()
 
@@ -238,7 +238,7 @@ def test_nothing_is_started_behind_the_answer(place: str, what: str) -> None:
     async def main() -> None:
         async with sagas.open(place, [kind := nightly()], clock=clock) as store:
             await store.schedule("n", kind, every=EVERY, catch_up="all")
-            await store.schedule("z", kind, every=EVERY)  # its turn is behind that of the other one
+            await store.schedule("z", kind, every=EVERY)  # its turn is after that of the other one
         clock.now += 2 * DAY
         async with sagas.open(place, [kind], clock=clock, on_event=change) as store:
             await until(lambda: any(key.startswith("z@") for key in keys(place)))
@@ -256,7 +256,9 @@ def test_nothing_is_started_behind_the_answer(place: str, what: str) -> None:
 def test_a_time_zone_that_this_system_does_not_have(
     place: str, monkeypatch: pytest.MonkeyPatch
 ) -> None:
-    """Its schedule is left to other nodes, which is told; all others go on, and so does it once its zone is there."""
+    """Its schedule is left to other nodes, which is logged; all others continue, and so does it
+    once its zone exists.
+    """
     monkeypatch.setattr(scheduler, "MOST_PAUSE", 0.1)
     clock, kind, said = Clock(), nightly(), list[str | None]()
 
@@ -296,7 +298,7 @@ def test_a_time_zone_that_this_system_does_not_have(
 
 
 def test_other_times_are_not_those_that_were_read(place: str) -> None:
-    """A node that read the schedule before a change does not say when its next time is."""
+    """A node that read the schedule before a change does not report its next time."""
     with sagas.open_sync(place, [nightly()]):
         pass
     with contextlib.closing(admin.connect(place, "rw")) as link:
@@ -311,7 +313,7 @@ def test_other_times_are_not_those_that_were_read(place: str) -> None:
 
 
 def test_a_schedule_that_is_declared_again(place: str) -> None:
-    """It goes on as it is, though its input is another text with a codec, by the newest key."""
+    """It continues unchanged, though its input is another text with a codec, by the newest key."""
     clock, hour = Clock(), datetime.timedelta(hours=1)
 
     async def declare(given: object, **keys: bytes) -> float:
@@ -330,13 +332,14 @@ def test_a_schedule_that_is_declared_again(place: str) -> None:
             assert await declare("a", **keys) == first
         assert await declare("b", b=NEW) == first + DAY
         clock.now += DAY
-        assert await declare("b", a=OLD) == first + 2 * DAY  # nobody can say that it is the same
+        # no program can find that it is the same
+        assert await declare("b", a=OLD) == first + 2 * DAY
 
     run(main())
 
 
 def test_a_saga_that_cannot_be_started(tmp_path: pathlib.Path) -> None:
-    """The key has another saga: that is told and kept, and the next time comes."""
+    """The key has another saga: that is logged and stored, and the next time comes."""
     told: list[sagas.Event] = []
     path, clock = str(tmp_path / "store.db"), Clock()
 
@@ -397,7 +400,7 @@ NODE = """
 
 @contextlib.contextmanager
 def node(file: pathlib.Path, path: str, notes: pathlib.Path) -> Any:
-    """A program with a schedule; it is killed in the end."""
+    """Start a program with a schedule; it is killed in the end."""
     file.write_text(textwrap.dedent(NODE.format(path=path, notes=str(notes))))
     environment = {**os.environ, "PYTHONPATH": str(HERE.parent / "src"), "SAGAS_PROGRAM": program()}
     with subprocess.Popen(
@@ -411,8 +414,11 @@ def node(file: pathlib.Path, path: str, notes: pathlib.Path) -> Any:
 
 
 def test_each_time_comes_once_over_killed_nodes(place: str, tmp_path: pathlib.Path) -> None:
-    """Over PostgreSQL two nodes at once. They are killed at any moment, one behind the other; no
-    second is left out, and none has two sagas. The notes are written outside of the store."""
+    """Over PostgreSQL two nodes run at once.
+
+    They are killed at random moments, one after the other; no second is left out, and none has two
+    sagas. The notes are written outside of the store.
+    """
     notes, files = tmp_path / "notes", [tmp_path / "a.py", tmp_path / "b.py"]
     is_shared = place.startswith("postgresql:")
 
@@ -444,7 +450,7 @@ SECOND = datetime.timedelta(seconds=1)
 
 
 def test_how_many_missed_times_are_started(place: str) -> None:
-    """The last ones, at most so many, by several nodes; the others are told."""
+    """Several nodes start the last ones, up to a limit; the others are logged."""
     clock, told = Clock(), list[str]()
 
     def listen(event: sagas.Event) -> None:
@@ -480,14 +486,14 @@ def test_how_many_missed_times_are_started(place: str) -> None:
 def test_times_that_were_missed_before_a_pause(
     place: str, capsys: pytest.CaptureFixture[str], caplog: pytest.LogCaptureFixture
 ) -> None:
-    """They are not started, which the command says, and the schedule, and the log of a program."""
+    """They are not started; the command, the schedule and the log of a program report that."""
 
     async def main() -> None:
         clock = Clock()
         async with sagas.open(place, [kind := nightly()], clock=clock) as store:
             for name, catch_up in (("a", "all"), ("l", "last"), ("s", "skip")):
                 await store.schedule(name, kind, every=EVERY, catch_up=catch_up)
-        assert store_command.main([place, "schedules", "pause", "a"]) == 0  # by the clock of today
+        assert store_command.main([place, "schedules", "pause", "a"]) == 0  # by the present clock
         assert "a: 100 missed times before the pause were not started" in capsys.readouterr().err
         async with (
             sagas.Client(place)
@@ -515,7 +521,7 @@ def test_times_that_were_missed_before_a_pause(
 
 @pytest.mark.parametrize("overlap", ["skip", "queue", "allow"])
 def test_a_time_while_the_saga_before_is_open(place: str, overlap: str) -> None:
-    """It is left out, waits, or is started."""
+    """It is skipped, waits, or is started."""
     clock, told = Clock(), list[str]()
     opened = asyncio.Event()
 
@@ -548,7 +554,7 @@ def test_a_time_while_the_saga_before_is_open(place: str, overlap: str) -> None:
 
 
 def test_a_program_that_lacks_the_definition(place: str) -> None:
-    """It is told once, and the schedule says so until a program starts it."""
+    """It is logged once, and the schedule reports it until a program starts it."""
     clock, told = Clock(), list[str]()
     other = sagas.Saga("other")
     other.step(name="a", undo=0)(lambda task: None)
@@ -592,7 +598,9 @@ def test_bounds_and_overlaps_that_are_none() -> None:
 
 
 def test_a_schedule_of_a_later_release_stops_no_other(tmp_path: pathlib.Path) -> None:
-    """It has options that this release does not know: it is left to other programs, which is told once, and the others start."""
+    """It has options that this release does not know: it is left to other programs, which is logged
+    once, and the others start.
+    """
     place, saga, told = str(tmp_path / "store.db"), sagas.Saga("report"), list[str]()
     saga.step(name="only")(lambda task: None)
 

@@ -1,4 +1,6 @@
-"""Who may do what: tokens with roles, sessions with their forms, other pages' requests, and texts that are no markup."""
+"""Permissions: tokens with roles, sessions with their forms, requests of other pages, and texts as
+markup.
+"""
 
 from __future__ import annotations
 
@@ -54,7 +56,7 @@ needs = ["pay"]
 """,
     "late.service.toml": '[step.sign]\nkind = "approval"\n[step.seal]\nkind = "approval"\n',
 }
-"""Approvals that do not begin as long as no worker comes."""
+"""Approvals that do not start as long as no worker comes."""
 
 
 ROLES = ("caller", "approver", "worker", "operator", "metrics")
@@ -101,7 +103,7 @@ CALLS: list[tuple[str, str, str, Any, int]] = [
     (OPERATE, "DELETE", "/v1/schedules/{name}", None, 404),
     ("metrics", "GET", "/metrics", None, 200),
 ]
-"""The roles that may besides operators, the call, and what it comes to for them."""
+"""The roles that may besides operators, the call, and its status for them."""
 FREE = [
     "/health/live",
     "/health/ready",
@@ -111,11 +113,11 @@ FREE = [
     "/ui/static/{name}",
     "/ui/login",
 ]
-"""What needs no token."""
+"""Routes without a token."""
 
 
 def answer_of(client: httpx.Client, method: str, path: str, body: Any) -> tuple[int, str]:
-    """A status, and the name of an error; of a stream its head alone."""
+    """Return a status, and the name of an error; of a stream only its head."""
     with client.stream(method, path, json=body) as answer:
         if answer.headers["content-type"] == "application/problem+json":
             answer.read()
@@ -124,7 +126,7 @@ def answer_of(client: httpx.Client, method: str, path: str, body: Any) -> tuple[
 
 
 def test_each_route_has_its_roles(guarded: Guarded) -> None:
-    """The calls of the test below are all that there are."""
+    """The calls of the test below are complete."""
     routes = {(one.method, one.path) for some in (*API, *PAGES) for one in some.operations}
     asked = {
         (method, re.sub(r"/v1/sagas/(roles|asks|nobody)", "/v1/sagas/{key}", path))
@@ -149,8 +151,7 @@ def test_each_route_has_its_roles(guarded: Guarded) -> None:
 
 
 def test_roles(guarded: Guarded) -> None:
-    """Each call is for its roles, and for operators; nobody comes in without a token, or with a
-    wrong one."""
+    """Each call is for its roles, and for operators; a missing or wrong token is refused."""
     clients = {role: guarded.client(role) for role in ROLES}
     strangers = [
         guarded.client(None),
@@ -164,10 +165,11 @@ def test_roles(guarded: Guarded) -> None:
             for role, client in clients.items():
                 found, name = answer_of(client, method, path, body)
                 if role == "approver" and path.startswith("/v1/sagas/asks/steps/review/"):
+                    # a compensation is not an approval: see below
                     assert (found, name) == (
                         403,
                         "Forbidden",
-                    )  # a compensation is no approval: see below
+                    )
                 elif role in (*good.split(), "operator"):
                     assert found == status and name != "Forbidden", (
                         role,
@@ -205,7 +207,8 @@ POSTED = (
 
 def test_pages_have_no_roles_but_a_session(guarded: Guarded) -> None:
     """No bearer token opens them, and none of them does anything: each form is refused before it is
-    read."""
+    read.
+    """
     for role in (None, *ROLES):
         with guarded.client(role) as client:
             for path in POSTED:
@@ -251,7 +254,7 @@ BOTH = [
 
 
 def test_an_approval_is_given_on_purpose(guarded: Guarded) -> None:
-    """By a `result`, or an `error`; else that is said, and nothing is done."""
+    """It needs a `result` or an `error`; else the response says so, and nothing is done."""
     with guarded.client("approver") as approver, guarded.client("caller") as caller:
         start(caller, "order", "purpose")
         waits(approver, "purpose", "approval")
@@ -283,8 +286,9 @@ def test_an_approval_is_given_on_purpose(guarded: Guarded) -> None:
 
 
 def test_who_may_approve(guarded: Guarded) -> None:
-    """Neither whoever starts a saga nor a worker; and an approver says nothing of any other
-    step."""
+    """Neither the token that starts a saga nor a worker's may; and an approver reports no other
+    step.
+    """
     with contextlib.ExitStack() as stack:
         clients = {role: stack.enter_context(guarded.client(role)) for role in ROLES}
         caller, approver, operator = clients["caller"], clients["approver"], clients["operator"]
@@ -328,8 +332,10 @@ def test_who_may_approve(guarded: Guarded) -> None:
 
 
 def test_an_approval_before_it_begins(guarded: Guarded) -> None:
-    """By whoever may approve; of the other step of the saga an approver says nothing. The page of
-    the saga has it, with a form."""
+    """A token that may approve may do so; an approver reports no other step of the saga.
+
+    The page of the saga has it, with a form.
+    """
     with guarded.client("caller") as caller, guarded.client("approver") as approver:
         start(caller, "late", "ahead")
         where = "/v1/sagas/ahead/steps"
@@ -370,7 +376,9 @@ def csrf_of(client: httpx.Client, path: str) -> str:
 
 
 def test_the_page_wants_a_session(guarded: Guarded) -> None:
-    """It sends to the login, which takes an operator's token alone, and goes nowhere else from there."""
+    """It redirects to the login, which takes an operator's token only, and redirects to no other
+    site.
+    """
     with guarded.client(None) as client:
         for path in (
             "/ui",
@@ -416,7 +424,7 @@ def test_the_page_wants_a_session(guarded: Guarded) -> None:
             )
             assert answer.headers["location"] == path
     with guarded.client("operator") as bearer:
-        assert bearer.get("/ui").status_code == 303  # a bearer token is no session
+        assert bearer.get("/ui").status_code == 303  # a bearer token is not a session
 
 
 FOREIGN = (
@@ -432,11 +440,13 @@ FOREIGN = (
     ({"Sec-Fetch-Site": "cross-site"}, "has the Sec-Fetch-Site 'cross-site'"),
     ({"Sec-Fetch-Site": "same-site"}, "has the Sec-Fetch-Site 'same-site'"),
 )
-"""Headers of requests that are of no page of the service, and what is said of them."""
+"""Headers of requests that come from other pages, and their responses."""
 
 
 def test_forms_are_the_session_s_own(guarded: Guarded) -> None:
-    """Without its CSRF token a form does nothing, with another session's neither; and no other page's request changes anything."""
+    """Without its CSRF token, or with another session's, a form does nothing; and no other page's
+    request changes anything.
+    """
     with guarded.client("caller") as caller:
         start(caller, "order", "forms")
     with logged_in(guarded) as client, logged_in(guarded) as other:
@@ -480,7 +490,7 @@ def test_forms_are_the_session_s_own(guarded: Guarded) -> None:
 
 
 def test_the_cookies_of_two_services(guarded: Guarded) -> None:
-    """A browser sends those of a host to all of its ports: each service has a name of its own."""
+    """A browser sends those of a host to all of its ports: each service has its own name."""
     port = guarded.service.address.rpartition(":")[2]
     with guarded.client(None) as client:
         for host, name in (
@@ -504,7 +514,9 @@ def test_the_cookies_of_two_services(guarded: Guarded) -> None:
 def half_sent(
     service: Served, path: str, kind: str, body: bytes, **headers: str
 ) -> Iterator[tuple[Any, bytes]]:
-    """A request whose body comes later but for its first byte: its connection, and the rest."""
+    """Send a request except for its body, of which only the first byte is sent; return its
+    connection, and the rest.
+    """
     told = {
         "Host": service.address,
         "Content-Type": f"application/{kind}",
@@ -518,7 +530,9 @@ def half_sent(
 
 
 def test_a_token_that_is_taken_away(tmp_path: pathlib.Path) -> None:
-    """Its bearer and its sessions end with it, without a new start, and so does a request whose body is still to come; a file that cannot be read leaves the others."""
+    """Its bearer and its sessions end with it, without a restart, and so does a request whose body
+    is still to come; if the file cannot be read, the others stay valid.
+    """
     words = {
         role: token(tmp_path, role, role.rpartition("-")[2])
         for role in ("an-operator", "a-caller", "second-operator")
@@ -582,7 +596,7 @@ def test_a_token_that_is_taken_away(tmp_path: pathlib.Path) -> None:
 
 
 def test_texts_are_no_markup(guarded: Guarded) -> None:
-    """Keys, inputs, results, errors, notes and names stand in pages and pictures as what they are."""
+    """Keys, inputs, results, errors, notes and names are shown as text in pages and pictures."""
     key = f"k{NASTY}/../x"
     with guarded.client("operator") as client, logged_in(guarded) as page:
         stuck(client, "plain")
@@ -633,7 +647,7 @@ def quoted(text: str) -> str:
 
 
 def test_headers(guarded: Guarded) -> None:
-    """Each answer says that nothing is fetched from elsewhere, framed, guessed or kept."""
+    """Each response forbids fetching from elsewhere, framing, sniffing and caching."""
     with guarded.client("operator") as client, logged_in(guarded) as page:
         for answer in (
             page.get("/ui"),
@@ -657,7 +671,7 @@ def test_headers(guarded: Guarded) -> None:
 
 
 def test_without_tokens_only_the_loopback_s_names(tmp_path: pathlib.Path) -> None:
-    """A name that some page made point here is not answered to; and rates are limited."""
+    """A request for a name that another page made point here gets no answer; and rates are limited."""
     with served(tmp_path, DEFINITIONS, "--rate", "0.4") as service, service.client() as client:
         assert (
             error_of(client.get("/v1/sagas", headers={"Host": "elsewhere.example"}))

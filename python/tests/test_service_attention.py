@@ -1,4 +1,4 @@
-"""What needs a person in pages, and deeds on many sagas by a filter, over both databases."""
+"""Pages of what needs an operator, and actions on many sagas by a filter, over both databases."""
 
 from __future__ import annotations
 
@@ -40,8 +40,9 @@ def client(service: Served) -> Iterator[httpx.Client]:
 
 
 def test_attention_and_many(client: httpx.Client) -> None:
-    """What needs a person is paged and filtered; deeds on many are counted first, and tell who was
-    refused."""
+    """What needs an operator is paged and filtered; actions on many are counted first, and report
+    the refused ones.
+    """
     for number in range(5):
         told = {"definition": "licence", "key": f"many-{number}", "labels": {"of": str(number % 2)}}
         assert client.post("/v1/sagas", json=told).status_code == 201
@@ -131,7 +132,9 @@ def test_attention_and_many(client: httpx.Client) -> None:
 
 
 def test_an_abort_of_many_gets_on(client: httpx.Client) -> None:
-    """Each call aborts the next sagas: those that were aborted before are open until they are undone, and are not counted again."""
+    """Each call aborts the next sagas: those that were aborted before are open until they are
+    undone, and are not counted again.
+    """
     late = {"definition": "few", "key": "gets-on-late", "deadline": 0.1}
     assert client.post("/v1/sagas", json=late).status_code == 201
     take(client, "few/a")  # so its abort has to wait
@@ -158,7 +161,7 @@ def test_an_abort_of_many_gets_on(client: httpx.Client) -> None:
 
 
 def test_reports_of_many_are_of_the_step(client: httpx.Client) -> None:
-    """Its compensation is meant where `undo` says so; in the inbox it is in a group of its own."""
+    """Its compensation is meant if `undo` says so; in the inbox it is in its own group."""
     for key in ("asks-a", "asks-undo"):
         start(client, "asks", key)
     for task in take(client, "asks/a", most=2):
@@ -185,7 +188,7 @@ def test_reports_of_many_are_of_the_step(client: httpx.Client) -> None:
 
 
 def test_a_filter_that_selects_nothing_by_mistake(client: httpx.Client) -> None:
-    """Labels that are empty are refused, and what nothing has is said."""
+    """Empty labels are refused, and names that nothing has are reported."""
     told = {"definition": "order", "key": "labeled", "labels": {"customer": "7"}}
     assert client.post("/v1/sagas", json=told).status_code == 201
     answer = client.post("/v1/bulk/abort", json={"filter": {"labels": {}}})
@@ -202,7 +205,7 @@ def test_a_filter_that_selects_nothing_by_mistake(client: httpx.Client) -> None:
 
 
 def test_the_cause_is_the_last_failure(client: httpx.Client) -> None:
-    """Of two steps that failed, whatever their order in the definition."""
+    """Of two failed steps it is the later one, whatever their order in the definition."""
     for key, order in (("two-ab", "ab"), ("two-ba", "ba")):
         start(client, "pair", key)
         tasks = {one["step"]: one for step in "ab" for one in take(client, f"pair/{step}")}

@@ -1,4 +1,4 @@
-"""The service for callers and workers: a real process, and what it answers."""
+"""The service for callers and workers: a real process, and its responses."""
 
 from __future__ import annotations
 
@@ -34,7 +34,9 @@ import sagas
 
 @pytest.fixture(scope="module")
 def service(tmp_path_factory: pytest.TempPathFactory, store: str | None) -> Iterator[Served]:
-    """One service for the cases of this file, over each kind of database; each case has keys of its own, and takes only its own tasks."""
+    """Return a service for the cases of this file, over each kind of database; each case has its
+    own keys, and takes only its own tasks.
+    """
     with served(tmp_path_factory.mktemp("service"), store=store) as one:
         yield one
 
@@ -52,7 +54,7 @@ def get(client: httpx.Client, path: str, status: int = 200) -> Any:
 
 
 def measured(client: httpx.Client, line: str) -> bool:
-    """Whether `/metrics` comes to have this line: it is counted again at most each second."""
+    """Return whether `/metrics` gets this line: it is counted again at most each second."""
     deadline = time.monotonic() + LONG
     while line not in client.get("/metrics").text.splitlines():
         if time.monotonic() > deadline:
@@ -62,7 +64,9 @@ def measured(client: httpx.Client, line: str) -> bool:
 
 
 def test_a_start_is_once(client: httpx.Client) -> None:
-    """The same key again is the same saga; another input, or another definition, is a conflict; what is no saga is told."""
+    """The same key again is the same saga; another input, or another definition, is a conflict; an
+    unknown saga is an error.
+    """
     assert start(client, "order", "once", {"a": 1}).status_code == 201
     again = start(client, "order", "once", {"a": 1})
     assert (again.status_code, again.json()) == (
@@ -98,7 +102,9 @@ def test_a_start_is_once(client: httpx.Client) -> None:
 
 
 def test_a_saga_through_workers(client: httpx.Client) -> None:
-    """Tasks with their inputs, results and tokens; a failure is planned for, and the plan's certificate is right."""
+    """Tasks have their inputs, results and tokens; a failure leads to a plan, and the plan's
+    certificate is right.
+    """
     start(client, "trip", "t/1 ü", {"to": "Rome"})
     (flight,) = take(client, "trip/flight")
     assert (flight["key"], flight["input"], flight["results"], flight["attempt"]) == (
@@ -170,8 +176,11 @@ def test_a_saga_through_workers(client: httpx.Client) -> None:
 
 
 def test_leases(client: httpx.Client) -> None:
-    """One that runs out gives the task to another with the same token; failed counts under the
-    newest, done under any that was given; the first report stays."""
+    """An expired lease gives the task to another worker with the same token.
+
+    A failure counts only under the newest lease, success under any that was issued; the first
+    report stays.
+    """
     start(client, "trip", "leases")
     (old,) = take(client, "trip/flight", lease=0.5)
     (new,) = take(client, "trip/flight")
@@ -209,7 +218,9 @@ def test_leases(client: httpx.Client) -> None:
 
 
 def test_a_deadline(service: Served, client: httpx.Client) -> None:
-    """A saga has it until its start says otherwise; workers and operators see it; what is no time is refused, and starts nothing."""
+    """A saga has the default until its start overrides it; workers and operators see it; an invalid
+    time is refused, and starts nothing.
+    """
 
     def put(key: str, deadline: Any) -> httpx.Response:
         return client.post(
@@ -263,7 +274,9 @@ def test_a_deadline(service: Served, client: httpx.Client) -> None:
 
 
 def test_what_has_begun(client: httpx.Client) -> None:
-    """Until a worker takes it, it has begun and waits for one; then it runs, at that worker; and when the lease has run out it waits again."""
+    """Until a worker takes it, it has started and waits for one; then it runs at that worker; and
+    when the lease has expired it waits again.
+    """
 
     def flight() -> tuple[str, list[tuple[str, str | None]]]:
         told = get(client, "/v1/sagas/begun")
@@ -291,7 +304,9 @@ def test_what_has_begun(client: httpx.Client) -> None:
 
 
 def test_a_refund_that_fails(client: httpx.Client) -> None:
-    """By defaults alone it is in the inbox, in the figures and on the page; one call, or one for all, has it attempted again."""
+    """With defaults it is in the inbox, in the metrics and on the page; one call, or one for all,
+    retries it.
+    """
     figure = 'sagas_attention_required{reason="exhausted"} '
     for key in ("refund-1", "refund-2"):
         start(client, "few", key)
@@ -340,7 +355,7 @@ def test_a_refund_that_fails(client: httpx.Client) -> None:
 
 
 def test_a_compensation_that_failed(client: httpx.Client) -> None:
-    """The list has such sagas by a phase of their own; each tells what was raised."""
+    """The list has such sagas by their own phase; each shows its error."""
     start(client, "trip", "undo-failed")
     all_done(client, "trip/flight", "trip/car")
     for _ in range(2):
@@ -383,7 +398,7 @@ def test_a_compensation_that_failed(client: httpx.Client) -> None:
 
 
 def test_a_beaten_lease_holds(client: httpx.Client) -> None:
-    """As long as it is beaten for, nobody else gets the task."""
+    """As long as heartbeats come, no other worker gets the task."""
     start(client, "trip", "beats")
     (task,) = take(client, "trip/flight", lease=2)
     until = client.post(
@@ -397,7 +412,7 @@ def test_a_beaten_lease_holds(client: httpx.Client) -> None:
 
 
 def test_a_report_takes_the_next(client: httpx.Client) -> None:
-    """In one request; what is wrong with it is told before anything is kept."""
+    """They are in one request; its errors are reported before anything is stored."""
     for key in ("next-1", "next-2"):
         start(client, "trip", key)
     (first,) = take(client, "trip/flight")
@@ -423,7 +438,11 @@ def test_a_report_takes_the_next(client: httpx.Client) -> None:
 
 
 def test_a_limit_holds_for_leases(service: Served, client: httpx.Client) -> None:
-    """Two are out at once. Whoever waits gets the next one when one is reported, is unknown, or its lease has run out; compensations are not counted."""
+    """Two are out at once.
+
+    A waiting worker gets the next one when one is reported, is unknown, or its lease has expired;
+    compensations are not counted.
+    """
     for number in range(5):
         start(client, "few", f"few-{number}")
     first, second = take(client, "few/a", most=10)
@@ -436,7 +455,7 @@ def test_a_limit_holds_for_leases(service: Served, client: httpx.Client) -> None
         taker.start()
         report(client, first)
         taker.join(LONG)
-    (third,) = found  # its lease runs out, and then the next one is there
+    (third,) = found  # its lease expires, and then the next one is available
     (fourth,) = take(client, "few/a", most=10)
     assert {first["key"], second["key"], third["key"], fourth["key"]} >= {
         f"few-{number}" for number in range(3)
@@ -446,7 +465,7 @@ def test_a_limit_holds_for_leases(service: Served, client: httpx.Client) -> None
             f"/v1/tasks/{third['attempt_id']}/heartbeat", json={"lease": third["lease"]}
         )
         assert error_of(late) == "LeaseLost" and "have its place" in late.json()["detail"]
-        assert report(client, third).status_code == 200  # done counts all the same
+        assert report(client, third).status_code == 200  # success counts anyway
     report(client, second, "unknown", error="who knows")
     left = {f"few-{number}" for number in range(5)} - {first["key"]}
     assert report(client, fourth).status_code == 200
@@ -486,8 +505,9 @@ def test_a_limit_holds_for_leases(service: Served, client: httpx.Client) -> None
 
 
 def test_a_task_that_is_offered_again_has_no_worker(client: httpx.Client) -> None:
-    """After an unknown outcome, until it is claimed again: the dashboard's page shows that nobody
-    has it, and no lease has expired."""
+    """After an unknown outcome, until it is claimed again: the dashboard's page shows that no
+    worker has it, and no lease has expired.
+    """
     start(client, "few", "offered-again")
     (task,) = [one for one in take(client, "few/a", most=100) if one["key"] == "offered-again"]
     assert "offered-again" in client.get("/ui/workers").text
@@ -505,7 +525,9 @@ def test_a_task_that_is_offered_again_has_no_worker(client: httpx.Client) -> Non
 
 
 def test_unknown_is_said_once_under_a_lease(client: httpx.Client) -> None:
-    """Also when the task waits for a worker again; under that lease nothing else counts but that it is done."""
+    """It holds also when the task waits for a worker again; under that lease only a success counts
+    then.
+    """
     start(client, "few", "hazy-few")
     (task,) = take(client, "few/a")
     assert report(client, task, "unknown", error="who knows").json()["repeated"] is False
@@ -531,7 +553,9 @@ def test_unknown_is_said_once_under_a_lease(client: httpx.Client) -> None:
 
 
 def test_nobody_knows(client: httpx.Client) -> None:
-    """After an unknown outcome, where no more are allowed, a person has to say; no lease of before gives the task to anybody."""
+    """After the last unknown outcome an operator must report; no earlier lease gives the task to a
+    worker.
+    """
     start(client, "trip", "hazy")
     all_done(client, "trip/flight", "trip/car")
     (tour,) = take(client, "trip/tour", lease=1)
@@ -560,7 +584,7 @@ def test_nobody_knows(client: httpx.Client) -> None:
 
 
 def test_an_approval(client: httpx.Client) -> None:
-    """It waits for a word; once it is said, another is too late."""
+    """It waits for a decision; a second one is too late."""
     start(client, "order", "approve-me")
     deadline = time.monotonic() + LONG
     while not get(client, "/v1/sagas/approve-me")["waits"]:
@@ -588,7 +612,9 @@ def test_an_approval(client: httpx.Client) -> None:
 
 
 def test_a_report_comes_before_its_step(client: httpx.Client) -> None:
-    """It is stored until the step begins, and no worker gets that; the page of the saga says so."""
+    """It is stored until the step starts, and no worker gets that step; the page of the saga shows
+    it.
+    """
     start(client, "order", "ahead")
     where = "/v1/sagas/ahead/steps"
     for _ in range(2):
@@ -614,7 +640,7 @@ def test_an_aborted_task_that_nobody_took_is_not_begun(client: httpx.Client) -> 
 
 
 def test_a_long_take_is_woken(service: Served, client: httpx.Client) -> None:
-    """Whoever waits for a task gets it when it comes; one who has gone gets none."""
+    """A worker that waits for a task gets it when it comes; one that has gone gets none."""
     with pytest.raises(httpx.ReadTimeout), service.client() as gone:
         gone.post("/v1/tasks/claim", json={"steps": ["licence/server"], "wait": 30}, timeout=0.5)
     found: list[Any] = []
@@ -632,7 +658,7 @@ def test_a_long_take_is_woken(service: Served, client: httpx.Client) -> None:
 
 
 def test_the_list(client: httpx.Client) -> None:
-    """Newest first, by pages, filtered and searched; a search is no pattern."""
+    """It is newest first, by pages, filtered and searched; a search is not a pattern."""
     keys = [f"list%_{number}" for number in range(5)]
     for key in keys:
         start(client, "order", key)
@@ -650,7 +676,7 @@ def test_the_list(client: httpx.Client) -> None:
 
 
 def test_events_are_streamed(service: Served, client: httpx.Client) -> None:
-    """Those of one saga, from now on; again behind the last that was seen."""
+    """The stream has those of one saga, from now on; again after the last one that the client saw."""
     with service.client() as other, other.stream("GET", "/v1/events?key=streamed") as stream:
         lines = stream.iter_lines()
         assert next(lines).startswith("retry")
@@ -715,7 +741,9 @@ def test_a_stuck_one_is_resolved(client: httpx.Client) -> None:
 
 
 def test_an_answer_is_sent_at_once(client: httpx.Client) -> None:
-    """Its body does not wait until the client's system has acknowledged its head: each answer would take 40 ms on a connection that is kept."""
+    """Its body does not wait until the client's system has acknowledged its head: each response
+    would take 40 ms on a kept connection.
+    """
 
     def seconds() -> float:
         began = time.monotonic()
@@ -728,7 +756,7 @@ def test_an_answer_is_sent_at_once(client: httpx.Client) -> None:
 
 
 def test_figures_and_life(client: httpx.Client) -> None:
-    """What Prometheus reads has each figure that the page of the docs names."""
+    """Prometheus reads each metric that the page of the docs names."""
     start(client, "licence", "figures")
     all_done(client, "licence/server", "licence/licence")
     get(client, "/v1/sagas/figures/wait?seconds=60")
@@ -755,21 +783,21 @@ def test_figures_and_life(client: httpx.Client) -> None:
 
 
 def test_the_log_is_lines_of_json(service: Served, client: httpx.Client) -> None:
-    """What happens to a saga, and each request with who made it."""
+    """It has the events of a saga, and each request with its token."""
     start(client, "licence", "logged")
     all_done(client, "licence/server", "licence/licence", failing=["licence/licence"])
     get(client, "/v1/sagas/logged/wait?seconds=60")
     deadline = time.monotonic() + LONG
-    while (
-        '"/v1/sagas/logged/wait"' not in service.told()
-    ):  # a request is logged once it is answered
+    # a request is logged once it is answered
+    while '"/v1/sagas/logged/wait"' not in service.told():
         assert time.monotonic() < deadline
         time.sleep(0.05)
+    # what it says before
     told = [
         json.loads(line)
         for line in service.told().splitlines()
         if not line.startswith("sagas serve: ")
-    ]  # what it says before
+    ]
     assert all({"at", "level", "logger", "message"} <= set(line) for line in told)
     (stuck,) = (
         line for line in told if line.get("name") == "saga_stuck" and line["key"] == "logged"
@@ -807,7 +835,7 @@ def test_it_goes_on_after_a_kill(tmp_path: pathlib.Path, place: str) -> None:
 
 
 def test_it_stops_although_clients_ask_on(tmp_path: pathlib.Path) -> None:
-    """Connections that come while it ends, and one that asks on and on, do not keep it."""
+    """Connections that come while it ends, and one that repeats its requests, do not delay it."""
     with served(tmp_path, DEFINITIONS) as service:
         over, ended = threading.Event(), []
 
@@ -873,7 +901,7 @@ def test_it_stops_although_clients_ask_on(tmp_path: pathlib.Path) -> None:
 def test_what_cannot_be_served(
     tmp_path: pathlib.Path, files: dict[str, str], words: tuple[str, ...], says: str
 ) -> None:
-    """It says what is wrong and where, and does not start."""
+    """It reports what is wrong and where, and does not start."""
     from serving import environment
 
     one = Served(tmp_path, files, *words)
@@ -885,7 +913,9 @@ def test_what_cannot_be_served(
 
 
 def test_numbers_that_options_do_not_take() -> None:
-    """They end the command with status 2 and a line that says what to use, before anything starts; so do names that are none."""
+    """They end the command with status 2 and a line that says what to use, before anything starts;
+    so do invalid names.
+    """
     for option in (
         "--rate",
         "--lease",
@@ -913,7 +943,9 @@ def test_numbers_that_options_do_not_take() -> None:
 
 
 def test_what_is_meant_for_a_database(tmp_path: pathlib.Path) -> None:
-    """A list of words and a misspelled URL are no file's name: nothing is made, and the password is not printed."""
+    """Connection parameters and a misspelled URL are not a file's name: nothing is made, and the
+    password is not printed.
+    """
     from serving import environment
 
     for store in ("password=s3cret host=127.0.0.1", "postgresql//me:s3cret@host/a"):

@@ -1,4 +1,5 @@
-"""`sagas.ServiceClient` at a real service, beyond what the contract of all clients (clients/contract) has."""
+"""`sagas.ServiceClient` at a real service, beyond the contract of all clients (clients/contract).
+"""
 
 from __future__ import annotations
 
@@ -39,7 +40,9 @@ def client(service: Served) -> Iterator[sagas.ServiceClient]:
 
 
 def test_a_saga_from_its_start_to_its_end(service: Served, client: sagas.ServiceClient) -> None:
-    """Started by its definition or its name; what waits is told; its end has what a result of a store has."""
+    """It is started by its definition or its name; `pending` lists it; its end has the attributes
+    of a store's result.
+    """
     soon = datetime.datetime.now(datetime.timezone.utc) + datetime.timedelta(hours=1)
     run = client.start(ORDER, "full", {"n": 2**70}, labels={"of": "client"}, deadline=soon)
     again = client.start("order", "full", {"n": 2**70}, version=1)
@@ -72,7 +75,7 @@ def test_a_saga_from_its_start_to_its_end(service: Served, client: sagas.Service
 
 
 def test_a_plan(client: sagas.ServiceClient) -> None:
-    """A saga that is aborted has the cost of its plan."""
+    """An aborted saga has the cost of its plan."""
     run = client.start("order", "aborted")
     assert run.abort() is True
     end = run.wait(timeout=LONG)
@@ -86,7 +89,10 @@ def test_a_plan(client: sagas.ServiceClient) -> None:
 
 
 def test_errors_are_those_of_a_store(client: sagas.ServiceClient) -> None:
-    """Where a store has the exception; else `ServiceRefused` has the problem's name. What is not valid is not sent."""
+    """It raises the exception that a store has; else `ServiceRefused` has the problem's name.
+
+    Invalid arguments are not sent.
+    """
     client.start("order", "known", {"card": "4111"})
     with pytest.raises(sagas.KeyConflict) as conflict:
         client.start("order", "known", {"card": "4222"})
@@ -142,7 +148,9 @@ def test_lists(client: sagas.ServiceClient) -> None:
 
 
 def test_events_go_on_behind_the_last_one(service: Served) -> None:
-    """Connections are cut, and a later stream goes on behind an id: nothing is missed, and nothing comes twice."""
+    """Connections are cut, and a later stream continues after an id: no event is missed, and none
+    comes twice.
+    """
     address, _, port = service.address.rpartition(":")
     with relaying(int(port), host=address) as relay:
         with sagas.ServiceClient(f"http://127.0.0.1:{relay.port}", timeout=LONG) as client:
@@ -167,7 +175,7 @@ def test_events_go_on_behind_the_last_one(service: Served) -> None:
 
 
 def test_nobody_answers(service: Served) -> None:
-    """That is told once the time is over; the next one of several services is asked."""
+    """The error comes once the time is over; the next one of several services is asked."""
     dead = f"http://{host()}:9"
     with sagas.ServiceClient(dead, timeout=0.2) as client:
         for call in (
@@ -212,7 +220,7 @@ def test_close_ends_what_waits(service: Served) -> None:
 
 
 def test_a_fork_has_connections_of_its_own(client: sagas.ServiceClient) -> None:
-    """Parent and child ask by turns, with the client that was made before."""
+    """Parent and child send requests alternately, with the client that was made before."""
     client.start("order", "fork")
     child = os.fork()
     if not child:
@@ -223,7 +231,7 @@ def test_a_fork_has_connections_of_its_own(client: sagas.ServiceClient) -> None:
 
 
 def test_what_it_is_made_with(tmp_path: pathlib.Path) -> None:
-    """What is not valid is told at once, and no token is in a message."""
+    """Invalid arguments are reported at once, and no token is in a message."""
     for url, token, timeout in (
         ("nowhere", None, 1),
         ([], None, 1),

@@ -1,4 +1,4 @@
-"""What is wrong with the service's definition files is told by file and line of the TOML."""
+"""Errors in the service's definition files are reported with file and line of the TOML."""
 
 from __future__ import annotations
 
@@ -187,7 +187,7 @@ FAULTS = [
 
 @pytest.mark.parametrize("text, beside, says", FAULTS)
 def test_a_fault_has_its_line(tmp_path: pathlib.Path, text: str, beside: str, says: str) -> None:
-    """Of the file that it is in; and never a line of the package."""
+    """It is the line of its own file; never a line of the package."""
     (tmp_path / "a.toml").write_text(text)
     (tmp_path / "a.service.toml").write_text(beside)
     with pytest.raises(sagas.DefinitionError) as fault:
@@ -197,8 +197,7 @@ def test_a_fault_has_its_line(tmp_path: pathlib.Path, text: str, beside: str, sa
 
 
 def test_what_is_good(tmp_path: pathlib.Path) -> None:
-    """It is read; its warnings have their lines as well, and two of one name and version name
-    both."""
+    """It is read; its warnings have their lines as well, and two of one name and version name both."""
     (tmp_path / "a.toml").write_text(GOOD.replace("undo = 5", "undo = 5\nkeep = 1"))
     (tmp_path / "a.service.toml").write_text(BESIDE)
     (saga,) = definition_files.read(tmp_path)
@@ -254,6 +253,7 @@ PLACES = [
 
 @pytest.mark.parametrize("path, line", PLACES)
 def test_lines_of_odd_texts(path: tuple[str | int, ...], line: int) -> None:
-    """Brackets and headers within strings and comments are none; what has no line of its own has
-    the one around it."""
+    """Brackets and headers within strings and comments do not count; an item without its own line
+    has that of its parent.
+    """
     assert Lines(ODD).of(*path) == line

@@ -1,5 +1,7 @@
-"""Deliveries of webhooks in the dashboard and by `sagas store STORE deliveries`, over both kinds of
-database: who may look at them, and have them posted again."""
+"""Deliveries of webhooks, in the dashboard and by `sagas store STORE deliveries`.
+
+The tests check who may see them and repeat them, over both kinds of database.
+"""
 
 from __future__ import annotations
 
@@ -28,7 +30,7 @@ TOKENS: dict[str, tuple[str, ...]] = {
 
 @pytest.fixture(scope="module")
 def receiver() -> Iterator[Receiver]:
-    """It wants the first post no more, and takes the others."""
+    """Return a receiver that refuses the first post permanently, and takes the others."""
     one = Receiver(410)
     yield one
     one.server.shutdown()
@@ -38,7 +40,7 @@ def receiver() -> Iterator[Receiver]:
 def world(
     tmp_path_factory: pytest.TempPathFactory, receiver: Receiver, store: str | None
 ) -> Iterator[World]:
-    """A service with a delivery that was given up, and one that came."""
+    """Return a service with a delivery that was given up, and one that succeeded."""
     folder = tmp_path_factory.mktemp("deliveries")
     tokens = {name: token(folder, name, *words) for name, words in TOKENS.items()}
     hooks = written(folder, table(receiver.url))
@@ -56,7 +58,7 @@ def world(
 
 
 def settled(operator: httpx.Client, key: str, attempts: int = 1) -> dict[str, Any]:
-    """The delivery of a saga, once it is over."""
+    """Return the delivery of a saga, once it is over."""
     deadline = time.monotonic() + LONG
     while True:
         told = operator.get("/v1/webhooks/deliveries").json()["deliveries"]
@@ -68,7 +70,7 @@ def settled(operator: httpx.Client, key: str, attempts: int = 1) -> dict[str, An
 
 
 def rows(text: str) -> list[list[str]]:
-    """The first words of the rows of a page's table."""
+    """Return the first words of the rows of a page's table."""
     body = re.search(r"<tbody>(.*?)</tbody>", text, re.S)
     found = re.findall(r"<tr>(.*?)</tr>", body[1], re.S) if body else []
     cells = [re.findall(r"<t[hd][^>]*>(.*?)</t[hd]>", row, re.S) for row in found]
@@ -82,7 +84,7 @@ def csrf_of(text: str) -> str:
 
 
 def test_the_page_lists_them(world: World, receiver: Receiver) -> None:
-    """The newest first, by state and by webhook; texts are escaped, and no secret is there."""
+    """The newest comes first, by state and by webhook; texts are escaped, and no secret is shown."""
     page = world.page("operator")
     text = page.get("/ui/webhooks").text
     assert [row[:4] for row in rows(text)] == [
@@ -103,7 +105,7 @@ def test_the_page_lists_them(world: World, receiver: Receiver) -> None:
 
 
 def test_who_may_look_and_post_again(world: World, receiver: Receiver) -> None:
-    """Operators that see all definitions, by a form of their own session."""
+    """Operators that see all definitions may, by a form of their own session."""
     one = settled(world["operator"], "<b>given-up")
     again = f"/ui/webhooks/{one['id']}/redeliver"
     kept = world.page("of-order")
@@ -132,15 +134,16 @@ def test_who_may_look_and_post_again(world: World, receiver: Receiver) -> None:
 
 
 def started(store: str, *words: str) -> str:
-    """What `sagas store STORE deliveries ..` prints as a program of its own, beside the service
-    that has the store."""
+    """Return the output of `sagas store STORE deliveries` as a separate program, while the service
+    has the store.
+    """
     told = [sys.executable, "-m", "sagas", "store", store, "deliveries", *words]
     done = subprocess.run(told, env=environment(), capture_output=True, text=True, check=True)
     return done.stdout
 
 
 def test_the_command(world: World, receiver: Receiver) -> None:
-    """It lists them, as a table and as JSON, and has one posted again by the service."""
+    """It lists them, as a table and as JSON, and lets the service repeat one."""
     store = str(world.service.store)
     told = started(store, "--json")
     found = {one["key"]: one for one in json.loads(told)}

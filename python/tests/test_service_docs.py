@@ -1,5 +1,7 @@
-"""The tutorial on the service is run: its commands, in their order, in one shell, each output
-compared. The routes of reference/http.md, the unit and the alerts are looked at."""
+"""The tutorial on the service, executed: its commands in order in one shell, each output compared.
+
+The routes of reference/http.md, the unit and the alerts are checked too.
+"""
 
 from __future__ import annotations
 
@@ -25,10 +27,10 @@ TUTORIAL = (TOP / "docs" / "tutorials" / "service.md").read_text()
 
 
 def commands() -> list[tuple[str, str]]:
-    """Each command of the tutorial, with what it prints."""
+    """Return each command of the tutorial, with its output."""
     found = []
     for kind, block in re.findall(r"^```(\w*)\n(.*?)^```$", TUTORIAL, re.S | re.M):
-        if kind:  # it is no shell's
+        if kind:  # it is not a shell's
             continue
         for part in re.split(r"^\$ ", block, flags=re.M)[1:]:
             command, _, output = part.partition("\n")
@@ -37,7 +39,9 @@ def commands() -> list[tuple[str, str]]:
 
 
 def folder_of(tmp_path: pathlib.Path) -> dict[str, str]:
-    """A folder with the checkout's parts, and `python3` and `sagas` as the page has them; gives the environment."""
+    """Return the environment of a folder with the checkout's parts, and `python3` and `sagas` as
+    the page has them.
+    """
     for name in ("python", "examples"):
         (tmp_path / name).symlink_to(TOP / name)
     (tmp_path / "bin").mkdir()
@@ -51,7 +55,7 @@ def folder_of(tmp_path: pathlib.Path) -> dict[str, str]:
 
 
 def test_the_page(tmp_path: pathlib.Path) -> None:
-    """From the start of the service to a stuck saga resolved."""
+    """From the start of the service to a resolved stuck saga."""
     told, address = commands(), host()
     assert len(told) > 20
     script = ["trap 'kill $(jobs -p) 2>/dev/null; wait' EXIT"]
@@ -116,7 +120,7 @@ def test_each_command_is_described() -> None:
 
 
 def test_metrics_are_described(tmp_path: pathlib.Path) -> None:
-    """The reference has each figure that a service tells, and each that an alert names is among them."""
+    """The reference has each metric of a service, and each one that an alert names is among them."""
     alerts = " ".join(
         re.findall(r"expr: (.*)", (TOP / "examples" / "service" / "alerts.yml").read_text())
     )
@@ -142,12 +146,14 @@ def test_metrics_are_described(tmp_path: pathlib.Path) -> None:
 
 
 def test_each_wait_is_described() -> None:
-    """The reference has each reason for which an attempt waits, and the page on troubles what the command says of it."""
+    """The reference has each reason for which an attempt waits, and the page on troubleshooting the
+    command's text for it.
+    """
     from sagas.cli.backlog import NEEDS, waits_for
     from sagas.core.states import WAITS_FOR, Suspension
 
     table = PAGE.partition("| `why` |")[2].partition("\n\n")[0]
-    inner = {Suspension.STEP_LIMIT, Suspension.FLEET_LIMIT}  # what the store calls them
+    inner = {Suspension.STEP_LIMIT, Suspension.FLEET_LIMIT}  # the names in the store
     assert set(WAITS_FOR) - inner == set(
         re.findall(r"`(\w+)`", re.sub(r"(?m)^(\|[^|]*)\|.*", r"\1", table))
     )
@@ -168,7 +174,9 @@ def test_each_wait_is_described() -> None:
 def test_the_containers_have_one_image_and_its_tokens_can_be_read(
     tmp_path: pathlib.Path, engine: str
 ) -> None:
-    """With docker, root owns the files that a container writes: those of tokens are for others, too."""
+    """With docker, root owns the files that a container writes: token files must be readable for
+    others.
+    """
     deploy = shutil.copytree(TOP / "examples" / "deploy", tmp_path / "deploy")
     places = (TOP / "docs" / "guides" / "service.md", deploy / "Containerfile")
     (image,) = {
@@ -211,7 +219,9 @@ def test_the_containers_have_one_image_and_its_tokens_can_be_read(
 
 
 def test_the_unit_starts_a_service(tmp_path: pathlib.Path) -> None:
-    """Its command, with the folders of this test; it has time to end, and descriptors for its connections."""
+    """It runs its command, with the folders of this test; it has time to end, and descriptors for
+    its connections.
+    """
     unit = configparser.ConfigParser(interpolation=None, strict=False)
     unit.read(TOP / "examples" / "service" / "sagas.service")
     service = unit["Service"]
@@ -237,7 +247,7 @@ def test_the_unit_starts_a_service(tmp_path: pathlib.Path) -> None:
 
 
 def test_the_unit_is_hardened() -> None:
-    """systemd's own measure of what the service may do: at most 2.0 of 10."""
+    """By systemd's own measure of a service's exposure: at most 2.0 of 10."""
     unit = TOP / "examples" / "service" / "sagas.service"
     words = [
         "systemd-analyze",

@@ -1,5 +1,7 @@
-"""A worker's token reports what that worker was given, and nothing else: over a file and a
-database, at the service that drives the saga and at another."""
+"""A worker's token reports only the tasks of that worker.
+
+Over a file and a database, at the service that drives the saga and at another.
+"""
 
 from __future__ import annotations
 
@@ -81,8 +83,10 @@ class World:
         )
 
     def start(self, definition: str, key: str) -> str:
-        """Starts a saga; gives what its tokens begin with, as each worker knows it who had a task
-        of the same log."""
+        """Start a saga; return the prefix of its tokens.
+
+        Each worker that had a task of the same log knows it.
+        """
         assert start(self.caller, definition, key).status_code == 201
         deadline = time.monotonic() + LONG
         while (view := self.looks.ask(one_saga.view(key))) is None:
@@ -93,7 +97,7 @@ class World:
         return self.operator.get(f"/v1/sagas/{key}").json()
 
     def waits(self, key: str, why: str) -> None:
-        """Until the saga waits for that."""
+        """Wait until the saga waits for that."""
         deadline = time.monotonic() + LONG
         while why not in [one["why"] for one in self.saga(key)["waits"]]:
             assert time.monotonic() < deadline, self.saga(key)
@@ -101,7 +105,7 @@ class World:
     def forged(
         self, task: str, lease: Any, by: str = "bob", verbs: Any = WORDS
     ) -> set[tuple[int, str]]:
-        """What the services answer to reports of this task, by each verb at each service."""
+        """Return the responses to reports of this task, by each verb at each service."""
         found = set()
         for client in self.clients[by]:
             for verb, body in verbs:
@@ -126,8 +130,9 @@ INVALID = {(403, "InvalidLease")}
 
 
 def guesses(world: World) -> list[str]:
-    """Leases that were not issued for the task: well made ones, odd ones, and one that this worker
-    has for a task of its own."""
+    """Return leases that were not issued for the task: well-formed ones, odd ones, and one that
+    this worker has for its own task.
+    """
     assert start(world.caller, "licence", f"own-{time.monotonic_ns()}").status_code == 201
     (own,) = take(world.clients["bob"][0], "licence/server")
     number, _, signed = own["lease"].partition(".")
@@ -174,8 +179,9 @@ def is_unmoved(world: World, key: str, before: Any) -> None:
 def test_what_no_worker_was_given(
     world: World, definition: str, step: str, why: str | None
 ) -> None:
-    """No report of it counts, whatever the lease: nothing moves, and the answer says nothing about
-    the task."""
+    """No report of it counts, whatever the lease: nothing changes, and the response says nothing
+    about the task.
+    """
     key = f"forged-{definition}"
     begin = world.start(definition, key)
     if why:
@@ -201,23 +207,22 @@ def test_what_no_worker_was_given(
             "repeated": False,
             "next": None,
         }
-    assert (
-        world.caller.post(f"/v1/sagas/{key}/abort", json={}).status_code == 200
-    )  # its further tasks are no other test's
+    # its further tasks are not another test's
+    assert world.caller.post(f"/v1/sagas/{key}/abort", json={}).status_code == 200
 
 
 def test_another_worker_s_task(world: World) -> None:
-    """Not under a lease of another task, nor under the very lease, by another's token; its own
-    worker reports it at any service, and once."""
+    """Not under a lease of another task, nor under the right lease by another's token; its own
+    worker reports it at any service, once.
+    """
     begin = world.start("few", "forged-other")
     (task,) = take(world.ada, "few/a")
     assert task["attempt_id"] == f"{begin}-a-run-1"
     before = world.saga("forged-other")
     for guess in [*guesses(world), task["lease"]]:
         assert world.forged(task["attempt_id"], guess) == INVALID, guess
-    assert (
-        world.forged(task["attempt_id"], task["lease"], by="operator") == INVALID
-    )  # an operator may do what workers do, with tasks of its own
+    # an operator may do what workers do, with its own tasks
+    assert world.forged(task["attempt_id"], task["lease"], by="operator") == INVALID
     is_unmoved(world, "forged-other", before)
     assert report(world.clients["ada"][-1], task, "fail", error="full").json() == {
         "kept": True,
@@ -226,10 +231,11 @@ def test_another_worker_s_task(world: World) -> None:
     }
     (again,) = take(world.ada, "few/a/undo", "few/a", wait=1) or [None]
     assert again is None or again["attempt_id"] != task["attempt_id"]
+    # a reported task is visible only to its worker; no response shows whether a guess is right
     for guess in [
         *guesses(world),
         task["lease"],
-    ]:  # what was reported is told to none but its worker, not even whether a guess is right
+    ]:
         assert (
             world.forged(
                 task["attempt_id"],
@@ -241,7 +247,7 @@ def test_another_worker_s_task(world: World) -> None:
 
 
 def test_a_lease_is_of_one_attempt(world: World) -> None:
-    """The next try has a token of its own, and the lease of the one before is none for it."""
+    """The next try has its own token, and the lease of the one before is not valid for it."""
     world.start("trip", "forged-attempt")
     (flight,) = take(world.ada, "trip/flight")
     report(world.ada, flight, result=1)
@@ -261,8 +267,9 @@ def test_a_lease_is_of_one_attempt(world: World) -> None:
 
 
 def test_what_waits_for_a_person(world: World) -> None:
-    """Neither a forged lease nor the one under which it was given says how it ended: a person
-    does."""
+    """Neither a forged lease nor the one under which it was issued reports the outcome: only an
+    operator does.
+    """
     world.start("trip", "forged-unknown")
     for step in ("trip/flight", "trip/car"):
         (task,) = take(world.ada, step)

@@ -1,4 +1,7 @@
-"""Whoever is not meant well: any JSON by the schema and against it, bytes, long bodies, idle connections, clients that never read."""
+"""Hostile clients: any JSON by the schema and against it, bytes, long bodies, idle connections.
+
+Some clients never read.
+"""
 
 from __future__ import annotations
 
@@ -40,7 +43,7 @@ def service(tmp_path_factory: pytest.TempPathFactory) -> Iterator[Served]:
 
 
 def memory(service: Served) -> int:
-    """The most memory that the service has had, in bytes."""
+    """Return the most memory that the service has had, in bytes."""
     assert service.process
     found = re.search(
         r"VmHWM:\s+(\d+) kB", pathlib.Path(f"/proc/{service.process.pid}/status").read_text()
@@ -50,7 +53,7 @@ def memory(service: Served) -> int:
 
 
 def is_well(service: Served) -> None:
-    """It answers, and nothing of it has failed."""
+    """Check that it answers, and has no internal error."""
     with service.client() as client:
         assert client.get("/health/live").json() == {"alive": True}
         assert client.get("/v1/sagas/there").json()["key"] == "there"
@@ -91,7 +94,7 @@ VALUES = st.recursive(
 
 
 def of_schema(told: dict[str, Any], whole: dict[str, Any]) -> st.SearchStrategy[Any]:
-    """Values as a schema says, mostly."""
+    """Draw values of a schema, mostly."""
     if "$ref" in told:
         return of_schema(whole["components"]["schemas"][told["$ref"].rsplit("/", 1)[1]], whole)
     if "enum" in told:
@@ -123,7 +126,7 @@ def of_schema(told: dict[str, Any], whole: dict[str, Any]) -> st.SearchStrategy[
 
 @st.composite
 def requests(draw: st.DrawFn, schema: dict[str, Any]) -> tuple[str, str, bytes, str]:
-    """A request of a path of the schema: right, nearly right, or not at all."""
+    """Draw a request of a path of the schema: right, nearly right, or not at all."""
     path = draw(st.sampled_from(sorted(set(schema["paths"]) - {"/v1/events"})))
     method, told = draw(st.sampled_from(sorted(schema["paths"][path].items())))
     query = {}
@@ -161,7 +164,7 @@ def requests(draw: st.DrawFn, schema: dict[str, Any]) -> tuple[str, str, bytes, 
 
 
 def send_any_json(service: Served, most: settings) -> None:
-    """Whatever is asked, by the schema or nearly: an answer in JSON that is no fault of the service."""
+    """Each request, by the schema or nearly, gets a response in JSON that is not an internal error."""
     with service.client() as client:
         schema = client.get("/openapi.json").json()
 
@@ -181,7 +184,7 @@ ODD = ("%00", "a%00b", "%ED%A0%80", "%FF", "%F0%9F%92%A9", "%", "_", "'%22%3B--"
 
 
 def send_odd_texts(service: Served) -> None:
-    """Zeros, halves of pairs and what is no UTF-8, wherever a text may stand."""
+    """Send zeros, halves of surrogate pairs and invalid UTF-8 in each place of a text."""
     with service.client() as client:
         for odd in ODD:
             for path in (
@@ -275,7 +278,7 @@ PARTS = [
 @MANY
 @given(st.lists(st.one_of(st.binary(max_size=200), st.sampled_from(PARTS)), max_size=6))
 def send_any_bytes(service: Served, parts: list[bytes]) -> None:
-    """What is no HTTP is refused, or closed."""
+    """A request that is not HTTP is refused, or closed."""
     with connection(service) as one:
         with contextlib.suppress(OSError):
             one.sendall(b"".join(parts))
@@ -298,7 +301,9 @@ def test_any_bytes_leave_it_well(service: Served) -> None:
 
 @pytest.mark.parametrize("path", ["/", "/health/live", "/v1/events"])
 def test_a_body_that_is_no_http(service: Served, path: str) -> None:
-    """Behind a request that needs none, at once and once its answer has begun: the connection ends, and nothing has failed."""
+    """It follows a request that needs none, at once and once its response has started: the
+    connection ends, and there is no internal error.
+    """
     head = f"GET {path} HTTP/1.1\r\nHost: 127.0.0.1\r\nTransfer-Encoding: chunked\r\n\r\n".encode()
     with connection(service) as one:
         one.sendall(head + b"no chunk\r\n")
@@ -327,7 +332,7 @@ def pieces(count: int, size: int) -> Iterator[bytes]:
 
 
 def is_refused(service: Served, path: str, content: Any) -> None:
-    """It is too long: 413, or the connection ends while it is sent."""
+    """Return whether it is too long: 413, or the connection ends while it is sent."""
     with service.client() as client, contextlib.suppress(httpx.TransportError):
         assert (
             client.post(
@@ -338,7 +343,7 @@ def is_refused(service: Served, path: str, content: Any) -> None:
 
 
 def test_long_bodies(service: Served) -> None:
-    """A body of 100 MB is refused, whether it says its length or not, and never stands in memory."""
+    """A body of 100 MB is refused, with its length or without, and is never in memory."""
     before = memory(service)
     with connection(service) as one:
         one.sendall(
@@ -362,7 +367,7 @@ def test_long_bodies(service: Served) -> None:
 
 
 def test_ten_thousand_idle_connections(service: Served) -> None:
-    """They give way to whoever asks something, and memory is bounded."""
+    """They are closed for new clients, and memory is bounded."""
     soft, hard = resource.getrlimit(resource.RLIMIT_NOFILE)
     resource.setrlimit(resource.RLIMIT_NOFILE, (hard, hard))
     before, open = memory(service), []
@@ -387,7 +392,7 @@ def test_ten_thousand_idle_connections(service: Served) -> None:
 
 
 def test_clients_that_never_read(service: Served) -> None:
-    """Long answers and streams that nobody takes hold up nobody, and memory is bounded."""
+    """Long responses and streams that no client reads block no other, and memory is bounded."""
     with service.client() as client:
         start(client, "order", "long", "z" * (MEGA - 1000))
     before = memory(service)
@@ -405,7 +410,9 @@ def test_clients_that_never_read(service: Served) -> None:
 
 
 def test_whoever_does_not_read_is_cut_off() -> None:
-    """A connection ends whose client takes nothing of its answer for too long; one that takes it slowly has all of it."""
+    """A connection ends if its client reads nothing of its response for too long; one that reads
+    slowly gets all of it.
+    """
 
     async def long(scope: Any, receive: Any, send: Any) -> None:
         if connection := counted.of(scope["client"]):
@@ -458,7 +465,9 @@ def test_whoever_does_not_read_is_cut_off() -> None:
 
 
 def test_a_client_that_says_no_more_is_gone() -> None:
-    """Its connection closes, and it counts as gone from then on, and not only once the connection is lost: no task is handed to it meanwhile."""
+    """It is closed, and counts as gone from then on, before the connection is lost: no task goes to
+    it in the meantime.
+    """
     gone: list[bool] = []
 
     async def waits(scope: Any, receive: Any, send: Any) -> None:
@@ -492,7 +501,9 @@ def test_a_client_that_says_no_more_is_gone() -> None:
 
 
 def test_a_body_that_does_not_come(tmp_path: pathlib.Path, monkeypatch: pytest.MonkeyPatch) -> None:
-    """Once its time has passed that is answered with 408, and the connection ends; a body that comes in parts is taken."""
+    """Once its time has passed the response is 408, and the connection ends; a body that comes in
+    parts is accepted.
+    """
     monkeypatch.setenv("SAGAS_PROGRAM", program())
     Served(tmp_path)
     told = Settings(

@@ -1,5 +1,7 @@
-"""The inbox in a real Chromium: many sagas of one cause are resolved together, and what waits for a
-person is never out of reach."""
+"""The inbox in a real Chromium: many sagas of one cause are resolved together.
+
+Everything that needs an operator is always reachable.
+"""
 
 from __future__ import annotations
 
@@ -29,7 +31,7 @@ FILES = DEFINITIONS | {
 
 
 def closed_shop(folder: pathlib.Path) -> None:
-    """A saga in the store, of a definition that the service does not have."""
+    """Return a saga in the store, of a definition that the service does not have."""
     shop = sagas.Saga("closed-shop")
 
     @shop.step
@@ -67,7 +69,7 @@ def service(tmp_path_factory: pytest.TempPathFactory) -> Iterator[Served]:
 
 
 def test_forty_of_one_cause_are_resolved(service: Served, tmp_path: pathlib.Path) -> None:
-    """In four clicks: the numbers in their errors do not tell them apart."""
+    """It takes four clicks: the numbers in their errors do not separate them."""
     browser, clicks = Browser(service, tmp_path), 0
     try:
         browser.size(1400)
@@ -106,14 +108,14 @@ def csrf_of(client: httpx.Client) -> str:
 
 
 def hidden(text: str) -> dict[str, str]:
-    """The hidden fields of the form that a page asks with, as a browser sends them."""
+    """Return the hidden fields of a page's form, as a browser sends them."""
     form = text.split('<form class="confirm card')[1].split("</form>")[0]
     fields = re.findall(r'<input type="hidden" name="([^"]+)" value="([^"]*)"', form)
     return {name: html.unescape(value) for name, value in fields}
 
 
 def asked(client: httpx.Client, kind: str, verb: str, **more: str) -> httpx.Response:
-    """What is asked once these are selected, and an action: by default the first group."""
+    """Return the form for a selection and an action: by default the first group."""
     search = more.get("search", "")
     if "one" not in more:
         text = client.get("/ui", params={"kind": kind, "search": search}).text
@@ -130,8 +132,10 @@ def waits(client: httpx.Client, key: str, why: str) -> None:
 
 
 def test_each_is_within_reach(service: Served) -> None:
-    """By the pages of a group; without JavaScript, too. What is wrong with a form is said, and what
-    is refused is counted."""
+    """They are on the pages of a group; without JavaScript, too.
+
+    Errors of a form are shown, and refused sagas are counted.
+    """
     with service.client() as client:
         text = client.get("/ui?kind=approval").text
         group = text.split('name="group" value="')[1].split('"')[0]
@@ -166,8 +170,10 @@ def test_each_is_within_reach(service: Served) -> None:
 
 
 def test_what_nobody_saw_is_not_approved(service: Served) -> None:
-    """A form is for the sagas that it was shown with, as far as they still wait: not for others
-    that have come to their group, also once it was sent before."""
+    """A form is for the sagas that it was shown with, as far as they still wait.
+
+    It is not for others that have come to their group, also if it was sent before.
+    """
     with service.client() as client:
         for key in ("seen-1", "seen-2"):
             start(client, "order", key)
@@ -190,7 +196,8 @@ def test_what_nobody_saw_is_not_approved(service: Served) -> None:
 
 def test_a_form_is_for_what_its_reader_saw(service: Served) -> None:
     """An outcome is not reported of a step that a worker has again, nor once its next outcome is
-    unknown: the form is asked again. Sent twice, it is done once."""
+    unknown: the form is shown again. If it is sent twice, it is executed once.
+    """
     where = "/ui/sagas/hazy/steps/tour/failed"
     said = {"failed": "they have no booking"}
     with service.client() as client:
@@ -222,8 +229,10 @@ def test_a_form_is_for_what_its_reader_saw(service: Served) -> None:
 
 
 def test_a_definition_s_page(service: Served) -> None:
-    """What is at each step, and how long attempts took. Of a definition that the service does not
-    have its sagas are there."""
+    """It shows the number at each step, and the time of attempts.
+
+    For a definition that the service does not have it lists the sagas.
+    """
     with service.client() as client:
         page = client.get("/ui/definitions/licence").text
         assert "Share recovered" in page and "3 failed" in page
@@ -250,21 +259,20 @@ QUESTIONS: list[tuple[str, list[Target], str, str]] = [
 
 
 def test_what_is_asked_of_steps_and_of_compensations() -> None:
-    """Whoever reports on a compensation is asked about that, and not about its step."""
+    """An operator who reports on a compensation is asked about that, and not about its step."""
     for verb, targets, title, text in QUESTIONS:
         told = question_of("unknown", verb, targets).of(targets, verb)
         assert told["title"] == title and told["text"].startswith(text), told
 
 
 def tabs(text: str) -> dict[str, int]:
-    """The number of each kind, and which is shown."""
+    """Return the number of each kind, and which is shown."""
     found = re.findall(r'(aria-current="true")?>([A-Z][a-z ]+) <span class="pill[^>]*>(\d+)', text)
     return {("*" if shown else "") + name: int(count) for shown, name, count in found}
 
 
 def test_a_filter_of_the_inbox(service: Served) -> None:
-    """It shows the first kind of which it selects something, and counts what it selects. Each link
-    keeps it."""
+    """It shows the first kind that it selects from, and counts its matches. Each link keeps it."""
     with service.client() as client:
         start(client, "panel", "panel-1")
         deadline = time.monotonic() + LONG

@@ -1,4 +1,7 @@
-"""Several services over one PostgreSQL database: each gives out all tasks, takes all reports, and shows all sagas; one is killed."""
+"""Several services over one PostgreSQL database.
+
+Each offers all tasks, takes all reports, and shows all sagas; one is killed.
+"""
 
 from __future__ import annotations
 
@@ -67,7 +70,7 @@ def pair(folder: pathlib.Path, url: str) -> Iterator[Pair]:
 
 @pytest.fixture(scope="module")
 def both(tmp_path_factory: pytest.TempPathFactory, postgresql: Server) -> Iterator[Pair]:
-    """A pair for the cases that kill nobody."""
+    """Return a pair for the cases without kills."""
     url = postgresql.create()
     with pair(tmp_path_factory.mktemp("pair"), url) as found:
         yield found
@@ -89,7 +92,9 @@ def test_a_worker_hears_of_an_abort_at_either(both: Pair) -> None:
 
 
 def test_a_task_goes_through_both(both: Pair) -> None:
-    """It is begun at one, taken and beaten for at the other, and reported at the first; each shows all of it."""
+    """It is started at one, claimed and renewed at the other, and reported at the first; each shows
+    all of it.
+    """
     one, two = both.one, both.two
     assert start(one, "trip", "both", {"to": "Rome"}).status_code == 201
     again = start(two, "trip", "both", {"to": "Rome"})
@@ -156,7 +161,7 @@ def test_a_task_goes_through_both(both: Pair) -> None:
 
 
 def test_what_has_begun_at_the_other(both: Pair) -> None:
-    """Each tells for what a step waits, whichever of them has the saga."""
+    """Each reports what a step waits for, whichever of them has the saga."""
     start(both.one, "trip", "begun")
     for client in (both.one, both.two):
         deadline = time.monotonic() + LONG
@@ -169,7 +174,7 @@ def test_what_has_begun_at_the_other(both: Pair) -> None:
 
 
 def test_a_long_take_hears_of_the_other_s_task(both: Pair) -> None:
-    """Whoever waits at one gets what comes at the other; one who has gone gets none."""
+    """A worker that waits at one gets what comes at the other; one that has gone gets none."""
     with pytest.raises(httpx.ReadTimeout), both.services[1].client() as gone:
         gone.post("/v1/tasks/claim", json={"steps": ["licence/server"], "wait": 30}, timeout=0.5)
     found: list[Any] = []
@@ -191,13 +196,15 @@ def test_a_long_take_hears_of_the_other_s_task(both: Pair) -> None:
             queue["ready"],
             queue["claimed"],
         ) == (0, 1)
-        assert "local/w" in client.get("/ui/workers").text  # who asked at the other
+        assert "local/w" in client.get("/ui/workers").text  # the worker that claimed at the other
     report(both.two, found[0])
     all_done(both.two, "licence/licence")
 
 
 def test_what_has_waited_longest_comes_first(both: Pair) -> None:
-    """Whichever service has it; and many who wait at one get what comes at the other, all of them."""
+    """Whichever service has it; and many workers that wait at one get what comes at the other, all
+    of them.
+    """
     start(both.one, "licence", "first")
     deadline = time.monotonic() + LONG
     while not any(
@@ -231,7 +238,9 @@ def test_what_has_waited_longest_comes_first(both: Pair) -> None:
 
 
 def test_people_say_it_anywhere(both: Pair) -> None:
-    """An approval, an abort and a stuck saga that is resolved, each at the service that has not the saga."""
+    """An approval, an abort and a stuck saga that is resolved, each at the service that does not
+    have the saga.
+    """
     start(both.one, "order", "approved")
     deadline = time.monotonic() + LONG
     while not both.two.get("/v1/sagas/approved").json()["waits"]:
@@ -261,7 +270,7 @@ def test_people_say_it_anywhere(both: Pair) -> None:
 
 
 def test_events_of_all(both: Pair) -> None:
-    """A stream at one has what happens at the other."""
+    """A stream at one has the events of the other."""
     with both.services[1].client() as other, other.stream(
         "GET", "/v1/events?key=streamed"
     ) as stream:
@@ -283,7 +292,9 @@ def test_events_of_all(both: Pair) -> None:
 
 
 def test_events_that_a_service_did_not_hear() -> None:
-    """A stream is told that some are lost, and goes on; also one that was away meanwhile, whatever came behind."""
+    """A stream reports that some are lost, and continues; so does one that was disconnected,
+    whatever came later.
+    """
 
     async def main() -> None:
         hub, event = Hub(), Event("saga_ended", 0.0)
@@ -308,7 +319,9 @@ def test_events_that_a_service_did_not_hear() -> None:
 
 
 def test_whatever_is_asked(both: Pair) -> None:
-    """As over a file: nothing comes to a fault of the service that PostgreSQL does not take, or of the one that has the saga."""
+    """As over a file: no request leads to an internal error, of PostgreSQL or of the service that
+    has the saga.
+    """
     start(both.one, "trip", "there")
     start(both.one, "order", "ordered")
     service = both.services[1]
@@ -360,7 +373,9 @@ def test_one_is_killed(tmp_path: pathlib.Path, url: str) -> None:
 
 
 def test_the_database_goes_away(tmp_path: pathlib.Path, postgresql: Server, url: str) -> None:
-    """It says so, and refuses what it cannot keep; once it is there again, all goes on, and a task's report is taken."""
+    """It reports that, and refuses what it cannot store; once the database is back, all continues,
+    and a task's report is accepted.
+    """
 
     def until(status: int, ask: Callable[[], httpx.Response]) -> httpx.Response:
         deadline = time.monotonic() + 2 * LONG
@@ -394,7 +409,9 @@ def test_the_database_goes_away(tmp_path: pathlib.Path, postgresql: Server, url:
 
 
 def test_a_backup_of_the_database(tmp_path: pathlib.Path, postgresql: Server, url: str) -> None:
-    """`pg_dump` beside a running service, and the copy served: what was open goes on, and its task has the same token."""
+    """`pg_dump` runs while a service does, and the copy is served: open sagas continue, and the
+    task has the same token.
+    """
     words = [str(folder_of_programs() / name) for name in ("pg_dump", "pg_restore")]
     with served(
         tmp_path, DEFINITIONS, "--node", "one", "--lease", str(LEASE), store=url

@@ -1,5 +1,8 @@
-"""The OpenAPI document is true, and enough: for clients in other languages, and for a generated one
-that is type-checked. (tests/contract.py compares each answer of all tests with it.)"""
+"""The OpenAPI document is true, and complete.
+
+It serves clients in other languages, and a generated one that is type-checked. (tests/contract.py
+compares each response of all tests with it.)
+"""
 
 from __future__ import annotations
 
@@ -59,7 +62,7 @@ def client(service: Served, operator: str) -> Iterator[httpx.Client]:
 
 
 def test_the_file_is_the_program_s() -> None:
-    """The file of the repository is what the operations come to."""
+    """The file of the repository is generated from the operations."""
     told = f"print it anew: python3 -m sagas.server.openapi > {contract.PATH}"
     assert contract.PATH.read_text() == openapi.text(), told
 
@@ -76,8 +79,9 @@ def references(told: Any) -> Iterator[str]:
 
 
 def test_the_document_is_sound() -> None:
-    """By the rules of OpenAPI 3.1 that matter to generators: ids are single, parameters of paths
-    are declared, references lead somewhere, schemas are schemas, examples fit."""
+    """By the rules of OpenAPI 3.1 that matter to generators: ids are unique, parameters of paths
+    are declared, references lead to objects, schemas are valid, examples fit.
+    """
     document = contract.DOCUMENT
     assert document["openapi"] == "3.1.0" and {"title", "version"} <= set(document["info"])
     for reference in set(references(document)):
@@ -117,7 +121,7 @@ def test_each_problem_is_described() -> None:
 
 
 def test_heads_and_methods(client: httpx.Client) -> None:
-    """HEAD answers as GET, without a body; another method is told which there are."""
+    """HEAD responds as GET, without a body; for another method the response lists those that exist."""
     for path in (
         "/v1/sagas",
         "/health/live",
@@ -138,7 +142,7 @@ def test_heads_and_methods(client: httpx.Client) -> None:
 
 
 def test_a_saga_has_a_place_and_a_tag(client: httpx.Client) -> None:
-    """Where it is, from its start on; the tag changes with it alone."""
+    """It has its URL from its start on; the tag changes only with the saga."""
     answer = start(client, "order", "a/b ü")
     assert answer.headers["location"] == "/v1/sagas/a%2Fb%20%C3%BC"
     got = client.get(answer.headers["location"])
@@ -152,7 +156,7 @@ def test_a_saga_has_a_place_and_a_tag(client: httpx.Client) -> None:
 
 
 def test_bodies_and_parameters(client: httpx.Client) -> None:
-    """What is misspelt, or of another type, is named by its place."""
+    """A misspelt field, or one of another type, is named by its location."""
     for path, body, field in (
         ("/v1/sagas", {"definition": "trip", "key": 5}, "key"),
         ("/v1/sagas", {"definition": "trip"}, "key"),
@@ -179,11 +183,11 @@ def test_bodies_and_parameters(client: httpx.Client) -> None:
         assert (answer.status_code, answer.json()["field"]) == (422, query.partition("=")[0])
     answer = client.post("/v1/sagas", content=b"{}", headers={"content-type": "text/plain"})
     assert (answer.status_code, error_of(answer)) == (415, "UnsupportedMediaType")
-    assert client.post("/v1/sagas/nobody/abort").status_code == 404  # the body may be left out
+    assert client.post("/v1/sagas/nobody/abort").status_code == 404  # the body may be omitted
 
 
 def test_definitions(client: httpx.Client) -> None:
-    """Their steps with costs, and who does them."""
+    """They have their steps with costs, and who does them."""
     found = {one["name"]: one for one in client.get("/v1/definitions").json()["definitions"]}
     assert [*found] == ["few", "licence", "order", "trip"]
     car = found["trip"]["steps"][1]
@@ -195,7 +199,7 @@ def test_definitions(client: httpx.Client) -> None:
 
 
 def test_what_if(client: httpx.Client) -> None:
-    """A plan that `sagas check` accepts; nothing of the saga has changed."""
+    """It returns a plan that `sagas check` accepts; the saga has not changed."""
     start(client, "trip", "suppose")
     all_done(client, "trip/flight", "trip/car")
     before = client.get("/v1/sagas/suppose/log").json()
@@ -226,7 +230,7 @@ def test_what_if(client: httpx.Client) -> None:
 
 
 def generated() -> str:
-    """A typed client in Python, made of the document alone."""
+    """Return a typed client in Python, made of the document only."""
     document, lines = contract.DOCUMENT, ["from typing import Any, Literal, NotRequired, TypedDict"]
     lines.append("def ask(method: str, path: str, body: Any) -> Any: ...")
 

@@ -1,5 +1,7 @@
-"""One token or one address does not take the service from the others: waits, claims, streams and
-connections have limits, and a request ends with its connection."""
+"""One token or one address does not block the service for others.
+
+Waits, claims, streams and connections have limits, and a request ends with its connection.
+"""
 
 from __future__ import annotations
 
@@ -35,7 +37,7 @@ FOREVER = '{"steps":["trip/tour"],"wait":30}'
 
 
 def text(line: str, token: str = "", body: str = "") -> bytes:
-    """A request."""
+    """Return the text of a request."""
     lines = [line, "Host: 127.0.0.1"]
     lines += [f"Authorization: Bearer {token}"] if token else []
     lines += ["Content-Type: application/json", f"Content-Length: {len(body)}"] if body else []
@@ -44,7 +46,7 @@ def text(line: str, token: str = "", body: str = "") -> bytes:
 
 @dataclasses.dataclass
 class Reply:
-    """An answer: its status, its headers and the name of its problem."""
+    """A response: its status, its headers and the name of its problem."""
 
     status: int
     headers: dict[str, str]
@@ -67,18 +69,18 @@ class Callers:
         self.open: list[tuple[asyncio.StreamReader, asyncio.StreamWriter]] = []
 
     async def send(self, *requests: bytes) -> asyncio.StreamReader:
-        """A new connection with these requests; gives what comes back."""
+        """Open a connection and send these requests; return what comes back."""
         back, there = await asyncio.open_connection(*self.address)
         there.write(b"".join(requests))
         self.open.append((back, there))
         return back
 
     async def ask(self, *requests: bytes) -> Reply:
-        """The first answer on a connection of its own."""
+        """Return the first response on a separate connection."""
         return await reply_of(await self.send(*requests))
 
     async def held(self, count: int, request: bytes) -> None:
-        """So many that are not answered."""
+        """Open `count` connections with requests that get no response yet."""
         for _ in range(count):
             await self.send(request)
 
@@ -112,8 +114,10 @@ def started(token: str) -> bytes:
 def test_waits_and_claims_of_a_token(
     tmp_path: pathlib.Path, tokens: dict[str, str], line: str, body: str
 ) -> None:
-    """One more than it may have is 503, which says when to ask again; another token waits as
-    before; one that ends makes room. Nobody's connection is reset."""
+    """One more than it may have is 503, with the time after which to retry.
+
+    Another token waits as before; one that ends frees its slot. No connection is reset.
+    """
 
     async def ask(address: tuple[str, int]) -> None:
         async with callers(address) as evil, callers(address) as others:
@@ -139,8 +143,9 @@ def test_waits_and_claims_of_a_token(
 def test_a_report_counts_when_no_claim_may_follow(
     tmp_path: pathlib.Path, tokens: dict[str, str]
 ) -> None:
-    """Where a token has as many claims as it may have, a report with a claim behind it is stored
-    and answered at once."""
+    """If a token has as many claims as it may have, a report with a following claim is stored and
+    answered at once.
+    """
 
     async def ask(address: tuple[str, int]) -> None:
         async with callers(address) as evil, callers(address) as others:
@@ -163,7 +168,7 @@ def test_a_report_counts_when_no_claim_may_follow(
 
 
 def test_connections_of_a_token(tmp_path: pathlib.Path, tokens: dict[str, str]) -> None:
-    """With a request at work."""
+    """They count while a request is in progress."""
 
     async def ask(address: tuple[str, int]) -> None:
         async with callers(address) as evil, callers(address) as others:
@@ -186,8 +191,9 @@ def test_connections_of_a_token(tmp_path: pathlib.Path, tokens: dict[str, str]) 
 def test_connections_of_an_address(
     tmp_path: pathlib.Path, tokens: dict[str, str], is_behind_proxy: bool
 ) -> None:
-    """Each above the limit is told so, on its own connection; health and operators are answered. Of
-    a trusted proxy the address counts that it hands on."""
+    """Each one above the limit gets the error, on its own connection; health checks and operators
+    are answered. For a trusted proxy the forwarded address counts.
+    """
     proxied = "\r\nX-Forwarded-For: 192.0.2.7" if is_behind_proxy else ""
     wait = text(WAIT + "\r\nX: y" + proxied, tokens["evil"])
     once = text("GET /v1/sagas HTTP/1.1" + proxied, tokens["evil"])
@@ -220,7 +226,7 @@ def test_connections_of_an_address(
 
 
 def test_places_for_health_and_operators(tmp_path: pathlib.Path, tokens: dict[str, str]) -> None:
-    """When all others are taken, and above: whoever comes is answered, and not reset."""
+    """When all others are taken, and above: each request is answered, and not reset."""
 
     async def ask(address: tuple[str, int]) -> None:
         async with callers(address) as evil, callers(address) as others:
@@ -241,8 +247,9 @@ def test_places_for_health_and_operators(tmp_path: pathlib.Path, tokens: dict[st
 
 
 def test_who_reads_nothing_gives_way(tmp_path: pathlib.Path, tokens: dict[str, str]) -> None:
-    """More clients than there may be connections, without a token, ask for much and read nothing:
-    whoever comes is answered."""
+    """More clients than there may be connections, without a token, request much and read nothing:
+    each new one is answered.
+    """
 
     async def ask(address: tuple[str, int]) -> None:
         async with callers(address) as evil, callers(address) as others:
@@ -263,8 +270,9 @@ def test_who_reads_nothing_gives_way(tmp_path: pathlib.Path, tokens: dict[str, s
 def test_nothing_hides_behind_a_wait(
     tmp_path: pathlib.Path, tokens: dict[str, str], parser: str, monkeypatch: pytest.MonkeyPatch
 ) -> None:
-    """What is sent behind a wait, a claim or a stream ends it; so does the client's end, at once,
-    whatever it has sent."""
+    """Data that is sent after a wait, a claim or a stream ends it; so does the client's end, at
+    once, whatever it has sent.
+    """
     if parser == "httptools":
         pytest.importorskip("httptools")
     else:
@@ -314,7 +322,7 @@ def test_nothing_hides_behind_a_wait(
 
 
 def test_a_stop_after_pipelined_requests(tmp_path: pathlib.Path) -> None:
-    """SIGTERM ends the service, whatever clients have left behind."""
+    """SIGTERM ends the service, whatever requests clients have left."""
     with served(tmp_path, DEFINITIONS) as service:
         name, _, port = service.address.rpartition(":")
         with service.client() as client:
@@ -333,7 +341,7 @@ def test_a_stop_after_pipelined_requests(tmp_path: pathlib.Path) -> None:
 def test_a_stop_has_a_deadline(
     tmp_path: pathlib.Path, tokens: dict[str, str], monkeypatch: pytest.MonkeyPatch
 ) -> None:
-    """A client that reads nothing of a long answer holds it up for a moment only."""
+    """A client that reads nothing of a long response delays it only for a moment."""
     monkeypatch.setattr(uvicorn_server, "FOR_REQUESTS", 0.5)
     servers: list[Any] = []
     serving = uvicorn_server.Serving
@@ -406,7 +414,7 @@ BAD = [
 
 @given(st.lists(st.sampled_from(GOOD), min_size=1, max_size=4), st.data())
 def test_requests_are_divided(requests: list[bytes], data: st.DataObject) -> None:
-    """However they come, each is taken by itself, byte for byte."""
+    """However they arrive, each is parsed by itself, byte for byte."""
     stream, framing = b"".join(requests), RequestFraming()
     cuts = data.draw(st.lists(st.integers(0, len(stream)), max_size=6))
     edges, found = [0, *sorted(cuts), len(stream)], [b""]
@@ -422,7 +430,7 @@ def test_requests_are_divided(requests: list[bytes], data: st.DataObject) -> Non
 @pytest.mark.parametrize("request_text", BAD, ids=range(len(BAD)))
 @pytest.mark.parametrize("size", [1, 7, 1 << 20])
 def test_requests_that_may_be_read_in_two_ways(request_text: bytes, size: int) -> None:
-    """Whatever arrives first."""
+    """They are refused, whichever part arrives first."""
     framing = RequestFraming()
     with pytest.raises(Malformed):
         for begin in range(0, len(request_text), size):
@@ -432,8 +440,10 @@ def test_requests_that_may_be_read_in_two_ways(request_text: bytes, size: int) -
 
 
 def test_what_is_no_request_is_refused(tmp_path: pathlib.Path) -> None:
-    """With an answer that says so; also behind a request that was answered. Its connection ends,
-    and what the client still sends does not reset it."""
+    """The response says so; also after a request that was answered.
+
+    Its connection ends, and what the client still sends does not reset it.
+    """
     with served(tmp_path, DEFINITIONS) as service:
         name, _, port = service.address.rpartition(":")
         for request_text in BAD:
@@ -485,7 +495,7 @@ class Quick(Served):
 
 
 def until_there(path: pathlib.Path) -> None:
-    """Waits for a file."""
+    """Wait for a file."""
     deadline = time.monotonic() + LONG
     while not path.exists():
         assert time.monotonic() < deadline
@@ -493,7 +503,7 @@ def until_there(path: pathlib.Path) -> None:
 
 
 def test_a_stop_that_hangs_ends_the_process(tmp_path: pathlib.Path) -> None:
-    """A function that never returns holds it up: the process ends, and says so."""
+    """A function that never returns blocks it: the process ends, and reports that."""
     (tmp_path / "stuck.py").write_text(STUCK)
     service = Quick(tmp_path, DEFINITIONS, "--app", "stuck:SAGAS")
     try:

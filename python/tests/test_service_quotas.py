@@ -41,7 +41,10 @@ def begun(client: httpx.Client, name: str, count: int, given: object = None) -> 
 
 
 def test_so_many_are_open(service: tuple[Served, dict[str, str]]) -> None:
-    """Also behind a restart. A start that is repeated is answered, and one that ends makes room."""
+    """This holds also after a restart.
+
+    A repeated start is answered, and a saga that ends frees its share.
+    """
     served, tokens = service
     with served.client(tokens["three"]) as client, served.client(tokens["operator"]) as operator:
         assert begun(client, "three", 3) == [201] * 3

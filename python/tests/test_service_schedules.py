@@ -38,7 +38,7 @@ def world(tmp_path_factory: pytest.TempPathFactory, store: str | None) -> Iterat
 
 
 def declare(service: Served, name: str, saga: str, seconds: float, *policy: Any) -> None:
-    """A schedule, as a program declares it beside the service."""
+    """Declare a schedule, as a program does while the service runs."""
     when = timing(None, seconds, "UTC", *(policy or ("last",)))
     with contextlib.closing(admin.connect(service.store, "rw")) as link:
         labels = json.dumps({"by": name})
@@ -50,7 +50,7 @@ def names(client: httpx.Client) -> list[str]:
 
 
 def found_by(client: httpx.Client, label: str) -> list[dict[str, Any]]:
-    """Waits for sagas with a label."""
+    """Wait for sagas with a label."""
     deadline = time.monotonic() + LONG
     while not (found := client.get("/v1/sagas", params={"label": label}).json()["sagas"]):
         assert time.monotonic() < deadline
@@ -59,7 +59,9 @@ def found_by(client: httpx.Client, label: str) -> list[dict[str, Any]]:
 
 
 def test_the_service_starts_and_changes_schedules(world: World) -> None:
-    """Of definitions that the token may see; of others it hears as of those that are not there."""
+    """They are of definitions that the token may see; for others the response is that of unknown
+    ones.
+    """
     operator, of_order, caller = world["operator"], world["of-order"], world["caller"]
     declare(world.service, "tick", "order", 1.0)
     declare(world.service, "trips a/b", "trip", 3600.0)
@@ -86,8 +88,9 @@ def test_the_service_starts_and_changes_schedules(world: World) -> None:
 
 
 def test_the_dashboard_has_schedules_and_labels(world: World) -> None:
-    """A page with forms, which ask for the session's word, and before they remove one; and a filter
-    of the list."""
+    """It has a page with forms, which need the session's token, and ask before they remove one; and
+    a filter of the list.
+    """
     page = world.page("operator")
     declare(world.service, "<b>night", "trip", 86400.0, "all", 7, "queue")
     text = page.get("/ui/schedules").text

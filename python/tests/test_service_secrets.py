@@ -1,4 +1,4 @@
-"""What the service tells to whom, and who may read its files."""
+"""What the service shows to which client, and who may read its files."""
 
 from __future__ import annotations
 
@@ -59,7 +59,7 @@ def service(tmp_path_factory: pytest.TempPathFactory) -> Iterator[tuple[Served, 
 
 
 def leads_to(service: Served, token: str, wanted: str) -> str:
-    """Where a login leads that was asked to lead there."""
+    """Return the target of a login that was requested with this target."""
     with service.client() as client:
         answer = client.post("/ui/login", data={"token": token, "next": wanted})
     assert answer.status_code == 303
@@ -85,7 +85,7 @@ BODIES = [
 
 @pytest.mark.parametrize("body", BODIES)
 def test_a_key_comes_once(service: tuple[Served, str], body: str) -> None:
-    """Of two, programs differ in which counts."""
+    """Of two keys, programs differ in which one counts."""
     with service[0].client(service[1]) as client:
         headers = {"content-type": "application/json"}
         answer = client.post("/v1/sagas", content=body, headers=headers)
@@ -119,8 +119,10 @@ def test_numbers_are_those_of_json(service: tuple[Served, str], name: str, value
 
 
 def test_the_document_has_each_answer(service: tuple[Served, str]) -> None:
-    """Of each operation: what it answers to a parameter that it does not have. The client compares
-    each answer with the document."""
+    """Of each operation: the response to a parameter that it does not have.
+
+    The client compares each response with the document.
+    """
     with service[0].client(service[1]) as client:
         document = client.get("/openapi.json")
         for path, methods in document.json()["paths"].items():
@@ -140,7 +142,7 @@ def test_the_document_has_each_answer(service: tuple[Served, str]) -> None:
 
 
 def test_a_lost_database_is_not_named(postgresql: Server, tmp_path: pathlib.Path) -> None:
-    """Its role, host, port and name are in the log alone."""
+    """Its role, host, port and name are only in the log."""
     url = postgresql.create()
     name = url.rpartition("/")[2]
     names = {role: token(tmp_path, role, role) for role in ("caller", "worker", "operator")}
@@ -170,7 +172,7 @@ def test_a_lost_database_is_not_named(postgresql: Server, tmp_path: pathlib.Path
 
 
 def modes(folder: pathlib.Path) -> dict[str, int]:
-    """The modes of all files of a folder and below."""
+    """Return the modes of all files of a folder and below."""
     return {path.name: path.stat().st_mode & 0o777 for path in folder.rglob("*") if path.is_file()}
 
 
@@ -195,13 +197,16 @@ def test_files_are_private(tmp_path: pathlib.Path) -> None:
     finally:
         os.umask(before)
     found |= modes(tmp_path)
-    assert found.pop("store.db.lock") == 0o644  # it is empty, and says who has the store open
+    # it is empty, and names the program that has the store open
+    assert found.pop("store.db.lock") == 0o644
     assert {*found.values()} == {0o600}, found
 
 
 def test_files_of_rights(tmp_path: pathlib.Path) -> None:
-    """One that every user may write is refused; one that others may read is told of in the log.
-    `sagas token` follows no link, and leaves the mode of a file as it is."""
+    """A file that every user may write is refused; one that others may read is logged.
+
+    `sagas token` follows no link, and keeps the mode of a file.
+    """
     token(tmp_path, "a", "caller")
     path = tmp_path / "tokens.toml"
     assert path.stat().st_mode & 0o777 == 0o600 and private_files.warning(path) is None

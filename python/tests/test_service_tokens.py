@@ -1,5 +1,7 @@
-"""What a token is kept to: definitions, steps of workers, and a time; over a file and a
-database."""
+"""The restrictions of a token: definitions, steps of workers, and a time.
+
+Over a file and a database.
+"""
 
 from __future__ import annotations
 
@@ -64,7 +66,7 @@ class World:
         return self.clients[name]
 
     def page(self, name: str) -> httpx.Client:
-        """A browser, logged in by this token."""
+        """Return a browser, logged in by this token."""
         if f"page {name}" not in self.clients:
             client = self.clients[f"page {name}"] = self.service.client()
             answer = client.post("/ui/login", data={"token": self.tokens[name]})
@@ -108,8 +110,9 @@ def told(answer: httpx.Response) -> tuple[int, str, str]:
 
 
 def test_a_caller_starts_its_definitions(world: World) -> None:
-    """Any other is refused by name, whether there is one or not; and of a key that is another's
-    saga nothing is told but that it is taken."""
+    """Any other is refused by name, whether it exists or not; for a key of another definition's
+    saga the response says only that it is taken.
+    """
     client = world["of-trip"]
     assert start(client, "trip", "t-1").status_code == 201
     for name in ("order", "nothing"):
@@ -139,7 +142,7 @@ def test_a_caller_starts_its_definitions(world: World) -> None:
 
 
 def test_a_caller_sees_its_definitions(world: World) -> None:
-    """In the list, whatever it asks for."""
+    """This holds in the list, whatever its filter."""
     client = world["of-trip"]
     for query in ("", "?search=a-", "?phase=open", "?phase=stuck", "?limit=1000"):
         found = client.get(f"/v1/sagas{query}").json()["sagas"]
@@ -171,7 +174,7 @@ BY_KEY: list[tuple[str, str, str, Any]] = [
 
 
 def test_another_definition_s_saga_is_none(world: World) -> None:
-    """By its key it is answered as a key that nobody has, word for word; and nothing is done."""
+    """For its key the response is that of an unknown key, word for word; and nothing is done."""
     before = world["operator"].get("/v1/sagas/a-order").json()
     for name, method, path, body in BY_KEY:
         answers = []
@@ -260,7 +263,7 @@ def test_a_token_of_some_keys(world: World) -> None:
 
 
 def listened(world: World, path: str, ready: threading.Barrier, found: list[str]) -> None:
-    """What a stream tells, until it has told of the abort of the saga that is its own."""
+    """Return the events of a stream, until it has that of the abort of its own saga."""
     client = world.service.client(world.tokens["of-trip"])
     with client, client.stream("GET", path) as stream:
         lines = stream.iter_lines()
@@ -274,7 +277,9 @@ def listened(world: World, path: str, ready: threading.Barrier, found: list[str]
 
 
 def test_a_stream_has_its_definitions(world: World) -> None:
-    """What happens to others is not in it; what is of no definition is for those who see all."""
+    """The events of other definitions are not in it; events without a definition are for tokens
+    that see all.
+    """
     paths = ["/v1/events", "/v1/events?definition=trip"]
     found: dict[str, list[str]] = {path: [] for path in paths}
     ready = threading.Barrier(len(paths) + 1)
@@ -294,8 +299,7 @@ def test_a_stream_has_its_definitions(world: World) -> None:
 
 
 def test_a_stream_of_another_s_saga_has_nothing(world: World) -> None:
-    """By its definition it is refused; by its key it is one of a key that nobody has, also behind
-    an id."""
+    """By its definition it is refused; by its key it is one of an unknown key, also after an id."""
     assert told(world["of-trip"].get("/v1/events?definition=order"))[:2] == (403, "Forbidden")
     start(world["caller"], "order", "behind-an-id")
     headers = {"Last-Event-ID": last_id(world)}
@@ -303,19 +307,20 @@ def test_a_stream_of_another_s_saga_has_nothing(world: World) -> None:
         lines = stream.iter_lines()
         assert [next(lines).strip() for _ in range(3)][2] == ": open"
         start(world["caller"], "order", "behind-it")
-        quiet = next(line for line in lines if line.strip())  # the comment of a stream without news
+        # the comment of a stream without events
+        quiet = next(line for line in lines if line.strip())
         assert quiet.startswith(":")
 
 
 def last_id(world: World) -> str:
-    """The id of the first event that a stream of all would have."""
+    """Return the id of the first event that a stream of all would have."""
     with world["operator"].stream("GET", "/v1/events") as stream:
         id = next(line for line in stream.iter_lines() if line.startswith("id:"))[3:].strip()
     return f"{id.partition('-')[0]}-0"
 
 
 def test_a_worker_takes_its_steps(world: World) -> None:
-    """What it asks for beyond them is named; and with a report it takes no others."""
+    """Steps beyond them are named in the error; a report claims no others with it."""
     start(world["caller"], "order", "stepped")
     world.waits("stepped", "approval")
     world["approves-order"].post("/v1/sagas/stepped/steps/review/complete", json={"result": 1})
@@ -343,14 +348,13 @@ def test_a_worker_takes_its_steps(world: World) -> None:
     (sent,) = [one for one in take(world["both"], "order/send", most=10) if one["key"] == "stepped"]
     forbidden = report(world["both"], sent, result=1, next={"steps": ["trip/flight"]})
     assert (forbidden.status_code, error_of(forbidden)) == (403, "Forbidden")
-    assert (
-        world["operator"].get("/v1/sagas/stepped").json()["states"]["send"] == "running"
-    )  # refused before anything was kept
+    # refused before anything was stored
+    assert world["operator"].get("/v1/sagas/stepped").json()["states"]["send"] == "running"
     assert report(world["both"], sent, result=1).status_code == 200
 
 
 def test_a_worker_ends_its_own_claims(world: World) -> None:
-    """By its token and its name, and nobody else does. They are answered at once."""
+    """Its token and its name end them, and no other token does. They are answered at once."""
     found: list[Any] = []
     claims = threading.Thread(target=lambda: found.extend(take(world["sends"], "order/pay/undo")))
     claims.start()
@@ -364,7 +368,7 @@ def test_a_worker_ends_its_own_claims(world: World) -> None:
         ("sends", {}),
     ):
         assert world[name].post(path, json=words).json() == {"ended": 0}
-    until_ended = time.monotonic() + LONG  # until the claim has come there
+    until_ended = time.monotonic() + LONG  # until the claim has arrived there
     other = world.service.client(world.tokens["sends"])
     while other.post(path, json=ends).json() == {"ended": 0}:
         assert claims.is_alive() and time.monotonic() < until_ended
@@ -379,7 +383,7 @@ def csrf_of(client: httpx.Client, path: str) -> str:
 
 
 OTHERS = ("a-trip", "a-licence", "trip/", ">trip<", ">licence<")
-"""What a page of an operator who is kept to another definition does not have."""
+"""Texts that are not on a page of an operator who is restricted to another definition."""
 
 
 def test_the_dashboard_has_its_definitions(world: World) -> None:
@@ -425,7 +429,7 @@ FORMS: list[tuple[str, dict[str, str]]] = [
 
 
 def test_the_dashboard_does_nothing_to_others(world: World) -> None:
-    """Another's saga is there as one that nobody has, also for its forms."""
+    """Another definition's saga looks like an unknown one, also for its forms."""
     page = world.page("of-order")
     csrf = csrf_of(page, "/ui/sagas/a-order/abort")
     for key in ("a-trip", "no-trip"):
@@ -442,8 +446,10 @@ def test_the_dashboard_does_nothing_to_others(world: World) -> None:
 
 
 def test_the_dashboard_starts_its_definitions(world: World) -> None:
-    """No other; and a key that is another's saga is only said to be taken. What is its own it
-    does."""
+    """It starts no others; a key of another definition's saga is only reported as taken.
+
+    For its own definition everything works.
+    """
     page = world.page("of-order")
     csrf = csrf_of(page, "/ui/sagas/a-order/abort")
     other = {"csrf": csrf, "definition": "trip", "key": "by-page"}
@@ -463,7 +469,9 @@ def soon(seconds: float) -> str:
 
 
 def test_a_token_that_expires(tmp_path: pathlib.Path) -> None:
-    """It is 401 from then on, and says so; its stream and its session end without a new start."""
+    """The response is 401 from then on, with the reason; its stream and its session end without a
+    restart.
+    """
     expires = 10.0
     old = token(tmp_path, "old", "operator", "--expires", soon(-1))
     later = token(tmp_path, "later", "operator", "--expires", "2999-01-01T00:00:00+02:00")
@@ -500,8 +508,9 @@ def test_a_token_that_expires(tmp_path: pathlib.Path) -> None:
 
 
 def test_a_stream_ends_with_its_token(tmp_path: pathlib.Path) -> None:
-    """Taken out of the file, or kept to less: in a moment it is told nothing more, and its
-    session's neither once that is logged out."""
+    """It is removed from the file, or restricted further: soon the stream has no more events, and
+    its session's stream has none once that is logged out.
+    """
     words = {name: token(tmp_path, name, "operator") for name in ("gone", "less", "stays")}
     file = tmp_path / "tokens.toml"
     with served(
@@ -539,11 +548,11 @@ def test_a_stream_ends_with_its_token(tmp_path: pathlib.Path) -> None:
 def test_a_file_that_was_unreadable_once(
     tmp_path: pathlib.Path, monkeypatch: pytest.MonkeyPatch
 ) -> None:
-    """It is read at a later look though nothing of it has changed, as behind a `chown`; the log says it once."""
+    """A later look reads it though it has not changed, as after a `chown`; the log reports it once."""
     gone, stays = (token(tmp_path, name, "operator") for name in ("gone", "stays"))
     file, said = tmp_path / "tokens.toml", list[str]()
     tokens = auth.Tokens(file, said.append)
-    monkeypatch.setattr(auth, "LOOK", -1.0)  # each question is a look
+    monkeypatch.setattr(auth, "LOOK", -1.0)  # each request is a look
     file.write_text("[[token]]" + file.read_text().rpartition("[[token]]")[2])
     soft, hard = resource.getrlimit(resource.RLIMIT_NOFILE)
     resource.setrlimit(resource.RLIMIT_NOFILE, (0, hard))  # it can be looked at, and not be opened
@@ -559,8 +568,9 @@ def test_a_file_that_was_unreadable_once(
 
 
 def test_what_waits_ends_with_its_token(tmp_path: pathlib.Path) -> None:
-    """A long question is refused once its token is taken away, or asked again once it is kept to
-    less; what comes then is another's."""
+    """A long request is refused once its token is removed, or evaluated again once it is
+    restricted; a later task goes to another worker.
+    """
     words = {name: token(tmp_path, name, "operator") for name in ("gone", "less", "stays")}
     file, found = tmp_path / "tokens.toml", dict[str, tuple[int, str]]()
     with served(tmp_path, DEFINITIONS, "--token-file", str(file)) as service:
@@ -658,8 +668,9 @@ FAULTS = [
 
 @pytest.mark.parametrize("line, says", FAULTS)
 def test_faults_of_the_file(tmp_path: pathlib.Path, line: str, says: str) -> None:
-    """Each says which token and what is wrong: none of them makes a token that may more than was
-    meant."""
+    """Each error has the token and the reason: none of them makes a token with more rights than
+    intended.
+    """
     file = tmp_path / "tokens.toml"
     good = f'[[token]]\nname = "a"\nroles = ["worker"]\nsha256 = "{DIGEST}"\n'
     file.write_text(f"{good}\n{good}{line}\n")
@@ -669,7 +680,7 @@ def test_faults_of_the_file(tmp_path: pathlib.Path, line: str, says: str) -> Non
 
 
 def test_other_faults_of_the_file(tmp_path: pathlib.Path) -> None:
-    """Limits of roles that have none; and what is beside the tokens."""
+    """Limits of roles that have none; and keys next to the tokens."""
     file, good = (
         tmp_path / "tokens.toml",
         f'[[token]]\nname = "a"\nroles = ["ROLE"]\nsha256 = "{DIGEST}"\n',
@@ -704,7 +715,7 @@ def test_other_faults_of_the_file(tmp_path: pathlib.Path) -> None:
 
 
 def test_the_command(tmp_path: pathlib.Path) -> None:
-    """It writes what it is told, as it is read again; and says what it cannot write."""
+    """It writes its arguments, as they are read again; and reports what it cannot write."""
     file = tmp_path / "tokens.toml"
     words = [sys.executable, "-m", "sagas", "token", str(file), "w", "worker"]
     words += ["--step", "trip/car", "--step", "trip/car/undo", "--definition", "trip"]

@@ -1,4 +1,6 @@
-"""Early reports that a saga did not use, by the service: who sees them, and who has them compensated."""
+"""Early reports that a saga did not use, by the service: who sees them, and who lets them be
+compensated.
+"""
 
 from __future__ import annotations
 
@@ -42,7 +44,7 @@ def client(service: Served) -> Iterator[httpx.Client]:
 
 
 def unused(client: httpx.Client, definition: str, key: str) -> None:
-    """A saga that has ended without a payment that was reported."""
+    """Return a saga that has ended without a payment that was reported."""
     assert start(client, definition, key, {"n": 1}).status_code == 201
     (task,) = take(client, f"{definition}/reserve")
     early = client.post(f"/v1/sagas/{key}/steps/pay/complete", json={"result": {"euros": 40}})
@@ -55,7 +57,7 @@ def unused(client: httpx.Client, definition: str, key: str) -> None:
 
 
 def refunded(client: httpx.Client, definition: str, key: str) -> None:
-    """A worker gets the compensation, with the result."""
+    """Check that a worker gets the compensation, with the result."""
     (task,) = take(client, f"{definition}/pay/undo")
     told = [task[word] for word in ("definition", "key", "step", "undo", "result", "input")]
     assert told == [definition, key, "pay", True, {"euros": 40}, {"n": 1}]
@@ -65,13 +67,13 @@ def refunded(client: httpx.Client, definition: str, key: str) -> None:
 
 
 def entries(client: httpx.Client) -> list[dict[str, Any]]:
-    """What is in attention of this reason."""
+    """Return the entries that need attention for this reason."""
     found: list[dict[str, Any]] = client.get("/v1/attention?kind=unused_report").json()["entries"]
     return found
 
 
 def test_it_is_listed_and_compensated(client: httpx.Client) -> None:
-    """With its result and who reported it; the worker of the compensation gets it."""
+    """The entry has its result and its reporter; the worker of the compensation gets it."""
     unused(client, "shop", "k")
     (one,) = entries(client)
     assert (one["key"], one["step"], one["detail"]) == ("k", "pay", '{"euros":40}') and one["by"]

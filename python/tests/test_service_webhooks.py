@@ -33,7 +33,7 @@ SECRET = base64.b64encode(b"k" * 32).decode()
 
 
 class Receiver:
-    """A server of somebody else's, which answers with these statuses first, and then with 204."""
+    """A server outside of the package, which answers with these statuses first, and then with 204."""
 
     def __init__(self, *statuses: int) -> None:
         self.got: list[tuple[dict[str, str], bytes]] = []
@@ -61,7 +61,7 @@ class Receiver:
         return f"http://{self.server.server_address[0]!s}:{self.server.server_address[1]}/hook?a=1"
 
     def wait(self, count: int) -> list[dict[str, Any]]:
-        """So many verified posts, in the order of their times."""
+        """Return `count` verified posts, in the order of their times."""
         deadline = time.monotonic() + LONG
         while len(self.got) < count:
             assert time.monotonic() < deadline, self.got
@@ -82,7 +82,7 @@ def receiver() -> Iterator[Receiver]:
 
 
 def written(folder: pathlib.Path, *tables: str) -> str:
-    """A file of webhooks."""
+    """Return a file of webhooks."""
     path = folder / "webhooks.toml"
     path.write_text("".join(f"[[webhook]]\n{table}\n" for table in tables))
     return str(path)
@@ -93,7 +93,7 @@ def table(url: str, more: str = "") -> str:
 
 
 def test_what_is_posted(tmp_path: pathlib.Path, receiver: Receiver) -> None:
-    """Ends, stuck sagas, and what needs a person; no input, result or error is in it."""
+    """Ends, stuck sagas, and what needs an operator; no input, result or error is in it."""
     words = ("--local-webhooks", "--webhooks", written(tmp_path, table(receiver.url)))
     with served(tmp_path, DEFINITIONS, *words) as service, service.client() as client:
         start(client, "trip", "good", {"secret": "input"})
@@ -131,7 +131,7 @@ def test_what_is_posted(tmp_path: pathlib.Path, receiver: Receiver) -> None:
 
 
 def test_it_is_repeated(tmp_path: pathlib.Path) -> None:
-    """Under the same id, also behind a redirect, which is not followed; 410 ends it."""
+    """It has the same id, also after a redirect, which is not followed; 410 ends it."""
     first, second = Receiver(500, 302), Receiver(410)
     tables = (
         table(first.url),
@@ -160,7 +160,7 @@ def test_it_is_repeated(tmp_path: pathlib.Path) -> None:
 
 
 def delivered(client: httpx.Client) -> dict[tuple[str, str, str], dict[str, Any]]:
-    """All deliveries, once each is over, by webhook, type and key."""
+    """Return all deliveries, once each is over, by webhook, type and key."""
     deadline = time.monotonic() + LONG
     while True:
         found: list[dict[str, Any]] = client.get("/v1/webhooks/deliveries").json()["deliveries"]
@@ -171,8 +171,10 @@ def delivered(client: httpx.Client) -> dict[tuple[str, str, str], dict[str, Any]
 
 
 def test_it_survives_a_kill(tmp_path: pathlib.Path, store: str | None) -> None:
-    """What was not posted when the service was killed is posted by the next one, under its id; what was posted before, is not. Over PostgreSQL two services share the
-    posts: each is posted once. A delivery that was given up is posted again where an operator asks for it, and nobody else may.
+    """A delivery that was not posted when the service was killed is posted by the next one, under
+    its id; one that was posted before is not. Over PostgreSQL two services share the posts: each is
+    posted once. A delivery that was given up is posted again if an operator requests it, and only
+    then.
     """
     receiver = Receiver(410, *[500] * 3)
     words = (
@@ -229,7 +231,7 @@ def test_it_survives_a_kill(tmp_path: pathlib.Path, store: str | None) -> None:
 
 
 def test_nothing_is_stored_for_nobody(tmp_path: pathlib.Path) -> None:
-    """Of what no webhook is told there is no row."""
+    """An event without a webhook has no row."""
     words = (
         "--local-webhooks",
         "--webhooks",
@@ -246,7 +248,7 @@ def test_nothing_is_stored_for_nobody(tmp_path: pathlib.Path) -> None:
 
 
 def test_who_may_look(tmp_path: pathlib.Path) -> None:
-    """Operators alone."""
+    """Only operators may."""
     tokens = {role: token(tmp_path, role, role) for role in ("caller", "operator", "worker")}
     words = ("--token-file", str(tmp_path / "tokens.toml"))
     with served(tmp_path, DEFINITIONS, *words) as service:
@@ -285,7 +287,7 @@ def test_who_may_look(tmp_path: pathlib.Path) -> None:
     ],
 )
 def test_a_file_that_is_wrong(tmp_path: pathlib.Path, text: str, says: str) -> None:
-    """It is named with the place and the rule, and no secret is in the text."""
+    """The error has the location and the rule, and no secret."""
     (tmp_path / "w.toml").write_text(text)
     with pytest.raises(WebhookFault, match=says) as found:
         webhook_file.read(tmp_path / "w.toml")
@@ -330,7 +332,7 @@ def test_whatever_a_post_raises(place: str) -> None:
 async def trickling(
     back: asyncio.StreamReader, there: asyncio.StreamWriter, first: bytes, part: bytes
 ) -> None:
-    """A receiver of which there is always more to come."""
+    """Run a receiver whose response never ends."""
     with contextlib.suppress(OSError):
         await back.readuntil(b"\r\n\r\n")
         there.write(first)
@@ -340,12 +342,13 @@ async def trickling(
             await asyncio.sleep(0.05 if len(part) < 1000 else 0)
 
 
+# its head never ends, and its status exists
 ANSWERS: list[tuple[bytes, bytes, Any]] = [
     (
         b"HTTP/1.1 204 No Content\r\n",
         b"X: y\r\n",
         204,
-    ),  # its head never ends, and its status is there
+    ),
     (b"HTTP/1.1 ", b"2", TimeoutError),
     (b"", b"", TimeoutError),
     (b"HTTP/1.1 100 Continue\r\n", b"X: y\r\n", TimeoutError),
@@ -358,8 +361,10 @@ ANSWERS: list[tuple[bytes, bytes, Any]] = [
 
 @pytest.mark.parametrize("first, part, wanted", ANSWERS, ids=range(len(ANSWERS)))
 def test_a_receiver_that_trickles(first: bytes, part: bytes, wanted: Any) -> None:
-    """The whole exchange has one deadline, and the answer a number of bytes. What a receiver sends
-    that speaks no HTTP is in no error."""
+    """The whole exchange has one deadline, and the response a number of bytes.
+
+    No error has the text of a receiver that does not speak HTTP.
+    """
     claimed = Claimed("msg_1", "saga.completed", "k", "{}", 1, 1)
 
     async def main() -> None:
@@ -382,7 +387,7 @@ def test_a_receiver_that_trickles(first: bytes, part: bytes, wanted: Any) -> Non
 
 
 def test_a_stop_does_not_wait_for_a_receiver(tmp_path: pathlib.Path) -> None:
-    """That answers byte by byte, or not at all."""
+    """It answers byte by byte, or not at all."""
     asked = threading.Event()
     with socket.create_server((host(), 0)) as listening:
         name, port = listening.getsockname()
@@ -426,7 +431,7 @@ def test_a_stop_does_not_wait_for_a_receiver(tmp_path: pathlib.Path) -> None:
     ],
 )
 def test_a_local_receiver(tmp_path: pathlib.Path, address: str) -> None:
-    """It is refused unless it is meant, by the file and wherever a name leads."""
+    """It is refused unless the file allows it, wherever a name leads."""
     path = pathlib.Path(written(tmp_path, table(f"http://{address}:9/")))
     with pytest.raises(WebhookFault, match="webhook 1: url must not be .* --local-webhooks"):
         webhook_file.read(path)

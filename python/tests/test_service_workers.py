@@ -1,4 +1,7 @@
-"""Workers over HTTP: `sagas.Worker`, and the examples in Python, Node and shell, killed and left without their service."""
+"""Workers over HTTP: `sagas.Worker`, and the examples in Python, Node and shell.
+
+They are killed, and lose their service.
+"""
 
 from __future__ import annotations
 
@@ -62,7 +65,7 @@ SERVICE = "[step.flaky]\nbackoff = { initial = 0.01 }\n[step.hazy]\nbackoff = { 
 
 @contextlib.contextmanager
 def working(worker: sagas.Worker) -> Iterator[None]:
-    """A worker in a thread, until the block ends."""
+    """Run a worker in a thread, until the block ends."""
     thread = threading.Thread(target=worker.run)
     thread.start()
     try:
@@ -73,7 +76,7 @@ def working(worker: sagas.Worker) -> Iterator[None]:
 
 
 def test_a_step_is_declared_twice() -> None:
-    """That is refused by name, and says where each is."""
+    """That is refused by name, with the location of each."""
     worker = sagas.Worker("http://127.0.0.1:1")
 
     @worker.step("trip", "car")
@@ -95,7 +98,9 @@ def test_a_step_is_declared_twice() -> None:
 
 
 def test_a_worker(tmp_path: pathlib.Path, caplog: pytest.LogCaptureFixture) -> None:
-    """What its functions do means what it means in a store; a long one keeps its lease by beats. A step that no definition has is told in its log, once."""
+    """Its functions have the outcomes that they have in a store; a long one keeps its lease by
+    heartbeats. A step that no definition has is logged, once.
+    """
     calls: list[tuple[str, bool, str]] = []
     with served(
         tmp_path, {"steps.toml": STEPS, "steps.service.toml": SERVICE}
@@ -161,7 +166,10 @@ def test_a_worker(tmp_path: pathlib.Path, caplog: pytest.LogCaptureFixture) -> N
 
 
 def test_a_worker_that_is_interrupted(tmp_path: pathlib.Path) -> None:
-    """Ctrl-C ends it once what it has at hand has ended, and is reported. An address without a scheme is refused."""
+    """Ctrl-C ends it once its current tasks have ended, and are reported.
+
+    An address without a scheme is refused.
+    """
     with pytest.raises(ValueError, match="not the address of a service"):
         sagas.Worker("127.0.0.1:8080")
     (tmp_path / "worker.py").write_text(INTERRUPTED)
@@ -226,7 +234,7 @@ def test_a_worker_that_may_not(tmp_path: pathlib.Path) -> None:
 
 
 def rewritten(service: Served, old: str, new: str) -> None:
-    """Changes the token file, and waits until the service has seen it."""
+    """Change the token file, and wait until the service has read it."""
     file = service.folder / "tokens.toml"
     file.write_text(file.read_text().replace(old, new))
     marker = token(service.folder, f"seen-{time.monotonic_ns()}", "caller")
@@ -238,8 +246,7 @@ def rewritten(service: Served, old: str, new: str) -> None:
 
 
 def test_a_worker_that_may_less_than_before(tmp_path: pathlib.Path) -> None:
-    """What it has done already it still reports; then it ends, and says which steps it may not
-    take."""
+    """It still reports finished work; then it ends, and names the steps that it may not take."""
     word = token(tmp_path, "w", "worker", "--step", "trip/flight", "--step", "trip/car")
     caller = token(tmp_path, "c", "caller")
     with served(tmp_path, DEFINITIONS, "--token-file", str(tmp_path / "tokens.toml")) as service:
@@ -261,7 +268,7 @@ def test_a_worker_that_may_less_than_before(tmp_path: pathlib.Path) -> None:
 def test_a_worker_whose_lease_is_not_its_own(
     tmp_path: pathlib.Path, caplog: pytest.LogCaptureFixture
 ) -> None:
-    """Its report is refused, which its log says; it goes on with other tasks."""
+    """Its report is refused, which its log has; it continues with other tasks."""
     word = token(tmp_path, "before", "worker")
     caller = token(tmp_path, "c", "caller")
     with served(tmp_path, DEFINITIONS, "--token-file", str(tmp_path / "tokens.toml")) as service:
@@ -290,7 +297,7 @@ def test_a_worker_whose_lease_is_not_its_own(
 
 
 class Endless(Exception):
-    """It cannot even be described."""
+    """An exception that cannot even be described."""
 
     def __str__(self) -> str:
         raise SystemExit
@@ -303,7 +310,9 @@ ODD = SystemExit, KeyboardInterrupt, GeneratorExit, asyncio.CancelledError
 def test_a_function_raises_what_it_should_not(
     ones: tuple[Served, httpx.Client], is_async: bool
 ) -> None:
-    """That is unknown, as in a store: the same thread calls it again, with the same idempotency key."""
+    """The outcome is unknown, as in a store: the same thread calls it again, with the same
+    idempotency key.
+    """
     service, client = ones
     calls: list[tuple[str, str]] = []
     worker = sagas.Worker(service.url, wait=1.0, concurrency=1)
@@ -332,7 +341,9 @@ def test_a_function_raises_what_it_should_not(
 def test_no_thread_of_a_worker_ends_silently(
     ones: tuple[Served, httpx.Client], caplog: pytest.LogCaptureFixture
 ) -> None:
-    """The worker ends with it, and its log says so: whether it claims, or keeps leases; `run` raises what ended it."""
+    """The worker ends with it, and its log has the reason: a claiming thread, or one that keeps
+    leases; `run` raises the exception.
+    """
     service, client = ones
     claims = sagas.Worker(service.url, wait=1.0, lease=1.0)
 
@@ -363,7 +374,7 @@ def test_no_thread_of_a_worker_ends_silently(
 
 
 class Asking(sagas.Worker):
-    """It counts what each answer gave it."""
+    """A client that counts the tasks of each response."""
 
     def __init__(self, url: str, **more: Any) -> None:
         super().__init__(url, wait=0.2, **more)
@@ -381,7 +392,7 @@ class Asking(sagas.Worker):
 
 
 class Calls:
-    """Who was called for which saga. One worker holds a task, where others stand in its queue."""
+    """The calls by saga. One worker holds a task, while others wait in its queue."""
 
     def __init__(self) -> None:
         self.all: list[tuple[str, str]] = []
@@ -413,7 +424,7 @@ class Calls:
 
 @pytest.fixture(scope="module")
 def ones(tmp_path_factory: pytest.TempPathFactory) -> Iterator[tuple[Served, httpx.Client]]:
-    """A service for sagas of one step."""
+    """Return a service for sagas of one step."""
     with served(
         tmp_path_factory.mktemp("ones"), {"one.toml": ONE}
     ) as service, service.client() as client:
@@ -421,14 +432,16 @@ def ones(tmp_path_factory: pytest.TempPathFactory) -> Iterator[tuple[Served, htt
 
 
 def left_open(client: httpx.Client) -> list[str]:
-    """The sagas that do not end, although their tasks were reported."""
+    """Return the sagas that do not end, although their tasks were reported."""
     for saga in client.get("/v1/sagas?phase=open").json()["sagas"]:
         client.get(f"/v1/sagas/{saga['key']}/wait?seconds=20", timeout=LONG)
     return [saga["key"] for saga in client.get("/v1/sagas?phase=open").json()["sagas"]]
 
 
 def test_reports_together(ones: tuple[Served, httpx.Client]) -> None:
-    """Each counts as if it was sent alone, and has its own problem; what is not of its shape is refused before anything is kept."""
+    """Each counts as if it was sent alone, and has its own problem; a malformed one is refused
+    before anything is stored.
+    """
     _, client = ones
     for number in range(6):
         start(client, "one", f"together-{number}")
@@ -480,7 +493,7 @@ def test_reports_together(ones: tuple[Served, httpx.Client]) -> None:
 
 
 def test_a_worker_takes_short_ones_ahead(ones: tuple[Served, httpx.Client]) -> None:
-    """As many in one question as it does in a short time, and long ones one at a time."""
+    """It claims as many in one request as it does in a short time, and long ones one at a time."""
     service, client = ones
     for seconds, count in ((0.0, 40), (0.15, 4)):
         calls = Calls()
@@ -501,7 +514,9 @@ def test_a_worker_takes_short_ones_ahead(ones: tuple[Served, httpx.Client]) -> N
 
 
 def test_what_a_worker_took_ahead(ones: tuple[Served, httpx.Client]) -> None:
-    """Where a function is slow, or the worker is stopped, what stands in its queue is soon another's, long before its lease is over; each is done once."""
+    """If a function is slow, or the worker is stopped, other workers soon get the tasks in its
+    queue, long before its lease is over; each is done once.
+    """
     service, client = ones
     reclaimed = [
         line
@@ -579,8 +594,9 @@ class Workers:
 
 @contextlib.contextmanager
 def hotel(answer: bytes) -> Iterator[str]:
-    """A hotel that answers so to whatever it is asked, and then ends the connection; gives its
-    address."""
+    """Run a hotel that gives this response to each request, and then ends the connection; return
+    its address.
+    """
     with socket.create_server((host(), 0)) as listening:
         threading.Thread(target=accept, args=(listening, answer), daemon=True).start()
         yield "http://%s:%d/" % listening.getsockname()
@@ -597,7 +613,7 @@ def accept(listening: socket.socket, answer: bytes) -> None:
             one.recv(65536)
             one.sendall(answer)
             one.shutdown(socket.SHUT_WR)
-            while one.recv(65536):  # whatever is still to come: else the answer would be lost
+            while one.recv(65536):  # the data still to come: else the response would be lost
                 pass
 
 
@@ -617,8 +633,9 @@ FULL = b"HTTP/1.1 409 Conflict\r\nContent-Length: 0\r\nConnection: close\r\n\r\n
 def test_the_worker_in_node_does_not_know(
     tmp_path: pathlib.Path, answer: bytes, says: str | None
 ) -> None:
-    """Where the line to the hotel goes dead, that is unknown, since the hotel may have booked; a
-    refusal is a failure."""
+    """If its connection to the hotel breaks, the outcome is unknown, since the hotel may have
+    booked; a refusal is a failure.
+    """
     files = {path.name: path.read_text() for path in (EXAMPLES / "definitions").glob("*.toml")}
     node = shutil.which("node")
     assert node

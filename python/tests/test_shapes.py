@@ -40,7 +40,7 @@ from sagas.definition.shelf import Fitted, Shelf
 
 
 def names(saga: sagas.Saga, input: Any) -> dict[str, list[str]]:
-    """The steps of a shape with what they need."""
+    """Return the steps of a shape with their needs."""
     steps = tomllib.loads(saga.toml(input))["step"]
     return {step["name"]: step.get("needs", []) for step in steps}
 
@@ -66,12 +66,12 @@ def test_no_item_leaves_the_order_of_the_others() -> None:
 def test_each_needs_its_own_and_all_need_all() -> None:
     told = names(order, parcels(2))
     assert told["label-1"] == ["ship-1"]
-    assert told["mail"] == ["label-0", "label-1"]  # wrap is not there: what it needs
+    assert told["mail"] == ["label-0", "label-1"]  # wrap is missing: what it needs
 
 
 @pytest.mark.parametrize("count, bad", [(1, 0), (3, 1), (50, 20)])
 def test_one_item_fails_and_the_plan_chooses_by_cost(count: int, bad: int) -> None:
-    """A parcel that is worth less than 10 stands; the others are called back."""
+    """A parcel that is worth less than 10 is kept; the others are called back."""
     trial = sagas.testing.run(order, parcels(count, bad))
     for place in range(count):
         state = trial.states[f"ship-{place}"]
@@ -155,7 +155,7 @@ def test_items_are_new_objects() -> None:
     assert sagas.testing.run(saga, {"lists": [[0]]}).result_of("work") == [True]
 
 
-# -- what is wrong
+# -- errors
 
 
 def broken(**words: Any) -> sagas.Saga:
@@ -172,7 +172,7 @@ SECRET = "4111-1111"
 
 
 class Odd(str):
-    """A value that is neither true nor false, and says what it is."""
+    """A value that is neither true nor false, and reports its name."""
 
     def __bool__(self) -> bool:
         raise ValueError(self)
@@ -341,7 +341,7 @@ def test_an_inclusion_of_nothing_is_passed_through() -> None:
 
 
 def test_a_long_chain_of_steps_that_are_left_out() -> None:
-    """What needs the last of them needs what the first one needs."""
+    """A step that needs the last of them needs what the first one needs."""
     chain = sagas.Saga("chain")
     last = chain.step(name="first")(lambda task: None)
     for number in range(700):
@@ -403,7 +403,7 @@ def test_the_names_of_shapes_are_those_of_the_package() -> None:
 
 
 def batch() -> tuple[sagas.Saga, sagas.FanOut[list[float], float], list[Any]]:
-    """A saga whose items may fail, and what its compensation was called with."""
+    """Return a saga whose items may fail, and the arguments of its compensation's calls."""
     saga, undone = sagas.Saga("batch"), list[Any]()
 
     @saga.step(for_each="numbers", tries=2)
@@ -466,7 +466,7 @@ def test_a_fan_out_without_a_cost_of_skipping_is_warned_of() -> None:
 
 
 def test_all_of_one_fan_out_for_each_of_another() -> None:
-    """A step in between, so that 8,192 needs are no limit."""
+    """There is a step in between, so that the limit of 8,192 needs is not reached."""
     saga = sagas.Saga("wide")
 
     @saga.step(for_each="a", undo=0)
@@ -556,12 +556,12 @@ def test_a_wrong_type_of_items_is_found(tmp_path: pathlib.Path) -> None:
 
 
 def fitted(shelf: Shelf, saga: sagas.Saga, text: str) -> Fitted:
-    """The definition of a saga with an input, whose functions are called here."""
+    """Return the definition of a saga with an input, whose functions are called here."""
     return shelf.fit(saga, text) or shelf.shaped(text, shelf.shaping(saga, text)())
 
 
 def test_definitions_that_differ_in_costs_share_the_rest() -> None:
-    """Each has the text that it has if it is written alone, also read back from a store."""
+    """Each has the text of a separately written one, also when it is read back from a store."""
     saga = sagas.Saga("costs")
 
     def cost(item: int) -> Any:
@@ -592,5 +592,5 @@ def test_definitions_that_differ_in_costs_share_the_rest() -> None:
         assert kind.lacks() is None and again.kind(kind.text).lacks() is None
         assert kind.names == [step["name"] for step in tomllib.loads(kind.text)["step"]]
         shared.setdefault(id(kind.actions), []).append(kind.text)
-    assert len(shared) == 6  # so many structures
+    assert len(shared) == 6  # the number of structures
     assert all(len({*texts}) == 3 for texts in shared.values())  # 0 and 3 cost the same

@@ -1,5 +1,7 @@
-"""Sagas whose steps come from their input, each kind of input in each way: over both databases with
-a restart in the middle, by a client, and with a node that takes over from another one."""
+"""Sagas whose steps come from their input, each kind of input in each way.
+
+Over both databases with a restart, by a client, and with a node that takes over from another one.
+"""
 
 from __future__ import annotations
 
@@ -19,7 +21,7 @@ from sagas.engine.plan import Plan
 
 many = sagas.Saga("many")
 FEW = 14
-"""Steps of a plan that is compared with each other plan there is."""
+"""Steps of a plan that is compared with each other possible plan."""
 KEYS = ["", " ", "ship-0", "a/b[1]", "é\u202e\U0001f600", "x" * 400, '"\\\n', "ship"]
 
 
@@ -46,8 +48,7 @@ def last(task: sagas.Task[Any]) -> Any:
 
 
 class Case(NamedTuple):
-    """An input, and what becomes of it: how many steps it gives, and the result of a step if all
-    goes well."""
+    """An input, and its result: the number of steps, and the result of a step if all succeeds."""
 
     saga: sagas.Saga
     given: Any
@@ -57,21 +58,21 @@ class Case(NamedTuple):
 
 
 def items(count: int, twice: bool = False, **more: Any) -> Case:
-    """A list of so many, each once or twice."""
+    """Return a list of `count` items, each once or twice."""
     given = {"items": [number % 12 for number in range(count)], "twice": twice}
     result = [[number, number % 12] for number in range(count)]
     return Case(many, given | more, count * (2 if twice else 1) + 1, last, result)
 
 
 def keyed(**more: Any) -> Case:
-    """Keys that are no names."""
+    """Return keys that are not names."""
     found = {key: number for number, key in enumerate(KEYS)}
     result = {key: [key, number] for key, number in found.items()}
     return Case(many, {"items": found, **more}, len(KEYS) + 1, last, result)
 
 
 def travel(rooms: int, cars: list[str], breakfast: bool) -> Case:
-    """Inclusions two deep, and one for each item."""
+    """Return inclusions two deep, and one for each item."""
     names = [f"r{number}" for number in range(rooms)]
     given = Trip(Package(Hotel("Rome", names, breakfast), cars))
     told = [f"booked in Rome: {name}" for name in names]
@@ -81,13 +82,13 @@ def travel(rooms: int, cars: list[str], breakfast: bool) -> Case:
 
 
 def sent(count: int, gift: bool = False) -> Case:
-    """Orders of parcels."""
+    """Return orders of parcels."""
     given = Order(parcels(count).parcels, gift)
     return Case(order, given, 2 + 2 * count + gift, ship, [f"{n}:t{n}" for n in range(count)])
 
 
 def bad(case: Case, given: Any) -> Case:
-    """Of these one item fails, so that a plan is made."""
+    """Return the case with an item that fails, so that a plan is made."""
     return Case(case.saga, given, case.steps)
 
 
@@ -136,7 +137,7 @@ def least_of_all(plan: Plan) -> int:
 
 
 async def judged(store: Any, key: str, case: Case) -> None:
-    """The end is as wanted; a plan is the least of all."""
+    """Check that the end is as wanted; a plan is the least of all."""
     end = await store.wait(key, 120)
     assert len(end.states) == case.steps
     if case.of is not None:
@@ -152,7 +153,7 @@ async def judged(store: Any, key: str, case: Case) -> None:
 
 @contextlib.asynccontextmanager
 async def restarted(place: str) -> Any:
-    """A store that is closed in the middle, and opened again."""
+    """Return a store that is closed halfway, and opened again."""
 
     async def begin() -> None:
         async with sagas.open(place, SAGAS, shutdown_timeout=0) as store:
@@ -167,7 +168,7 @@ async def restarted(place: str) -> Any:
 
 @contextlib.asynccontextmanager
 async def by_a_client(place: str) -> Any:
-    """A client that starts them, and a node."""
+    """Return a client that starts them, and a node."""
     async with sagas.open(place, SAGAS) as _, sagas.Client(place) as client:
         for name, case in CASES.items():
             await client.start(case.saga, name, case.given)
@@ -176,7 +177,7 @@ async def by_a_client(place: str) -> Any:
 
 @contextlib.asynccontextmanager
 async def taken_over(place: str) -> Any:
-    """A node that is closed in the middle; another one takes over."""
+    """Return a node that is closed halfway; another one takes over."""
     first = sagas.open(place, SAGAS, node="a", lease=1, shutdown_timeout=0)
     async with sagas.open(place, SAGAS, node="b", lease=1) as second:
         async with first:

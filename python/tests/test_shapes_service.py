@@ -1,4 +1,4 @@
-"""Steps of items, and of included sagas, where others meet them: tasks over HTTP, events, metrics."""
+"""Steps of items, and of included sagas, outside of the store: tasks over HTTP, events, metrics."""
 
 from __future__ import annotations
 
@@ -27,7 +27,10 @@ def module(folder: pathlib.Path) -> None:
 
 
 def test_tasks_of_items(tmp_path: pathlib.Path) -> None:
-    """A task says its declared step and its item; a list has numbers, an object keys beside. The metrics count by the declared step."""
+    """A task has its declared step and its item; a list has numbers, an object also keys.
+
+    The metrics count by the declared step.
+    """
     module(tmp_path)
     with served(
         tmp_path, {"one.toml": ONE}, "--app", "shop:store"
@@ -70,7 +73,7 @@ def test_tasks_of_items(tmp_path: pathlib.Path) -> None:
 
 
 def test_tasks_of_included_sagas(tmp_path: pathlib.Path) -> None:
-    """They are asked for by the path of their names, and see what their own saga has."""
+    """They are claimed by the path of their names, and see the results of their own saga."""
     module(tmp_path)
     with served(
         tmp_path, {"one.toml": ONE}, "--app", "shop:store"
@@ -125,7 +128,7 @@ def test_a_worker_s_function_reads_its_item(tmp_path: pathlib.Path) -> None:
 
 
 def test_events_of_items(tmp_path: pathlib.Path) -> None:
-    """They name the declared step, with the number or key of the item beside."""
+    """They name the declared step, with the number or key of the item."""
     order = sagas.Saga("order")
 
     @order.step(for_each="parcels")
@@ -181,7 +184,9 @@ store = sagas.open("unused.db", [order, trip, outer])
 
 
 def test_what_is_given_to_a_worker(tmp_path: pathlib.Path) -> None:
-    """`given=` is computed where a task is handed out, also of a compensation, and two deep; if it raises, the attempt fails, as a function that raises."""
+    """`given=` is computed when a task is offered, also for a compensation, and two deep; if it
+    raises, the attempt fails, as with a function that raises.
+    """
     (tmp_path / "shop.py").write_text(GIVING)
     with served(
         tmp_path, {"one.toml": ONE}, "--app", "shop:store"
@@ -251,7 +256,9 @@ store = sagas.open("unused.db", [order])
 
 
 def test_approvals_of_items_and_of_included_sagas(tmp_path: pathlib.Path) -> None:
-    """An approver decides them, and no other step: not even one with the name under which an approval of items is declared."""
+    """An approver decides them, and no other step: not even one with the name under which an
+    approval of items is declared.
+    """
     (tmp_path / "shop.py").write_text(ASKING)
     approver, operator = (token(tmp_path, role, role) for role in ("approver", "operator"))
     words = ("--token-file", str(tmp_path / "tokens.toml"))
@@ -278,7 +285,9 @@ def test_approvals_of_items_and_of_included_sagas(tmp_path: pathlib.Path) -> Non
 
 
 def test_an_approval_of_a_definition_that_is_elsewhere(tmp_path: pathlib.Path, url: str) -> None:
-    """A service without the definition cannot tell that it is one: it says so to an approver."""
+    """A service without the definition does not know that it is one: it reports that to an
+    approver.
+    """
     (tmp_path / "shop.py").write_text(ASKING)
     approver, operator = (token(tmp_path, role, role) for role in ("approver", "operator"))
     words = ("--token-file", str(tmp_path / "tokens.toml"))

@@ -29,23 +29,23 @@ ALL = [order, plain, trip, booking, shaped.package, shaped.hire]
 
 
 def rows(place: str, query: str) -> list[Any]:
-    """Rows of a query."""
+    """Return the rows of a query."""
     with contextlib.closing(admin.connect(place)) as link:
         return [tuple(row) for row in link.ask(query)]
 
 
 async def ended(store: sagas.Store, saga: sagas.Saga, key: str, given: Any) -> sagas.SagaResult:
-    """A saga from its start to its end."""
+    """Run a saga to its end."""
     return await (await store.start(saga, key, given)).wait(120)
 
 
 def is_good(verdicts: dict[str, str]) -> bool:
-    """Whether each shard's audit says yes."""
+    """Return whether each shard's audit passes."""
     return all(said.startswith("yes") for said in verdicts.values())
 
 
 def test_many_shapes_among_fixed_sagas(place: str) -> None:
-    """Also after the store was opened again, each end is what it was."""
+    """After a restart, each end is the same as before."""
 
     async def one(store: sagas.Store, number: int) -> sagas.SagaResult:
         if number % 4 == 3:
@@ -79,7 +79,7 @@ def test_many_shapes_among_fixed_sagas(place: str) -> None:
 
 
 def test_no_shard_is_without_a_definition(place: str) -> None:
-    """Also one whose first saga has a key that another one has, as a wrong guess finds out."""
+    """This holds also if its first saga has a key that another one has, as a wrong guess finds out."""
 
     async def main() -> None:
         async with sagas.open(place, [order, plain]) as store:
@@ -99,7 +99,7 @@ def test_no_shard_is_without_a_definition(place: str) -> None:
 
 
 async def least(store: sagas.Store, key: str) -> int:
-    """What the saga's plan costs, which `sagas check` verifies to be the least."""
+    """Return the cost of the saga's plan, which `sagas check` verifies to be the least."""
     plan = await store.plan(key)
     assert plan and str(plan.check()).startswith("least")
     assert plan.cost is not None
@@ -129,7 +129,7 @@ def test_inclusion_and_its_plan(place: str) -> None:
 
 
 def held() -> tuple[sagas.Saga, asyncio.Event]:
-    """A saga of two items that wait until they are let go."""
+    """Return a saga of two items that wait for their gate."""
     saga, go = sagas.Saga("held"), asyncio.Event()
 
     @saga.step(for_each=lambda input: {key: {"of": key} for key in input["keys"]})
@@ -145,7 +145,7 @@ def held() -> tuple[sagas.Saga, asyncio.Event]:
 
 
 def test_items_are_those_of_the_start(place: str) -> None:
-    """After a restart, later code that would compute others gets the items that were kept."""
+    """After a restart, a later release that would compute other items gets the stored ones."""
     first, _ = held()
     later = sagas.Saga("held")
 
@@ -166,7 +166,7 @@ def test_items_are_those_of_the_start(place: str) -> None:
             assert end.result_of(last) == wanted == end.each(work)
             with pytest.raises(sagas.InvalidInput, match="for_each= raised ZeroDivisionError"):
                 await store.start(later, "new", {"keys": []})
-            # the key that is there is the saga, whatever its shape would be today
+            # the existing saga has the key, whatever its shape would be now
             assert not (await store.start(later, "k", {"keys": ["b/1", "a \x01"]})).new
             with pytest.raises(sagas.KeyConflict):
                 await store.start(later, "k", {"keys": []})
@@ -175,7 +175,7 @@ def test_items_are_those_of_the_start(place: str) -> None:
 
 
 def test_each_its_own_definition(place: str) -> None:
-    """More definitions than a shard has, each text once in the store."""
+    """There are more definitions than a shard has, each text once in the store."""
 
     async def main() -> None:
         async with sagas.open(place, [order]) as store:
@@ -191,7 +191,7 @@ def test_each_its_own_definition(place: str) -> None:
 
 
 def test_definitions_start_no_further_engine(place: str, monkeypatch: pytest.MonkeyPatch) -> None:
-    """Each saga has a definition of its own, and each shard still has one engine, its first."""
+    """Each saga has its own definition, and each shard still has one engine, its first."""
     engines: list[str] = []
 
     class Counted(shard_parts.EngineProcess):
@@ -224,7 +224,7 @@ def test_definitions_start_no_further_engine(place: str, monkeypatch: pytest.Mon
 
 
 def test_a_definition_that_is_too_long_for_a_request(place: str) -> None:
-    """Its shard gets another engine, whatever else goes on there."""
+    """Its shard gets another engine, whatever else is in progress there."""
     large = sagas.Saga("large")
     pack = large.step(external=True, name="pack-and-label", for_each="items", undo=1, skip=1)
     pack.compensation(external=True)
@@ -319,7 +319,7 @@ def test_another_version_of_an_included_saga(tmp_path: pathlib.Path) -> None:
 
 
 def test_engines_are_killed_while_definitions_come(place: str) -> None:
-    """Each saga has a definition of its own; meanwhile each engine is killed."""
+    """Each saga has its own definition; at the same time each engine is killed."""
 
     async def main() -> None:
         draw, kills = random.Random(5), 0
@@ -353,13 +353,13 @@ def test_engines_are_killed_while_definitions_come(place: str) -> None:
 def test_an_engine_refuses_definitions_while_sagas_of_them_are_opened(
     place: str, monkeypatch: pytest.MonkeyPatch
 ) -> None:
-    """Those behind a refused one have other places in that engine. No saga gets one of them."""
+    """Those after a refused one have other slots in that engine. No saga gets one of them."""
     refused, asked = 0, ShardDefinitions.define_lines
 
     def define_lines(self: ShardDefinitions) -> list[str]:
         nonlocal refused
         lines = asked(self)
-        if self.has_grown and len(lines) > 1:  # the second one gets the place of the first
+        if self.has_grown and len(lines) > 1:  # the second one gets the slot of the first
             refused += 1
             lines[0] = '{"definition":"","do":"define"}'
         return lines
@@ -419,7 +419,7 @@ def test_a_client_starts_a_shaped_saga(url: str) -> None:
 def other_code(
     theirs: Any = lambda input: input["gone"],
 ) -> tuple[sagas.Saga, sagas.Saga]:
-    """A saga as a client and as a node have it, of which only the node's function raises."""
+    """Return a saga as a client and as a node have it; only the node's function raises."""
 
     def made(function: Any) -> sagas.Saga:
         saga = sagas.Saga("made")
@@ -441,7 +441,7 @@ def other_code(
     ],
 )
 def test_a_start_that_raises_in_the_node_is_refused(url: str, function: Any, told: str) -> None:
-    """It is kept as such, and taken again where it is started again; other starts go on."""
+    """It is kept as such, and taken again if it is started again; other starts continue."""
     mine, theirs = other_code(function)
 
     async def main() -> None:

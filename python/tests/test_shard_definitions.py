@@ -1,4 +1,4 @@
-"""What an engine is asked about a shard's definitions, with the real engine."""
+"""The questions to an engine about a shard's definitions, with the real engine."""
 
 from __future__ import annotations
 
@@ -21,7 +21,7 @@ from sagas.definition.compiled import Kind
 
 
 def kind(name: str) -> Kind:
-    """A definition of one step."""
+    """Return a definition of one step."""
     saga = sagas.Saga(name)
 
     @saga.step
@@ -33,7 +33,7 @@ def kind(name: str) -> Kind:
 
 @contextmanager
 def engine(folder: pathlib.Path, kinds: Sequence[Kind]) -> Iterator[Engine]:
-    """`sagas drive --lines` with these definitions."""
+    """Run `sagas drive --lines` with these definitions."""
     paths = [folder / f"{number}.toml" for number in range(len(kinds))]
     for path, one in zip(paths, kinds):
         path.write_text(one.text)
@@ -71,7 +71,7 @@ def instance(definitions: ShardDefinitions, of: Kind) -> SagaInstance:
 def test_the_first_definition_is_known_before_a_saga_of_it_is_opened(
     tmp_path: pathlib.Path,
 ) -> None:
-    """Behind it, a saga is opened by the same question as its definition is added."""
+    """After it, a saga is opened by the same question that adds its definition."""
     first, second, third, fourth = map(kind, ("first", "second", "third", "fourth"))
     driver, definitions = driver_of([first])
     with engine(tmp_path, [first]) as started:
@@ -87,8 +87,8 @@ def test_the_first_definition_is_known_before_a_saga_of_it_is_opened(
 
 
 def test_no_saga_is_opened_with_another_definition(tmp_path: pathlib.Path) -> None:
-    """The engine gives a definition another place: nothing that it said of it counts, and an
-    engine is wanted that begins with all definitions.
+    """The engine gives a definition another slot: its replies about it do not count, and the shard
+    requests an engine that begins with all definitions.
     """
     first, second, third = map(kind, ("first", "second", "third"))
     driver, definitions = driver_of([first])
@@ -105,14 +105,16 @@ def test_no_saga_is_opened_with_another_definition(tmp_path: pathlib.Path) -> No
 
 
 def kind_line(of: Kind) -> str:
-    """The request that adds a definition, which the driver does not know of."""
+    """Return the request that adds a definition, which the driver does not know."""
     definitions = ShardDefinitions([])
     definitions.place(of)
     return definitions.define_lines()[0]
 
 
 def test_what_undoes_an_older_child_is_stored_with_its_definition(place: str) -> None:
-    """Also in a shard of sagas whose steps come from their inputs, where no other saga has it."""
+    """This holds also in a shard of sagas whose steps come from their inputs, where no other saga
+    has it.
+    """
 
     def declared(is_later: bool) -> list[sagas.Saga]:
         hotel, trip, order = sagas.Saga("hotel"), sagas.Saga("trip"), sagas.Saga("order")

@@ -1,4 +1,5 @@
-"""What a store promises: keys, results, aborts, held steps, logs and definitions, and the questions that it answers."""
+"""The promises of a store: keys, results, aborts, held steps, logs and definitions, and its reads.
+"""
 
 from __future__ import annotations
 
@@ -37,7 +38,7 @@ from sagas.storage.sqlite import writer as writer_module
 
 
 def row(gate: asyncio.Event | None = None) -> sagas.Saga:
-    """Three steps in a row, the last of which fails where the input says so."""
+    """Return three steps in a row, the last of which fails if the input says so."""
     row = sagas.Saga("row")
 
     @row.step
@@ -67,11 +68,13 @@ def row(gate: asyncio.Event | None = None) -> sagas.Saga:
     return row
 
 
-# -- keys and results ------------------------------------------------------------------------------------------------
+# -- keys and results
 
 
 def test_start_with_a_key_that_is_there(place: str) -> None:
-    """It gives the saga that is there, whatever became of it; another saga or another input is KeyConflict."""
+    """It returns the existing saga, whatever its state; another saga or another input is
+    KeyConflict.
+    """
     kinds = [row(), simple(lambda task: 1)]
 
     async def main() -> None:
@@ -107,7 +110,7 @@ def test_start_with_a_key_that_is_there(place: str) -> None:
 
 
 def test_a_key_that_is_none(place: str) -> None:
-    """A name of its own, and a text that is not too long."""
+    """They are a name of the package's own, and a text that is too long."""
     saga = simple(lambda task: 1)
 
     async def main() -> None:
@@ -141,7 +144,7 @@ class Line:
 
 @dataclasses.dataclass
 class Order:
-    """What the first step reads."""
+    """The input of the first step."""
 
     amount: int
     lines: list[Line] = dataclasses.field(default_factory=list)
@@ -163,7 +166,9 @@ class Order:
     ],
 )
 def test_an_input_that_the_first_step_cannot_read(place: str, given: Any, text: str) -> None:
-    """It is refused by its place, and nothing is begun; what is there is found by its key all the same."""
+    """The error has its location, and no saga is started; an existing saga is found by its key
+    anyway.
+    """
     loose, strict = sagas.Saga("order"), sagas.Saga("order")
     loose.step(name="charge")(lambda task: None)
 
@@ -189,7 +194,9 @@ def test_an_input_that_the_first_step_cannot_read(place: str, given: Any, text: 
 
 
 def test_results(place: str) -> None:
-    """`task.results` are of all steps that a step needs, directly or not; `end.results` of the steps that stand."""
+    """`task.results` are of all steps that a step needs, directly or not; `end.results` of the
+    steps that are kept.
+    """
     saga = row()
 
     async def main() -> None:
@@ -209,11 +216,14 @@ def test_results(place: str) -> None:
     run(main())
 
 
-# -- aborts and held steps ---------------------------------------------------------------------------------------------
+# -- aborts and held steps
 
 
 def test_abort(place: str) -> None:
-    """No step begins any more; what is under way ends, and the plan says what is undone. False where it is over or was aborted."""
+    """No step starts any more; running ones end, and the plan says which are undone.
+
+    False if it is over or was aborted.
+    """
     gate = asyncio.Event()
     saga = row(gate)
 
@@ -243,7 +253,9 @@ def test_abort(place: str) -> None:
 def test_a_held_step_takes_no_slot_and_keeps_nothing_from_draining(
     place: str, error: type[Exception]
 ) -> None:
-    """While a step waits an hour for its next try, or is called again then, another saga runs at concurrency 1; an abort does not wait for it."""
+    """While a step waits an hour for its next try, or is called again then, another saga runs at
+    concurrency 1; an abort does not wait for it.
+    """
     calls: list[str] = []
 
     def fails(task: Task) -> int:
@@ -276,7 +288,9 @@ def test_a_held_step_takes_no_slot_and_keeps_nothing_from_draining(
 
 
 def test_functions_know_nothing_of_each_other(place: str) -> None:
-    """Whether they wait or not: each has the context in which the store was opened, and a task, which it may even cancel at its end."""
+    """Whether they wait or not: each has the context in which the store was opened, and a task,
+    which it may even cancel at its end.
+    """
     var = contextvars.ContextVar("var", default="opened")
     saga = sagas.Saga("row")
 
@@ -309,7 +323,7 @@ def test_functions_know_nothing_of_each_other(place: str) -> None:
 
 
 def test_no_more_than_its_concurrency(place: str) -> None:
-    """Over all steps and sagas, in the loop and in threads; and all its places are used."""
+    """Over all steps and sagas, in the loop and in threads; and all its slots are used."""
     inside, most = set[str](), 0
     gate = threading.Event()
     one, other = sagas.Saga("one"), sagas.Saga("other")
@@ -339,7 +353,7 @@ def test_no_more_than_its_concurrency(place: str) -> None:
                 for number in range(12)
             ]
             await until(lambda: len(inside) == 3)
-            await asyncio.sleep(0.1)  # a fourth would be there by now
+            await asyncio.sleep(0.1)  # a fourth would be here by now
             gate.set()
             assert all(end.ok for end in await asyncio.gather(*work))
 
@@ -348,7 +362,7 @@ def test_no_more_than_its_concurrency(place: str) -> None:
 
 
 def test_a_limit_holds_back_nobody_else(place: str) -> None:
-    """At most two of the slow step run at once, over all sagas; the quick ones go by."""
+    """At most two of the slow step run at once, over all sagas; the quick ones run past them."""
     running, most, gate = Counter[str](), Counter[str](), asyncio.Event()
     slow, quick = sagas.Saga("slow"), sagas.Saga("quick")
 
@@ -375,12 +389,12 @@ def test_a_limit_holds_back_nobody_else(place: str) -> None:
     assert most["a"] == 2
 
 
-# -- waits, approvals, work elsewhere ------------------------------------------------------------------------------------
+# -- waits, approvals, external work
 
 
 @pytest.mark.parametrize("how", ["timedelta", "datetime", "function"])
 def test_wait(place: str, how: str) -> None:
-    """A timer: its function is called when the time has come, and not before."""
+    """Its function is called when the time has come, and not before."""
     soon = datetime.timedelta(seconds=0.3)
     at = datetime.datetime.now(datetime.timezone.utc) + soon
     times = {
@@ -406,7 +420,9 @@ def test_wait(place: str, how: str) -> None:
 
 
 def test_a_wait_that_cannot_say_its_time(place: str) -> None:
-    """Each try asks for it again, also in the next program; its function is not called before its time, and after its tries it has failed."""
+    """Each try computes it again, also in the next program; its function is not called before its
+    time, and after its tries it has failed.
+    """
     asked: list[tuple[str, int]] = []
     times: list[float] = []
     called: list[float] = []
@@ -445,7 +461,9 @@ def test_a_wait_that_cannot_say_its_time(place: str) -> None:
 
 
 def test_a_wait_whose_time_is_over_waits_no_more(place: str) -> None:
-    """Nobody knew what its function did, then it failed, and then another program took it up: it is called, and does not wait anew."""
+    """The outcome of its function was unknown, then it failed, and then another program recovered
+    it: it is called, and does not wait again.
+    """
     asked: list[int] = []
     calls: list[int] = []
     saga = sagas.Saga("late")
@@ -478,7 +496,9 @@ def test_a_wait_whose_time_is_over_waits_no_more(place: str) -> None:
 
 @pytest.mark.parametrize("how", ["undone", "for good"])
 def test_a_saga_that_is_over_waits_for_nothing(place: str, how: str) -> None:
-    """What the store had of its wait is gone: its saga was undone meanwhile, or its function failed, and the tries that were left were given up."""
+    """The stored row of its wait is gone: its saga was undone in the meantime, or its function
+    failed, and the remaining tries were given up.
+    """
     saga = sagas.Saga("late")
 
     @saga.wait(until=datetime.timedelta(seconds=0 if how == "for good" else 3600))
@@ -502,7 +522,9 @@ def test_a_saga_that_is_over_waits_for_nothing(place: str, how: str) -> None:
 
 @pytest.mark.parametrize("answer", ["yes", "no", "nothing"])
 def test_approval(place: str, answer: str) -> None:
-    """A person, or another program, says done or failed; where nobody says anything in time it has failed. It outlives the program."""
+    """An operator, or another program, reports success or failure; without a report in time it has
+    failed. It outlives the program.
+    """
     asked: list[str] = []
     saga = sagas.Saga("signed")
 
@@ -537,7 +559,7 @@ def test_approval(place: str, answer: str) -> None:
 
 
 def test_an_answer_that_comes_at_once(place: str) -> None:
-    """Whoever is asked answers before the asking function has returned: the answer is not lost."""
+    """The caller answers before the function that asked has returned: the answer is not lost."""
     saga = sagas.Saga("signed")
     answers: list[asyncio.Task[None]] = []
 
@@ -558,7 +580,9 @@ def test_an_answer_that_comes_at_once(place: str) -> None:
 
 
 def test_a_step_that_is_done_elsewhere(place: str) -> None:
-    """`external=True`: it has no function here; a worker elsewhere reports, for the compensation too."""
+    """`external=True`: it has no function here; an external worker reports, for the compensation
+    too.
+    """
     saga = sagas.Saga("far")
     print_it = saga.step(external=True, name="print")
     print_it.compensation(external=True)
@@ -585,7 +609,7 @@ def test_a_step_that_is_done_elsewhere(place: str) -> None:
 
 
 def test_a_compensation_of_which_nobody_knows(place: str) -> None:
-    """A person says how it ended, by `undo=True`; who forgets that hears it."""
+    """An operator reports its outcome, by `undo=True`; without that the call is an error."""
     saga = sagas.Saga("row")
 
     @saga.step
@@ -614,11 +638,13 @@ def test_a_compensation_of_which_nobody_knows(place: str) -> None:
     assert run(main()).states == {"a": "undone", "b": "failed"}
 
 
-# -- logs and definitions ------------------------------------------------------------------------------------------------
+# -- logs and definitions
 
 
 def test_full_logs_are_audited_and_closed(place: str, monkeypatch: pytest.MonkeyPatch) -> None:
-    """New sagas go to the newest log until it is full; a settled one is audited once and marked closed, and then never again."""
+    """New sagas go to the newest log until it is full; a finished one is audited once and marked
+    closed, and then never again.
+    """
     monkeypatch.setattr("sagas.definition.shelf.SHARD_CAPACITY", 15)
     saga, right, audits = row(), program.run, Counter[str]()
 
@@ -662,7 +688,9 @@ def test_full_logs_are_audited_and_closed(place: str, monkeypatch: pytest.Monkey
 
 
 def test_definitions_change(place: str) -> None:
-    """Open sagas go on by the definition that they were begun with; new ones begin a new log; the old one is closed once it is settled."""
+    """Open sagas continue by their original definition; new ones start a new log; the old one is
+    closed once it is finished.
+    """
     gates = [asyncio.Event(), asyncio.Event()]
 
     def version(number: int) -> sagas.Saga:
@@ -698,7 +726,9 @@ def test_definitions_change(place: str) -> None:
 
 
 def test_functions_and_times_change_at_any_start(place: str) -> None:
-    """Another function, timeout and back-off of a step, and another order of the sagas: it is the same log, and what is open goes on with them."""
+    """Another function, timeout and back-off of a step, and another order of the sagas: it is the
+    same log, and open sagas continue with them.
+    """
     tokens: list[str] = []
 
     def kinds(number: int) -> list[sagas.Saga]:
@@ -737,7 +767,9 @@ def test_functions_and_times_change_at_any_start(place: str) -> None:
 
 
 def test_versions(place: str) -> None:
-    """A definition's meaning changes by a version: both are given to open, and each saga goes on by its own."""
+    """A definition's meaning changes by a version: both are passed to open, and each saga continues
+    by its own.
+    """
     gate = asyncio.Event()
 
     def version(number: int) -> sagas.Saga:
@@ -767,7 +799,9 @@ def test_versions(place: str) -> None:
 
 
 def test_a_function_that_is_gone(place: str) -> None:
-    """An error at open that names the step; the older program settles it with accept_new=False, and takes no new sagas."""
+    """Opening is an error that names the step; the older program finishes it with accept_new=False,
+    and takes no new sagas.
+    """
     gate = asyncio.Event()
     old, new = sagas.Saga("trip"), sagas.Saga("trip")
 
@@ -782,9 +816,8 @@ def test_a_function_that_is_gone(place: str) -> None:
     async def first() -> None:
         async with sagas.open(place, [old], shutdown_timeout=0.0) as store:
             await store.start(old, key="k")
-        if place.startswith(
-            "postgresql:"
-        ):  # another node may have it: this one leaves the saga alone
+        # another node may have it: this one leaves the saga alone
+        if place.startswith("postgresql:"):
             async with sagas.open(place, [new]) as store:
                 assert (await store.list(phase="open"))[0].key == "k"
             return
@@ -810,7 +843,7 @@ def test_a_function_that_is_gone(place: str) -> None:
 
 
 def test_a_compensation_that_is_gone(tmp_path: pathlib.Path) -> None:
-    """One that may still be called: an error at open that names its step."""
+    """If it may still be called, opening is an error that names its step."""
     old, new = sagas.Saga("trip"), sagas.Saga("trip")
 
     async def a(task: Task) -> None:
@@ -850,7 +883,7 @@ def test_a_log_whose_sagas_wait_lets_its_process_go(place: str) -> None:
 
 
 def lives(pid: int) -> bool:
-    """Whether a process is neither dead nor killed and about to be."""
+    """Return whether a process is neither dead nor killed and about to be."""
     try:
         told = dict(
             line.split(":\t", 1)
@@ -863,7 +896,7 @@ def lives(pid: int) -> bool:
 
 
 def test_few_children_for_many_logs(place: str, monkeypatch: pytest.MonkeyPatch) -> None:
-    """Sagas in many logs share two children, also when the store is opened again."""
+    """Sagas in many logs share two engines, also after a restart."""
     monkeypatch.setattr("sagas.definition.shelf.SHARD_CAPACITY", 7)
     gate, most = asyncio.Event(), 0
     saga = row(gate)
@@ -901,7 +934,7 @@ def test_few_children_for_many_logs(place: str, monkeypatch: pytest.MonkeyPatch)
 
 
 def test_one_slot_for_many_logs(place: str, monkeypatch: pytest.MonkeyPatch) -> None:
-    """Logs that find no slot are fed when one is given back unused, too: nothing hangs."""
+    """Logs that find no slot are served when one is released unused, too: nothing hangs."""
     monkeypatch.setattr("sagas.definition.shelf.SHARD_CAPACITY", 4)
     saga = sagas.Saga("pair")
 
@@ -924,12 +957,12 @@ def test_one_slot_for_many_logs(place: str, monkeypatch: pytest.MonkeyPatch) -> 
     run(main())
 
 
-# -- what is written -----------------------------------------------------------------------------------------------------
+# -- writes
 
 
 @contextlib.contextmanager
 def locked(place: str) -> Iterator[None]:
-    """Nobody can write the store's lines."""
+    """Lock the store's lines against writes."""
     if place.startswith("postgresql:"):
         with psycopg.connect(place) as link:
             link.execute("LOCK TABLE sagas.event_log IN EXCLUSIVE MODE")
@@ -943,10 +976,10 @@ def locked(place: str) -> Iterator[None]:
 def test_one_transaction_takes_what_all_logs_have(
     place: str, monkeypatch: pytest.MonkeyPatch
 ) -> None:
-    """Steps end in eight logs while a commit is under way: one more holds all of it."""
+    """Steps end in eight logs while a commit is in progress: one more holds all of it."""
     monkeypatch.setattr("sagas.definition.shelf.SHARD_CAPACITY", 2)
     gate, far = asyncio.Event(), sagas.Saga("far")
-    far.step(external=True, name="b")  # it stays open, so that no log is closed meanwhile
+    far.step(external=True, name="b")  # it stays open, so that no log is closed in the meantime
     calls: list[str] = []
 
     async def a(task: Task) -> None:
@@ -978,7 +1011,7 @@ def test_one_transaction_takes_what_all_logs_have(
 
 
 def test_a_file_is_synced_at_each_commit(tmp_path: pathlib.Path) -> None:
-    """A WAL, and each commit on the disk before anything is told."""
+    """It has a WAL, and each commit is on the disk before any acknowledgement."""
     saga = simple(lambda task: 1)
 
     async def main() -> None:
@@ -995,7 +1028,9 @@ def test_a_file_is_synced_at_each_commit(tmp_path: pathlib.Path) -> None:
 def test_commits_in_the_loop_and_in_the_thread(
     tmp_path: pathlib.Path, monkeypatch: pytest.MonkeyPatch, at_once: float
 ) -> None:
-    """All commits are made in the thread, or most where they are asked for: the same is kept, and the WAL is moved into the file now and then."""
+    """All commits are made in the thread, or most of them where they are requested: the same is
+    stored, and the WAL is moved into the file now and then.
+    """
     monkeypatch.setattr(writer_module, "AT_ONCE", at_once)
     saga, most = row(), 0
 
@@ -1022,7 +1057,7 @@ def test_commits_in_the_loop_and_in_the_thread(
 def test_answers_that_are_waited_for_and_others(
     place: str, monkeypatch: pytest.MonkeyPatch, wait: int
 ) -> None:
-    """An answer that is not there in time comes by the loop, and for a while none is waited for."""
+    """A reply that does not come in time comes by the loop, and for a while none is waited for."""
     monkeypatch.setattr(process, "WAIT", wait)
     monkeypatch.setattr(process, "AGAIN", 3)
     saga = row()
@@ -1047,7 +1082,7 @@ def test_answers_that_are_waited_for_and_others(
 
 @dataclasses.dataclass
 class Popped:
-    """A type that changes what it is made of."""
+    """A type that changes the value that it is made of."""
 
     data: dict[str, Any]
 
@@ -1056,7 +1091,9 @@ class Popped:
 
 
 def test_each_type_is_tried_with_an_input_of_its_own(place: str) -> None:
-    """Two first steps read the same type, which changes what it gets: neither hears of the other."""
+    """Two first steps read the same type, which changes its argument: neither sees the other's
+    changes.
+    """
     saga = sagas.Saga("two")
 
     @saga.step
@@ -1083,7 +1120,7 @@ def test_each_type_is_tried_with_an_input_of_its_own(place: str) -> None:
 
 
 def test_nobody_waits_for_rows_of_an_answer_that_is_late(tmp_path: pathlib.Path) -> None:
-    """A child that stands still: meanwhile other programs write the file."""
+    """An engine does not respond: other programs write the file in the meantime."""
     path, saga = str(tmp_path / "store.db"), row()
     others = set(children(os.getpid()))
 
@@ -1109,7 +1146,9 @@ def test_nobody_waits_for_rows_of_an_answer_that_is_late(tmp_path: pathlib.Path)
 def test_steps_give_the_loop_a_turn(
     place: str, monkeypatch: pytest.MonkeyPatch, turn: float
 ) -> None:
-    """Whatever is committed and answered at once: what else goes on in the loop has its turn after `TURN`, and is not held up by a saga of many steps."""
+    """Commits and replies may come at once: other work of the loop has its turn after `TURN`, and
+    is not delayed by a saga of many steps.
+    """
     monkeypatch.setattr(dispatcher, "TURN", turn)
     saga, turns, seen = sagas.Saga("long"), 0, []
     for number in range(30):
@@ -1152,7 +1191,9 @@ def test_tasks_of_a_reply() -> None:
 def test_a_commit_in_the_loop_waits_for_nobody(
     tmp_path: pathlib.Path, monkeypatch: pytest.MonkeyPatch
 ) -> None:
-    """While another program writes the file, the loop goes on, and the commit is made when that is over."""
+    """While another program writes the file, the loop continues, and the commit is made when that
+    is over.
+    """
     monkeypatch.setattr(writer_module, "AT_ONCE", 60.0)
     saga = simple(lambda task: 1)
 
@@ -1187,7 +1228,9 @@ ODD = "\0\ud800'; DROP TABLE sagas; --"
 
 
 def test_texts_are_no_statements(place: str, caplog: pytest.LogCaptureFixture) -> None:
-    """Keys, inputs, results, what is raised and notes, with whatever a database could take for something else."""
+    """Keys, inputs, results, exceptions and notes have text that a database could take for
+    something else.
+    """
     caplog.set_level(logging.CRITICAL, "sagas")  # the tests' runner takes no halves of pairs
     saga, hazy, must = sagas.Saga("plain"), sagas.Saga("hazy"), sagas.Saga("must")
 
@@ -1226,7 +1269,7 @@ def test_texts_are_no_statements(place: str, caplog: pytest.LogCaptureFixture) -
     assert set(records.read(place).sagas) == {*TEXTS, "hazy", "must"}
 
 
-# -- questions -----------------------------------------------------------------------------------------------------------
+# -- reads
 
 
 def test_questions(place: str) -> None:
@@ -1282,7 +1325,9 @@ def test_questions(place: str) -> None:
 
 
 def test_events_and_logging(place: str, caplog: pytest.LogCaptureFixture) -> None:
-    """Hooks for metrics and traces, and structured logging under `sagas`; a hook that raises stops no saga."""
+    """Hooks for metrics and traces, and structured logging under `sagas`; a hook that raises stops
+    no saga.
+    """
     told: list[sagas.Event] = []
 
     def hook(event: sagas.Event) -> None:
@@ -1320,7 +1365,7 @@ def test_events_and_logging(place: str, caplog: pytest.LogCaptureFixture) -> Non
 
 @pytest.mark.parametrize("how", ["refused", "late", "for good"])
 def test_a_final_failure_is_told_once(place: str, how: str) -> None:
-    """As `step_failed`, though the step had tries left; of these nothing is told."""
+    """It is `step_failed`, though the step had tries left; these are not reported."""
     told: list[tuple[str, str | None]] = []
     saga = sagas.Saga("signed")
 
@@ -1363,7 +1408,7 @@ def test_a_final_failure_is_told_once(place: str, how: str) -> None:
 
 
 def test_a_log_line_is_one_line(place: str, caplog: pytest.LogCaptureFixture) -> None:
-    """Keys and details are quoted where they are not one plain word; what it has of lines is written with their ends."""
+    """Keys and details are quoted unless they are one plain word; line ends in them are escaped."""
 
     def fails(task: Task) -> None:
         raise ValueError('a "b"\nc\x85=ü')
@@ -1447,7 +1492,7 @@ def test_who_waits_too_long(place: str) -> None:
 
 
 def test_another_loop(tmp_path: pathlib.Path) -> None:
-    """A store is of its loop: another one, in a thread, hears so at once."""
+    """A store belongs to its loop: another one, in a thread, gets the error at once."""
     saga = row()
 
     async def main() -> None:
@@ -1467,7 +1512,9 @@ def test_another_loop(tmp_path: pathlib.Path) -> None:
 
 
 def test_a_step_calls_a_store_without_async(tmp_path: pathlib.Path) -> None:
-    """A plain function may, since it runs in a thread; an async one would hold up the loop that it waits for, and hears so."""
+    """A plain function may, since it runs in a thread; an async one would block the loop that it
+    waits for, and gets an error.
+    """
     saga, other = simple(
         lambda task: store.start(inner, "inner").wait(60).results["a"]
     ), sagas.Saga("other")
@@ -1486,15 +1533,16 @@ def test_a_step_calls_a_store_without_async(tmp_path: pathlib.Path) -> None:
 
 
 def held(place: str) -> list[tuple[Any, ...]]:
-    """What a store keeps of attempts that are held."""
+    """Return what a store keeps of attempts that are held."""
     with contextlib.closing(admin.connect(place)) as link:
         return link.ask("SELECT id, step, action, number, reason FROM suspensions")
 
 
 @pytest.mark.parametrize("reopened", [False, True])
 def test_nothing_is_kept_of_a_wait_behind_its_sagas_end(place: str, reopened: bool) -> None:
-    """A wait's function raises as another step fails for good: it is not tried again, and its time,
-    which was kept for that try, goes with the saga's end."""
+    """A wait's function raises as another step fails permanently: it is not retried, and its time,
+    which was kept for that try, is deleted with the saga's end.
+    """
     saga, inside = sagas.Saga("two"), list[str]()
     gate = asyncio.Event()
 
@@ -1532,7 +1580,9 @@ def test_nothing_is_kept_of_a_wait_behind_its_sagas_end(place: str, reopened: bo
 
 
 def test_callers_that_gave_up_are_not_kept(tmp_path: pathlib.Path) -> None:
-    """A saga that waits for a person is asked about again and again, each time for a moment: few of those callers are kept, and who waits hears of its end."""
+    """Callers wait for a saga again and again, each time for a moment: few of these waits are kept,
+    and a waiting caller gets its end.
+    """
     kind = sagas.Saga("outside")
     kind.step(name="a", external=True)
 
@@ -1552,7 +1602,7 @@ def test_callers_that_gave_up_are_not_kept(tmp_path: pathlib.Path) -> None:
 
 
 def test_keys_that_are_no_texts(place: str) -> None:
-    """No saga has one; and who asks for another key in the same moment, or later, hears of that."""
+    """No saga has one; a caller with another key, at the same moment or later, is not affected."""
     kind, wrong = simple(lambda task: 1), [42, None, b"k", 1.5]
 
     async def main() -> None:

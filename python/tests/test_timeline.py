@@ -1,4 +1,5 @@
-"""What each attempt did: queued, running at a worker, waiting, backing off; and what people decided of it."""
+"""The timeline of each attempt: queued, running at a worker, waiting, backing off; and decisions.
+"""
 
 from __future__ import annotations
 
@@ -33,7 +34,7 @@ def client(service: Served) -> Iterator[httpx.Client]:
 
 
 def attempts(client: httpx.Client, key: str) -> list[dict[str, Any]]:
-    """The attempts of a saga, whose parts follow one another without gaps."""
+    """Return the attempts of a saga, whose parts follow one another without gaps."""
     found: list[dict[str, Any]] = client.get(f"/v1/sagas/{key}/timeline").json()["attempts"]
     for one in found:
         spans = one["spans"]
@@ -47,12 +48,14 @@ def attempts(client: httpx.Client, key: str) -> list[dict[str, Any]]:
 
 
 def told(one: dict[str, Any]) -> list[tuple[str, str | None]]:
-    """The parts from the begin on."""
+    """Return the parts from the begin on."""
     return [(span["state"], span["why"]) for span in one["spans"] if span["state"] != "queued"]
 
 
 def test_workers_people_and_pauses(client: httpx.Client) -> None:
-    """A worker's lease that ends, the next worker, a retry, an unknown outcome, and who reported it and why."""
+    """A worker's lease that ends, the next worker, a retry, an unknown outcome, and its reporter
+    with the reason.
+    """
     start(client, "trip", "t")
     words = {"steps": ["trip/flight"], "wait": 30, "limit": 1}
     first = client.post("/v1/tasks/claim", json={**words, "lease": 600, "worker": "first"}).json()[
@@ -112,7 +115,9 @@ def test_workers_people_and_pauses(client: httpx.Client) -> None:
 
 
 def test_an_approval_waits(client: httpx.Client) -> None:
-    """For a decision, which is named with who made it; what follows was ready then. Nobody's saga has no timeline."""
+    """It waits for a decision, which is named with its operator; the steps after it were ready
+    then. An unknown saga has no timeline.
+    """
     start(client, "order", "o")
     deadline = time.monotonic() + LONG
     while told(attempts(client, "o")[0])[-1:] != [("waiting", "approval")]:
@@ -134,7 +139,10 @@ def test_an_approval_waits(client: httpx.Client) -> None:
 
 
 def test_functions(place: str) -> None:
-    """Of one that is called at once nothing is stored. A retry, a limit that lasts, and a program that ended in its midst are told by the next one."""
+    """For a function that is called at once nothing is stored.
+
+    The next program reports a retry, a limit that lasts, and a program that ended during a call.
+    """
     shop = sagas.Saga("shop")
     held, calls = asyncio.Event(), list[str]()
 
@@ -190,7 +198,7 @@ def test_functions(place: str) -> None:
 
 
 def test_a_call_behind_the_last_attempt(place: str) -> None:
-    """It waits for its pause, as one behind an attempt of the definition."""
+    """It waits for its pause, as one after an attempt of the definition."""
     shop, calls = sagas.Saga("shop"), list[int]()
 
     @shop.step(on_exhausted="retry", backoff=sagas.Backoff(0.5, 0.5))

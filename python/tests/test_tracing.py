@@ -1,4 +1,7 @@
-"""Trace contexts are kept and handed on; with OpenTelemetry's API, each attempt has a span, within which its function runs."""
+"""Trace contexts are stored and passed on.
+
+With OpenTelemetry's API, each attempt has a span, within which its function runs.
+"""
 
 from __future__ import annotations
 
@@ -28,7 +31,7 @@ MODULES = ("opentelemetry", "opentelemetry.trace")
 
 @pytest.fixture
 def api(monkeypatch: pytest.MonkeyPatch) -> Iterator[Any]:
-    """OpenTelemetry's API, as it is installed beside the package."""
+    """Install OpenTelemetry's API, as if it is installed next to the package."""
     monkeypatch.syspath_prepend(HERE / "opentelemetry_api")
     for name in MODULES:
         monkeypatch.delitem(sys.modules, name, raising=False)
@@ -39,13 +42,13 @@ def api(monkeypatch: pytest.MonkeyPatch) -> Iterator[Any]:
 
 @pytest.fixture
 def without(monkeypatch: pytest.MonkeyPatch) -> None:
-    """Nobody has it."""
+    """Remove it."""
     for name in MODULES:
         monkeypatch.setitem(sys.modules, name, None)  # type: ignore[arg-type]
 
 
 def span_of(api: Any, name: str) -> Any:
-    """The span of this name."""
+    """Return the span of this name."""
     (found,) = [span for span in api.ENDED if span.name == name]
     return found
 
@@ -67,8 +70,8 @@ def context_of(span: Any) -> str:
         (
             GIVEN[:-2] + "ff",
             GIVEN[:-2] + "03",
-        ),  # flags that the standard does not know are not handed on
-        (f"cc-{TRACE}-{PARENT}-01", GIVEN),  # of a later version what is known is read
+        ),  # flags that the standard does not know are not passed on
+        (f"cc-{TRACE}-{PARENT}-01", GIVEN),  # of a later version the known parts are read
         (f"cc-{TRACE}-{PARENT}-01-what-follows", GIVEN),
         (f"cc-{TRACE}-{PARENT}-01.what-follows", None),
         (f"ff-{TRACE}-{PARENT}-01", None),
@@ -83,7 +86,7 @@ def context_of(span: Any) -> str:
     ],
 )
 def test_a_header_is_read_as_the_standard_has_it(text: str, read: str | None) -> None:
-    """https://www.w3.org/TR/trace-context: versions, flags, and what is not valid."""
+    """https://www.w3.org/TR/trace-context: versions, flags, and invalid headers."""
     assert tracing.read(text) == read
     if read is None:
         with pytest.raises(ValueError, match="must be a W3C trace context"):
@@ -96,7 +99,7 @@ def test_a_header_is_read_as_the_standard_has_it(text: str, read: str | None) ->
 
 
 def hearing(heard: list[str | None], **words: Any) -> sagas.Saga:
-    """A saga whose step says what it was handed."""
+    """Return a saga whose step returns the context that it got."""
     saga = sagas.Saga("one")
 
     @saga.step(**words)
@@ -107,7 +110,9 @@ def hearing(heard: list[str | None], **words: Any) -> sagas.Saga:
 
 
 def test_without_the_api_a_context_is_kept(place: str, without: None) -> None:
-    """It is handed to functions; of a start again the first one counts; what is not valid is refused before anything is written."""
+    """Functions get it; of a repeated start the first one counts; an invalid one is refused before
+    anything is written.
+    """
     heard: list[str | None] = []
     saga = hearing(heard)
 
@@ -128,7 +133,7 @@ def test_without_the_api_a_context_is_kept(place: str, without: None) -> None:
 
 
 def test_a_context_outlives_the_program(place: str, without: None) -> None:
-    """Another program that goes on with the saga has it from the store."""
+    """Another program that continues the saga has it from the store."""
     heard: list[str | None] = []
     saga = sagas.Saga("later")
     asked = saga.approval(name="asked")(lambda task: None)
@@ -161,7 +166,7 @@ def test_a_child_is_in_the_trace_of_its_parent(place: str, without: None) -> Non
 
 
 def test_a_client_s_start_has_it(url: str, without: None) -> None:
-    """It is written with the start, also in the transaction of the caller, and a node hands it on."""
+    """It is written with the start, also in the transaction of the caller, and a node passes it on."""
     heard: list[str | None] = []
     saga = hearing(heard)
 
@@ -186,7 +191,7 @@ def test_a_message_has_it() -> None:
 
 
 def trip(seen: list[tuple[str, str | None]], api: Any) -> sagas.Saga:
-    """Steps of all manners, the last of which fails for good."""
+    """Return steps of all kinds, the last of which fails permanently."""
     trip = sagas.Saga("trip")
 
     def look(task: Task) -> None:
@@ -222,7 +227,9 @@ def trip(seen: list[tuple[str, str | None]], api: Any) -> sagas.Saga:
 
 
 def test_each_attempt_has_a_span(place: str, api: Any) -> None:
-    """In the trace of who started the saga, current while the function runs: in the loop, in a thread, and in what it awaits."""
+    """It is in the trace of the caller that started the saga, current while the function runs: in
+    the loop, in a thread, and in what it awaits.
+    """
     seen: list[tuple[str, str | None]] = []
     saga = trip(seen, api)
 
@@ -307,7 +314,9 @@ def links_of(span: Any) -> list[str]:
 
 
 def test_a_saga_that_nobody_traces(place: str, api: Any) -> None:
-    """Its spans begin traces of their own, also where the store was opened within a span; a saga that a function starts is in the trace of that."""
+    """Its spans start their own traces, also if the store was opened within a span; a saga that a
+    function starts is in the trace of that function.
+    """
     heard: list[str | None] = []
     inner = hearing(heard)
     outer = sagas.Saga("outer")
@@ -334,7 +343,7 @@ def test_a_saga_that_nobody_traces(place: str, api: Any) -> None:
 
 
 def test_a_timeout_and_an_abort_are_told(tmp_path: pathlib.Path, api: Any) -> None:
-    """An outcome that nobody knows is an error of the span; one that is cancelled has ended too."""
+    """An unknown outcome is an error of the span; a cancelled one has ended too."""
     saga = sagas.Saga("slow")
 
     @saga.step(timeout=0.05, max_unknown=0)
@@ -378,7 +387,7 @@ def test_programs_without_async(tmp_path: pathlib.Path, api: Any) -> None:
 def test_what_an_exporter_raises_does_not_reach_a_saga(
     place: str, api: Any, monkeypatch: pytest.MonkeyPatch, caplog: pytest.LogCaptureFixture
 ) -> None:
-    """Neither as a span starts, nor as it ends; it is logged once."""
+    """Neither when a span starts, nor when it ends; it is logged once."""
     seen: list[str | None] = []
     saga = hearing(seen)
 
@@ -405,7 +414,7 @@ def test_what_an_exporter_raises_does_not_reach_a_saga(
 def test_without_a_tracer_functions_are_called_in_a_row(
     place: str, without: None, monkeypatch: pytest.MonkeyPatch
 ) -> None:
-    """What tracing costs where nobody has it: no call is made in another way."""
+    """Without tracing no call is made in another way."""
     heard: list[str | None] = []
     saga = hearing(heard)
     calls: list[int] = []
@@ -439,7 +448,7 @@ def service(tmp_path_factory: pytest.TempPathFactory, store: str | None) -> Iter
 
 
 def test_the_header_of_a_start_goes_to_workers(service: Served) -> None:
-    """It is stored with the saga; one that is not valid, or there twice, is none, and no fault."""
+    """It is stored with the saga; an invalid or repeated one is ignored, and is not an error."""
     with service.client() as client:
         for key, headers, told in (
             ("valid", [("traceparent", GIVEN)], GIVEN),

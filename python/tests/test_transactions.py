@@ -1,4 +1,7 @@
-"""Steps whose effect in the database and its record are one transaction: exactly once, whatever is cut or killed."""
+"""Steps whose effect in the database and its record are one transaction.
+
+Each has its effect exactly once, even if connections are cut and programs killed.
+"""
 
 from __future__ import annotations
 
@@ -29,7 +32,9 @@ from sagas.storage.postgresql.step_pool import Pool
 
 
 def bank(in_thread: bool) -> sagas.Saga:
-    """Books an amount, by an async function or a plain one; the second step fails where the input says so."""
+    """Return a saga that books an amount, by an async function or a plain one; the second step
+    fails if the input says so.
+    """
     bank = sagas.Saga("bank")
     text = "INSERT INTO book(key, step, token) VALUES(%s, %s, %s)"
 
@@ -69,7 +74,7 @@ def bank(in_thread: bool) -> sagas.Saga:
 
 
 def prepare(url: str) -> None:
-    """Tables of the user's own; that an item is of an order is looked at in the commit."""
+    """Make tables of the user's own; the commit checks that an item is of an order."""
     with psycopg.connect(url) as link:
         link.execute("CREATE TABLE book(key text, step text, token text)")
         link.execute("CREATE TABLE orders(key text PRIMARY KEY)")
@@ -77,7 +82,7 @@ def prepare(url: str) -> None:
 
 
 def booked(url: str) -> Counter[tuple[str, str]]:
-    """The rows of it."""
+    """Return its rows."""
     with psycopg.connect(url) as link:
         return Counter(
             (key, step) for key, step in link.execute("SELECT key, step FROM book").fetchall()
@@ -86,7 +91,7 @@ def booked(url: str) -> Counter[tuple[str, str]]:
 
 @pytest.mark.parametrize("in_thread", [False, True])
 def test_effect_and_result_are_one(url: str, in_thread: bool) -> None:
-    """A row for each effect; what was raised is rolled back; the compensation the same."""
+    """There is a row for each effect; a call that raised is rolled back; the compensation the same."""
     prepare(url)
     kind = bank(in_thread)
 
@@ -122,7 +127,7 @@ def test_effect_and_result_are_one(url: str, in_thread: bool) -> None:
 def test_exactly_once_while_connections_are_cut(
     postgresql: Server, url: str, in_thread: bool
 ) -> None:
-    """Statements are cut on their way, answers on their way back, commits' answers too: each effect is there once."""
+    """Statements are cut in transit, and replies, also those of commits: each effect occurs once."""
     prepare(url)
     kind = bank(in_thread)
 
@@ -155,7 +160,9 @@ def test_exactly_once_while_connections_are_cut(
 def test_texts_of_steps_inside_are_no_statements(
     url: str, caplog: pytest.LogCaptureFixture, way: str
 ) -> None:
-    """Keys, inputs, results, what is raised and the node's name, with whatever a database could take for something else: all come back whole."""
+    """Keys, inputs, results, exceptions and the node's name have text that a database could take
+    for something else: all are read back unchanged.
+    """
     caplog.set_level(logging.CRITICAL, "sagas")  # the tests' runner takes no halves of pairs
     prepare(url)
     good, bad = sagas.Saga("good"), sagas.Saga("bad")
@@ -201,7 +208,9 @@ def test_texts_of_steps_inside_are_no_statements(
 
 
 def test_a_step_of_a_lost_log_is_rolled_back(url: str) -> None:
-    """Two nodes of one name are at the same step: the one that has the log commits, and of the other's nothing stays."""
+    """Two nodes of one name are at the same step: the one that has the log commits, and nothing
+    stays of the other's.
+    """
     prepare(url)
     gates = asyncio.Event(), asyncio.Event()
     inside: list[int] = []
@@ -246,7 +255,9 @@ def test_a_step_of_a_lost_log_is_rolled_back(url: str) -> None:
 
 @pytest.mark.parametrize("in_thread", [False, True])
 def test_nobody_takes_a_log_while_a_step_of_it_is_committed(url: str, in_thread: bool) -> None:
-    """Its commit waits for a lock behind the look whose the log is: until that is over the log's row is locked."""
+    """Its commit waits for a lock after the check of the log's owner: until that is over the log's
+    row is locked.
+    """
     prepare(url)
     kind, text = sagas.Saga("shop"), "INSERT INTO items VALUES (%s)"
 
@@ -281,7 +292,10 @@ def test_nobody_takes_a_log_while_a_step_of_it_is_committed(url: str, in_thread:
 
 @pytest.mark.parametrize("in_thread", [False, True])
 def test_a_forgotten_await_in_a_transaction(url: str, in_thread: bool) -> None:
-    """What an async function returns is awaited within its transaction. A plain one that returns something to await has failed: it cannot be awaited there."""
+    """An awaitable that an async function returns is awaited within its transaction.
+
+    A plain function that returns one has failed: it cannot be awaited there.
+    """
     prepare(url)
     kind = sagas.Saga("one")
 
@@ -328,7 +342,9 @@ KILLED = """
 
 
 def test_a_kill_between_the_transaction_and_its_report(url: str, tmp_path: pathlib.Path) -> None:
-    """The result is there without its event: the next node reports it, and does not call the step again."""
+    """The result exists without its event: the next node reports it, and does not call the step
+    again.
+    """
     prepare(url)
     script = tmp_path / "killed.py"
     script.write_text(textwrap.dedent(KILLED.format(url=url)))
@@ -383,7 +399,9 @@ def test_a_file_has_no_transactions(tmp_path: pathlib.Path) -> None:
 
 @pytest.mark.parametrize("in_thread", [False, True])
 def test_what_the_server_refuses_is_a_miss(url: str, in_thread: bool) -> None:
-    """A constraint that is looked at in the commit, a failed statement that the function passes over, and its own commit: rolled back, and tried again."""
+    """A constraint that the commit checks, a failed statement that the function ignores, and its
+    own commit: rolled back, and tried again.
+    """
     prepare(url)
     shop = sagas.Saga("shop")
     text = "INSERT INTO items VALUES (%s)"
@@ -435,7 +453,7 @@ def test_what_the_server_refuses_is_a_miss(url: str, in_thread: bool) -> None:
 
 @pytest.mark.parametrize("in_thread", [False, True])
 def test_the_function_cannot_end_its_transaction(url: str, in_thread: bool) -> None:
-    """A block of its own within it, as the first thing that it does, is no commit; nor is what psycopg calls one."""
+    """A nested block, as its first statement, is not a commit; nor are psycopg's calls for one."""
     prepare(url)
     kind = sagas.Saga("one")
     text = "INSERT INTO book(key, step, token) VALUES(%s, 'book', '')"
@@ -476,7 +494,9 @@ def test_the_function_cannot_end_its_transaction(url: str, in_thread: bool) -> N
 
 @pytest.mark.parametrize("in_thread", [False, True])
 def test_a_transaction_that_is_over_before_its_step(url: str, in_thread: bool) -> None:
-    """By a statement of the function's, by the connection's end, or by the server's: nothing is kept of it, that is counted, and other sagas go on."""
+    """It ends by a statement of the function's, by the connection's end, or by the server's:
+    nothing of it is stored, that is counted, and other sagas continue.
+    """
     prepare(url)
     kind, other, calls = sagas.Saga("one"), simple(lambda task: 1), Counter[int]()
     text, rests = (
@@ -581,7 +601,11 @@ def test_what_does_nothing_over_its_connection_is_as_another_step(url: str) -> N
 
 @pytest.mark.parametrize("in_thread", [False, True])
 def test_a_first_statement_that_fails(url: str, in_thread: bool) -> None:
-    """It goes to the server together with the begin. What psycopg refuses leaves the transaction as it is, what the server refuses ends it."""
+    """It goes to the server together with the begin.
+
+    A statement that psycopg refuses leaves the transaction usable, one that the server refuses ends
+    it.
+    """
     prepare(url)
     text, said = "INSERT INTO book(key, step, token) VALUES(%s, 'book', %s)", []
     kind = sagas.Saga("one")
@@ -603,9 +627,8 @@ def test_a_first_statement_that_fails(url: str, in_thread: bool) -> None:
                 with pytest.raises(psycopg.errors.InFailedSqlTransaction):
                     link.execute(text, (task.key, "second"))
             if task.attempt == 3:
-                with pytest.raises(
-                    psycopg.errors.QueryCanceled
-                ):  # an operational error, and the connection is there
+                # an operational error, and the connection works
+                with pytest.raises(psycopg.errors.QueryCanceled):
                     link.execute(
                         "SELECT set_config('statement_timeout', '20', true), %s::int", (1,)
                     )
@@ -662,7 +685,9 @@ def test_a_first_statement_that_fails(url: str, in_thread: bool) -> None:
 
 
 def test_a_first_statement_that_nobody_waits_for(url: str) -> None:
-    """The function gives up on it, and goes on: its connection is of no use any more, nothing of that is kept, and it is called again."""
+    """The function gives up on it, and continues: its connection is of no use any more, nothing of
+    it is stored, and it is called again.
+    """
     prepare(url)
     kind, calls = sagas.Saga("one"), []
 
@@ -687,7 +712,9 @@ def test_a_first_statement_that_nobody_waits_for(url: str) -> None:
 
 
 def test_connections_are_handed_out(postgresql: Server, url: str) -> None:
-    """As many as there may be; who waits gets the next one; one that broke while it rested is not handed out; who gave up has none."""
+    """There is a limit; a waiting caller gets the next one; one that broke while it was idle is not
+    passed out; a caller that gave up has none.
+    """
 
     async def main() -> None:
         pool = Pool(url, 2)
@@ -712,7 +739,7 @@ def test_connections_are_handed_out(postgresql: Server, url: str) -> None:
         fourth = await pool.acquire()
         assert fourth not in (first, second)
         await fourth.execute("SELECT 1")
-        pool.release(fourth)  # in the middle of a transaction: it is not handed out again
+        pool.release(fourth)  # during a transaction: it is not passed out again
         assert fourth.closed or pool.try_acquire() is None
         last = asyncio.create_task(pool.acquire())
         await last
@@ -730,7 +757,9 @@ def test_connections_are_handed_out(postgresql: Server, url: str) -> None:
 
 
 def test_connections_are_reserved(url: str) -> None:
-    """One that rests is kept for who may want it, and is for others as soon as he does not; one that breaks meanwhile is nobody's."""
+    """An idle one is reserved for a possible user, and is free as soon as it is not used; one that
+    breaks in the meantime is dropped.
+    """
 
     async def main() -> None:
         pool = Pool(url, 2)
@@ -775,7 +804,7 @@ def test_connections_are_reserved(url: str) -> None:
 
 
 def test_a_connection_that_is_lent_comes_back_once(url: str) -> None:
-    """Whether its function is over before who called it goes on, behind that, or never begins."""
+    """Whether its function is over before its caller continues, after that, or never starts."""
 
     async def main() -> None:
         pool = Pool(url, 1)
@@ -791,7 +820,7 @@ def test_a_connection_that_is_lent_comes_back_once(url: str) -> None:
 
         second = await pool.lend()
         assert await asyncio.to_thread(second.begin) is link
-        second.leave()  # nobody waits for it any more
+        second.leave()  # no caller waits for it any more
         assert not pool.has_idle()
         await asyncio.to_thread(second.end)
         await until(pool.has_idle)
@@ -813,7 +842,9 @@ def test_a_connection_that_is_lent_comes_back_once(url: str) -> None:
 
 
 def test_a_function_that_asks_late(url: str) -> None:
-    """It waits for something before it asks for its connection, which is there; who asks behind its end gets none."""
+    """It waits for something before it requests its connection, which it gets; a function that
+    requests one after its end gets none.
+    """
     prepare(url)
     kind, left = sagas.Saga("one"), []
 
@@ -847,7 +878,9 @@ def test_a_function_that_asks_late(url: str) -> None:
 
 
 def test_what_ends_at_once_leaves_its_connection(url: str) -> None:
-    """A function that asks for its connection and does nothing there, raises, or gives what is to be awaited: many of each, over two connections."""
+    """A function that requests its connection and does nothing there, raises, or returns an
+    awaitable: many of each, over two connections.
+    """
     prepare(url)
     kind = sagas.Saga("one")
 
@@ -884,11 +917,13 @@ def test_what_ends_at_once_leaves_its_connection(url: str) -> None:
 
 
 NODE, OTHERS = 7, "other"
-"""Connections of a node, beside those of its steps; the name of those that are not a node's."""
+"""Connections of a node, in addition to those of its steps; the name of those that are not a
+node's.
+"""
 
 
 class Count:
-    """The most connections of an application that the server had at once, as often as it tells."""
+    """The most connections of an application that the server had at once."""
 
     def __init__(self, url: str, name: str) -> None:
         self.most = self.looks = 0
@@ -916,8 +951,9 @@ class Count:
 
 
 def test_how_many_connections_a_node_has(url: str) -> None:
-    """Steps inside, by async and plain functions, with limits over all nodes; reads; what clients
-    start and ask; logs that are taken over: it has `concurrency` and seven at most."""
+    """Steps inside, by async and plain functions, with limits over all nodes; reads; starts and
+    requests of clients; logs that are taken over: it has at most `concurrency` and seven.
+    """
     concurrency, gate = 16, asyncio.Event()
 
     def kinds() -> list[sagas.Saga]:
@@ -987,7 +1023,7 @@ def test_how_many_connections_a_node_has(url: str) -> None:
 
 
 async def surely_finished(client: sagas.Client, key: str) -> None:
-    """Approves it, once that is asked for."""
+    """Approve it, once that is requested."""
     while True:
         try:
             await client.complete(key, "approved", True)
@@ -1000,8 +1036,9 @@ async def surely_finished(client: sagas.Client, key: str) -> None:
 
 @pytest.mark.parametrize("first", ["async", "plain"])
 def test_one_budget_for_both_kinds_of_functions(url: str, first: str) -> None:
-    """What plain functions had is had by async ones, and the other way round: no more connections
-    are made, and what psycopg has prepared over one is known to both."""
+    """Async functions get the connections of plain ones, and the other way round: no more are made,
+    and both know the statements that psycopg has prepared over one.
+    """
     processes = set[int]()
     kinds = {name: sagas.Saga(name) for name in ("async", "plain")}
     look = "SELECT pg_backend_pid(), pg_sleep(%s)"  # psycopg prepares it at its sixth use

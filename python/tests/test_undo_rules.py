@@ -1,4 +1,6 @@
-"""Who may act on a saga that undoes a child, what it has of the child, and what a hand may complete."""
+"""Who may act on a saga that undoes a child, what it has of the child, and what an operator may
+complete.
+"""
 
 from __future__ import annotations
 
@@ -60,7 +62,7 @@ class Family:
         raise sagas.Fail("no")
 
     async def exhausted(self, store: sagas.Store, key: str = "t") -> sagas.Attention:
-        """What is asked of a person about the parent."""
+        """Return what needs an operator about the parent."""
 
         async def asked() -> list[sagas.Attention]:
             return [one for one in await store.attention() if one.key == key]
@@ -71,7 +73,9 @@ class Family:
 
 
 def test_what_undoes_a_child_is_not_aborted(place: str, capsys: pytest.CaptureFixture[str]) -> None:
-    """By its key the answer says why; many by a label leave it out, and say so. The undo goes on to its end."""
+    """For its key the response has the reason; a command for many by a label leaves it out, and
+    reports that. The undo continues to its end.
+    """
     world, shell = Family(), Shell(place, capsys)
 
     async def main() -> None:
@@ -143,7 +147,10 @@ def test_a_client_and_another_node_abort_none(url: str) -> None:
 @pytest.mark.parametrize("place", ["sqlite", "postgresql"], indirect=True)
 @pytest.mark.parametrize("way", ["retry", "complete", "fail"])
 def test_an_undo_that_failed_waits_for_a_person(place: str, way: str) -> None:
-    """As any compensation, also behind a restart. A retry undoes what is left, in another saga."""
+    """It is treated as any compensation, also after a restart.
+
+    A retry undoes what is left, in another saga.
+    """
     world = Family(fails=True)
     world.gate.set()
 
@@ -176,7 +183,7 @@ def test_an_undo_that_failed_waits_for_a_person(place: str, way: str) -> None:
 
     run(main())
     assert world.done == (["c", "b", "b", "b", "a"] if way == "retry" else ["c", "b"])
-    assert len({*world.keys}) == len({*world.done})  # one idempotency key a step, over all sagas
+    assert len({*world.keys}) == len({*world.done})  # one idempotency key per step, over all sagas
 
 
 def test_nobody_is_asked_if_so_declared(place: str) -> None:
@@ -197,7 +204,7 @@ def test_nobody_is_asked_if_so_declared(place: str) -> None:
 
 
 def test_what_is_undone_of_a_grandchild_stays_undone(place: str) -> None:
-    """The saga that undoes it is tried again by itself, or as a part of its parent's."""
+    """The saga that undoes it is retried by itself, or as a part of its parent's."""
     calls, broken = list[str](), [True]
     low, mid, top = (sagas.Saga(name) for name in ("low", "mid", "top"))
 
@@ -243,7 +250,7 @@ def test_what_is_undone_of_a_grandchild_stays_undone(place: str) -> None:
 
 
 def test_what_others_undid_is_not_asked_again(place: str) -> None:
-    """A compensation that is external is reported once, and not again in the next saga; with a codec, too."""
+    """An external compensation is reported once, and not again in the next saga; with a codec, too."""
     broken, calls = [True], list[str]()
     child, top = sagas.Saga("child"), sagas.Saga("top")
 
@@ -288,7 +295,10 @@ async def is_list(asked: Callable[[], Any], wanted: list[str]) -> bool:
 
 
 class Hand:
-    """A parent whose child step waits for a person, since its child fails. Of that, `gone` is undone by then, and `first` stays."""
+    """A parent whose child step needs an operator, since its child fails.
+
+    In it, `gone` is undone by then, and `first` stays.
+    """
 
     def __init__(self) -> None:
         self.undone = list[str]()
@@ -344,7 +354,10 @@ WRONG: list[tuple[Any, str]] = [
 def test_a_child_step_is_completed_with_a_childs_result(
     place: str, capsys: pytest.CaptureFixture[str]
 ) -> None:
-    """Anything else is refused, with nothing changed, by the store and by the command. Without a child there is nothing to undo."""
+    """Anything else is refused, with nothing changed, by the store and by the command.
+
+    Without a child there is nothing to undo.
+    """
     world, shell = Hand(), Shell(place, capsys)
 
     async def main() -> None:
@@ -378,7 +391,7 @@ def test_a_child_step_is_completed_with_a_childs_result(
 
 
 def test_what_is_left_of_its_own_child_is_undone(place: str) -> None:
-    """Also behind a restart; what the child has undone is not undone again."""
+    """This holds also after a restart; steps that the child has undone are not undone again."""
     world = Hand()
 
     async def main() -> None:
@@ -402,7 +415,7 @@ def test_what_is_left_of_its_own_child_is_undone(place: str) -> None:
 def test_a_wrong_result_of_before_waits_for_a_person(
     place: str, monkeypatch: pytest.MonkeyPatch
 ) -> None:
-    """Nobody else's child is undone by it, and nothing hangs."""
+    """It undoes no other saga's child, and nothing hangs."""
     world = Hand()
     monkeypatch.setattr(child_results, "check", lambda *words: None)
 
@@ -457,7 +470,9 @@ class Account:
 
 
 def test_what_an_undo_has_of_its_child(place: str) -> None:
-    """Labels, the tenant, and the concurrency of its steps, whose calls are counted with those that undo them."""
+    """It has labels, the tenant, and the concurrency of its steps, whose calls are counted with
+    those that undo them.
+    """
     calls, gate = list[str](), asyncio.Event()
     child, top = sagas.Saga("child", fair_by=lambda given: given["number"]), sagas.Saga("top")
 
@@ -538,7 +553,7 @@ def test_nobody_starts_what_undoes_a_child(url: str) -> None:
 
 
 def test_scopes() -> None:
-    """What undoes a child goes with the child; a saga that only has its name does not."""
+    """A token of the child covers it; a saga that only has its name is not covered."""
     scope = Scope(frozenset({"leaf"}))
     for key, sees in (
         ("t/:kid:undo", True),
@@ -577,7 +592,10 @@ store = sagas.open("unused.db", [top, leaf, hand, plain])
 
 
 def test_over_http(tmp_path: pathlib.Path) -> None:
-    """A token of the child sees what undoes it, and aborts none of it; one of another definition sees nothing. A webhook of the child hears of it."""
+    """A token of the child sees it, and cannot abort it; one of another definition sees nothing.
+
+    A webhook of the child gets its events.
+    """
     (tmp_path / "app.py").write_text(APP)
     receiver, undo = Receiver(), "t/:kid:undo"
     hooks = written(
@@ -695,14 +713,15 @@ def test_over_http(tmp_path: pathlib.Path) -> None:
                 == 200
             )
             assert client.get("/v1/sagas/h/wait").json()["phase"] == "completed"
+            # as any compensation
             assert (
                 owner.post(f"{path}/steps/room/complete", json={"result": None}).status_code == 200
-            )  # as any compensation
+            )
             assert client.get("/v1/sagas/t/wait").json()["phase"] == "recovered"
 
 
 def test_archives_hold_parents_and_deadlines(place: str, tmp_path: pathlib.Path) -> None:
-    """Of each saga: null where there is none."""
+    """Of each saga: null if there is none."""
     world = Family()
     world.gate.set()
 
@@ -733,7 +752,9 @@ def test_archives_hold_parents_and_deadlines(place: str, tmp_path: pathlib.Path)
 
 
 def test_in_a_simulation() -> None:
-    """What a person left in the saga that undoes the child is not asked again; it may be answered."""
+    """Steps that an operator left in the saga that undoes the child are not undone again; the
+    operator may answer.
+    """
     child, top = sagas.Saga("child"), sagas.Saga("top")
     step = child.step(lambda task: 1, name="room", keep=9)
     step.compensation(on_exhausted="fail")(lambda task: None)

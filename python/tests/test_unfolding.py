@@ -43,13 +43,13 @@ SHOP = pathlib.Path(__file__).with_name("unfolding_shop.py")
 
 
 def steps_of(text: str) -> list[tuple[str, list[str]]]:
-    """The names and needs of a definition's steps."""
+    """Return the names and needs of a definition's steps."""
     found = re.findall(r'name = "(\S+)"\n# of .*\n(?:needs = \[(.*)\]\n)?', text)
     return [(name, re.findall(r'"([^"]+)"', needs)) for name, needs in found]
 
 
 def test_the_groups_of_a_definition() -> None:
-    """Inclusions two deep, an inclusion for each item, and items; one alone is no group."""
+    """Inclusions two deep, an inclusion for each item, and items; a single one is not a group."""
     groups = Groups.read(shaped.trip.toml(GIVEN))
     titles = {name: group.title for name, group in groups.found.items()}
     assert titles == {
@@ -73,7 +73,7 @@ def test_the_groups_of_a_definition() -> None:
 
 
 def test_what_is_put_between_is_no_item() -> None:
-    """A step that the package puts behind a fan-out is drawn with it, and is not counted."""
+    """A step that the package puts after a fan-out is drawn with it, and is not counted."""
     saga = sagas.Saga("wide")
     first = saga.step(name="first", for_each="n", undo=0)(lambda task: 1)
     saga.step(name="second", for_each="n", needs=[first], undo=0)(lambda task: 1)
@@ -162,7 +162,7 @@ def test_declared_steps() -> None:
 
 
 def test_a_definition_is_read_once(tmp_path: pathlib.Path, monkeypatch: pytest.MonkeyPatch) -> None:
-    """For the steps, the attempts, the plan and the picture of a page, however many ask for it."""
+    """For the steps, the attempts, the plan and the picture of a page, however many need it."""
     loads, texts = tomllib.loads, list[str]()
 
     def counted(text: str) -> dict[str, Any]:
@@ -213,7 +213,7 @@ def service(shots: pathlib.Path) -> Iterator[Served]:
 
 
 def rows(text: str, table: str = "Steps") -> list[tuple[str, str]]:
-    """The first two cells of the rows of a table that are in sight."""
+    """Return the first two cells of the visible rows of a table."""
     part = text[text.index(f'aria-label="{table}"') :]
     part = part[: part.index("</table>")]
     found = re.findall(r'<th scope="row"[^>]*>(.*?)</th><td>(.*?)</td>', part, re.S)
@@ -238,7 +238,7 @@ def page(client: httpx.Client, path: str) -> str:
     ],
 )
 def test_a_fan_out_is_one_node(service: Served, count: int, wanted: list[tuple[str, str]]) -> None:
-    """In the picture, and in the tables of steps, attempts and events; one item alone is itself."""
+    """In the picture, and in the tables of steps, attempts and events; a single item is itself."""
     with service.client() as client:
         text = page(client, f"/ui/sagas/of-{count}")
         found = rows(text)
@@ -280,7 +280,7 @@ def test_reads_do_not_wait_for_pages(service: Served) -> None:
 
 
 def test_items_are_unfolded_by_the_address(service: Served) -> None:
-    """What failed comes first; each has its index, and its key if there is one."""
+    """Failed ones come first; each has its index, and its key if there is one."""
     with service.client() as client:
         text = page(client, "/ui/sagas/of-50?unfold=ship")
         found = rows(text)
@@ -315,7 +315,7 @@ def test_included_sagas_are_groups(service: Served) -> None:
             ),
             "tour",
         ]
-        assert "?unfold=stay#steps" in text  # folds the rooms alone
+        assert "?unfold=stay#steps" in text  # folds only the rooms
         whole = page(client, "/ui/definitions/trip")
         assert "stay: 2 steps" in whole and "?unfold=stay#steps" in whole
         parts = page(client, "/ui/definitions/trip?unfold=stay")
@@ -345,7 +345,7 @@ def test_the_service_has_the_same_in_its_api(service: Served) -> None:
 
 
 def test_folded_and_unfolded_in_a_browser(service: Served, shots: pathlib.Path) -> None:
-    """A click unfolds a group and folds it, without a script too; the address says what is so."""
+    """A click unfolds a group and folds it, without a script too; the address has the state."""
     browser = Browser(service, shots)
     try:
         browser.size(1400)

@@ -1,4 +1,6 @@
-"""Successes that were reported before their steps began, and that their sagas did not use: none is lost."""
+"""Successes that were reported before their steps began, and that their sagas did not use: none is
+lost.
+"""
 
 from __future__ import annotations
 
@@ -22,7 +24,7 @@ RESULT = {"euros": 40}
 def order(
     calls: list[Any], gate: asyncio.Event | None = None, faults: int = 0, **words: Any
 ) -> sagas.Saga:
-    """A payment that is reported while the step that it needs runs."""
+    """Return a saga with a payment that is reported while the step that it needs runs."""
     saga, left = sagas.Saga("order"), [faults]
 
     @saga.step(keep=9)
@@ -57,7 +59,7 @@ def order(
 
 
 async def aborted(store: Any, saga: sagas.Saga, gate: asyncio.Event, key: str = "k") -> Any:
-    """A saga that has ended without a report that was accepted."""
+    """Return a saga that has ended without a report that was accepted."""
     gate.clear()
     begun = await store.start(saga, key, {"n": 1})
     await until(lambda: [one for one in store.active_attempts(key) if one.step == "reserve"])
@@ -74,8 +76,10 @@ async def aborted(store: Any, saga: sagas.Saga, gate: asyncio.Event, key: str = 
 
 
 def test_an_operator_has_it_compensated(place: str, capsys: pytest.CaptureFixture[str]) -> None:
-    """It is in attention, with its result and who reported it; its compensation is called with it, once, though the call is repeated. The
-    same report again is one report still, and another one conflicts. A failure or an approval that was not used needs nobody.
+    """It is in attention, with its result and its reporter.
+
+    Its compensation is called with it, once, though the call is repeated. The same report again is
+    still one, and another one conflicts. An unused failure or approval needs no operator.
     """
     calls, gate, shell, events = list[Any](), asyncio.Event(), Shell(place, capsys), list[str]()
     saga = order(calls, gate, faults=2)
@@ -134,7 +138,10 @@ def test_an_operator_has_it_compensated(place: str, capsys: pytest.CaptureFixtur
 
 
 def test_an_operator_resolves_it(place: str, capsys: pytest.CaptureFixture[str]) -> None:
-    """By the store and by the command; no compensation is called from then on. Retention keeps the saga until then."""
+    """By the store and by the command; no compensation is called from then on.
+
+    Retention keeps the saga until then.
+    """
     calls, gate, shell = list[Any](), asyncio.Event(), Shell(place, capsys)
     saga = order(calls, gate)
 
@@ -157,7 +164,9 @@ def test_an_operator_resolves_it(place: str, capsys: pytest.CaptureFixture[str])
 
 
 def test_unasked_also_over_a_kill(place: str) -> None:
-    """`early_unused="compensate"`: the program dies when the saga has ended, and the next one, or another node, has it called. Once."""
+    """`early_unused="compensate"`: the program dies when the saga has ended, and the next one, or
+    another node, calls it. Once.
+    """
     if (child := os.fork()) == 0:
         try:
             gate = asyncio.Event()
@@ -190,7 +199,7 @@ def test_unasked_also_over_a_kill(place: str) -> None:
 
 
 async def until_none(store: Any) -> None:
-    """Nothing needs a person."""
+    """Wait until nothing needs an operator."""
 
     async def is_empty() -> bool:
         return not await store.attention()
@@ -199,8 +208,9 @@ async def until_none(store: Any) -> None:
 
 
 def test_over_a_kill_between_the_start_and_the_acknowledgement(place: str) -> None:
-    """The saga that compensates is started, and its program dies before it says so: the report is in attention still, and to have it
-    compensated again calls nothing again."""
+    """The saga that compensates is started, and its program dies before its reply: the report is
+    still in attention, and a repeated request calls nothing again.
+    """
     calls, gate = list[Any](), asyncio.Event()
     saga = order(calls, gate)
     if (child := os.fork()) == 0:
@@ -235,7 +245,10 @@ def test_over_a_kill_between_the_start_and_the_acknowledgement(place: str) -> No
 
 
 def test_with_items_a_codec_and_blobs(place: str, tmp_path: Any) -> None:
-    """A step of an item, of which the result and the input are large and encoded: the compensation gets both. A program without the codec shows no result."""
+    """A step of an item, whose result and input are large and encoded: the compensation gets both.
+
+    A program without the codec shows no result.
+    """
     calls, gate, large = list[Any](), asyncio.Event(), "x" * 5000
 
     class Codec:
@@ -286,7 +299,9 @@ def test_with_items_a_codec_and_blobs(place: str, tmp_path: Any) -> None:
 
 
 def test_a_worker_compensates_an_item_of_an_included_saga(place: str) -> None:
-    """The task has the item, its key, the input, what the included saga is given, and the results, as any compensation has."""
+    """The task has the item, its key, the input, the arguments of the included saga, and the
+    results, as any compensation has.
+    """
     inner, outer = sagas.Saga("inner"), sagas.Saga("outer")
     sign = inner.approval(name="sign")(lambda task: None)
     pay = inner.step(name="pay", for_each="items", external=True, needs=[sign], keep=9)
@@ -326,7 +341,9 @@ def test_a_worker_compensates_an_item_of_an_included_saga(place: str) -> None:
 
 
 def test_what_a_compensation_that_fails_comes_to(place: str) -> None:
-    """It waits for a person, as any other; and nothing is said to be compensated that has none."""
+    """It needs an operator, as any other; and a step without a compensation is not listed as
+    compensated.
+    """
     gate = asyncio.Event()
     saga = sagas.Saga("plain")
 
@@ -371,7 +388,9 @@ def test_what_a_compensation_that_fails_comes_to(place: str) -> None:
 
 
 def test_from_elsewhere(url: str, capsys: pytest.CaptureFixture[str]) -> None:
-    """A client and the command ask for it, and a node that has the definition does it; a node without it leaves that to the others."""
+    """A client and the command request it, and a node that has the definition does it; a node
+    without it leaves that to the others.
+    """
     calls, gate, shell = list[Any](), asyncio.Event(), Shell(url, capsys)
     saga = order(calls, gate)
 
@@ -397,7 +416,9 @@ def test_from_elsewhere(url: str, capsys: pytest.CaptureFixture[str]) -> None:
 
 
 def test_of_a_node_without_the_definition(url: str) -> None:
-    """Asked of such a node, or while only it has the shard, the nodes that have the definition do it."""
+    """The request goes to such a node, or comes while only it has the shard: the nodes that have
+    the definition execute it.
+    """
     calls, gate, other = list[Any](), asyncio.Event(), sagas.Saga("other")
     saga = order(calls, gate)
     other.step(name="only")(lambda task: None)
@@ -429,7 +450,7 @@ def test_of_a_node_without_the_definition(url: str) -> None:
 
 
 def test_what_is_no_option() -> None:
-    """Each error says which step, and what to do."""
+    """Each error has the step, and what to do."""
     saga = sagas.Saga("s")
     with pytest.raises(sagas.DefinitionError, match="early_unused='no': must be ask or compensate"):
         saga.step(name="a", external=True, early_unused="no")  # type: ignore[call-overload]

@@ -1,4 +1,4 @@
-"""Tables of each version, who may use them, and what `sagas store` says of nodes."""
+"""Tables of each version, who may use them, and the output of `sagas store` about nodes."""
 
 from __future__ import annotations
 
@@ -55,7 +55,7 @@ def test_a_program_that_is_older_than_the_tables(
 
 
 def test_two_programs_migrate_at_once(url: str) -> None:
-    """An advisory lock: the tables are made once."""
+    """They take an advisory lock: the tables are made once."""
     saga = simple(lambda task: 7)
 
     async def one(number: int) -> None:
@@ -69,7 +69,7 @@ def test_two_programs_migrate_at_once(url: str) -> None:
 
 
 def asked(url: str) -> bool:
-    """Whether an approval is waited for."""
+    """Return whether an approval is waited for."""
     with psycopg.connect(url) as link:
         return (
             link.execute("SELECT 1 FROM sagas.suspensions WHERE reason = 'approval'").fetchone()
@@ -78,7 +78,9 @@ def asked(url: str) -> bool:
 
 
 def test_least_rights(postgresql: Server, url: str, capsys: pytest.CaptureFixture[str]) -> None:
-    """`init --role` gives a role what a node, a client and the command need; it can make no tables, and before it has no rights it hears so."""
+    """`init --role` grants a role the rights of a node, a client and the command; it can make no
+    tables, and before the grant it gets an error.
+    """
     saga = simple(lambda task: 7, fleet_concurrency=2, rate_limit=(100, 1))
     inside = sagas.Saga("inside")
 
@@ -165,7 +167,9 @@ def test_least_rights(postgresql: Server, url: str, capsys: pytest.CaptureFixtur
     ],
 )
 def test_what_is_no_store(name: str, why: str, capsys: pytest.CaptureFixture[str]) -> None:
-    """A URL that is none is refused by node, client and command, with what is wrong, and without its password."""
+    """An invalid URL is refused by node, client and command, with the reason, and without its
+    password.
+    """
 
     async def main() -> None:
         async with sagas.open(name, [simple(lambda task: 1)]):
@@ -184,7 +188,7 @@ def test_what_is_no_store(name: str, why: str, capsys: pytest.CaptureFixture[str
     "password", ["ge?heim", "ge#heim", "ge:heim", "ge[heim]", 'ge"he im', "ge%40heim", "ge%2Fheim"]
 )
 def test_a_password_that_can_be_read_is_in_no_name(password: str) -> None:
-    """Some characters may stand there as they are; an @ behind a question mark is a parameter's."""
+    """Some characters may be in it unescaped; an @ after a question mark is a parameter's."""
     for more in ("", "?application_name=a@b"):
         url = f"postgresql://a:{password}@b:5432,c/d{more}"
         assert connections.named(url) == "postgresql://a@b:5432,c/d" and connections.read(url)[
@@ -195,7 +199,7 @@ def test_a_password_that_can_be_read_is_in_no_name(password: str) -> None:
 def test_a_password_is_in_nothing_that_the_command_prints(
     url: str, capsys: pytest.CaptureFixture[str]
 ) -> None:
-    """Also where it says what to run next, and where it cannot write."""
+    """Also in the suggested next command, and in an error of a write."""
     saga = sagas.Saga("fails")
 
     @saga.step
@@ -230,7 +234,7 @@ def test_a_password_is_in_nothing_that_the_command_prints(
 
 
 def test_a_server_that_is_not_there(monkeypatch: pytest.MonkeyPatch) -> None:
-    """The client says why it cannot connect, as the node does, once it has tried for a while."""
+    """The client reports why it cannot connect, as the node does, once it has tried for a while."""
     monkeypatch.setattr(connections, "CONNECT", 0.1)
     with socket.socket() as one:
         one.bind(("127.0.0.1", 0))
@@ -241,7 +245,7 @@ def test_a_server_that_is_not_there(monkeypatch: pytest.MonkeyPatch) -> None:
 
 @contextlib.contextmanager
 def lets_in(server: Server, words: str) -> Iterator[None]:
-    """The server asks these words of `pg_hba.conf` before its own."""
+    """Put these entries of `pg_hba.conf` before the server's own."""
     file = server.folder / "data" / "pg_hba.conf"
     before = file.read_text()
     file.write_text(f"{words}\n{before}")
@@ -254,7 +258,7 @@ def lets_in(server: Server, words: str) -> Iterator[None]:
 
 
 def reload(server: Server) -> None:
-    """Has the server read its files again, and waits until it has."""
+    """Let the server read its files again, and wait until it has."""
     loaded = ""
     for turn in range(200):
         with psycopg.connect(server.url("postgres"), autocommit=True) as link:
@@ -269,7 +273,7 @@ def reload(server: Server) -> None:
 
 
 def test_a_client_that_is_never_let_in(postgresql: Server, url: str) -> None:
-    """What the server says for good is told at once."""
+    """A permanent error of the server is reported at once."""
     with psycopg.connect(url, autocommit=True) as link:
         link.execute("CREATE ROLE keyed LOGIN PASSWORD 'right'")
         link.execute("CREATE ROLE idle")
@@ -293,7 +297,7 @@ def test_a_client_that_is_never_let_in(postgresql: Server, url: str) -> None:
 
 
 def test_a_client_tries_until_the_server_is_there(postgresql: Server, url: str) -> None:
-    """While it does not answer, or is starting, nothing is final."""
+    """While it does not answer, or is starting, no error is final."""
     assert store_command.main([url, "init"]) == 0
     postgresql.stop("fast")
     starting = threading.Timer(0.5, postgresql.start)
@@ -307,7 +311,9 @@ def test_a_client_tries_until_the_server_is_there(postgresql: Server, url: str) 
 
 @pytest.mark.parametrize("setting", ["off", "local"])
 def test_commits_wait_for_the_disk(url: str, setting: str) -> None:
-    """Whatever the database says of commits, those of the store are on the disk before anybody is told."""
+    """Whatever the database's setting, the commits of the store are on the disk before any
+    acknowledgement.
+    """
     with psycopg.connect(url, autocommit=True) as link:
         link.execute(f"ALTER DATABASE {url.rpartition('/')[2]} SET synchronous_commit = {setting}")  # type: ignore[arg-type]
 
@@ -329,7 +335,9 @@ def test_commits_wait_for_the_disk(url: str, setting: str) -> None:
 def test_nodes_are_shown(
     url: str, tmp_path: pathlib.Path, capsys: pytest.CaptureFixture[str]
 ) -> None:
-    """Each with its lease, logs and open sagas; and the logs that none drives, by the names of their sagas."""
+    """Each with its lease, logs and open sagas; and the logs that none drives, by the names of
+    their sagas.
+    """
     gate = asyncio.Event()
 
     async def wait(task: Task) -> None:
@@ -360,9 +368,8 @@ def test_nodes_are_shown(
             assert (await store.wait("k")).ok
         async with sagas.open(url, [new], node="second"):
             assert await asyncio.to_thread(store_command.main, [url, "nodes"]) == 0
-            assert (
-                "No node executes:" not in capsys.readouterr().out
-            )  # that log has no open saga any more
+            # that log has no open saga any more
+            assert "No node executes:" not in capsys.readouterr().out
 
     run(main())
     assert store_command.main([str(tmp_path / "x.db"), "nodes"]) == 2

@@ -1,5 +1,4 @@
-"""Functions of steps that wait for sagas: what can end is waited for, and what cannot is refused by
-name."""
+"""Functions of steps that wait for sagas: a wait that cannot end is refused by name."""
 
 from __future__ import annotations
 
@@ -18,14 +17,14 @@ FOR_EVER = sagas.WouldWaitForever
 
 
 def chain(first: Callable[[Task], Any], **words: Any) -> sagas.Saga:
-    """One step of that function, by the name `parent`."""
+    """Return a saga of one step with that function, by the name `parent`."""
     saga = sagas.Saga("parent")
     saga.step(name="p", backoff=QUICK, **words)(first)
     return saga
 
 
 async def heard(place: str, act: Callable[[Any, Task], Any], key: str, **words: Any) -> str:
-    """What a step's function is told that does this with its store."""
+    """Return the error that a step's function gets if it does this with its store."""
     told: list[str] = []
     stores: list[Any] = []
 
@@ -72,8 +71,9 @@ def test_its_own_saga(place: str, words: dict[str, Any]) -> None:
 
 
 def test_what_can_end_is_waited_for(place: str) -> None:
-    """A wait for its own saga in a task of its own, or for so long; and for another saga of the
-    same key in another store."""
+    """A wait for its own saga in a separate task, or with a time limit; and for another saga of the
+    same key in another store.
+    """
     ends: list[sagas.SagaResult] = []
     stores: list[sagas.Store] = []
     jobs: list[asyncio.Task[Any]] = []
@@ -100,7 +100,7 @@ def test_what_can_end_is_waited_for(place: str) -> None:
 
 
 def test_a_plain_function_and_its_own_saga(place: str) -> None:
-    """In its thread; one that it begins beside itself is let wait."""
+    """In its thread; a wait in another thread that it starts is allowed."""
     told: list[str] = []
     ends: list[sagas.SagaResult] = []
     stores: list[sagas.SyncStore] = []
@@ -125,7 +125,7 @@ def test_a_plain_function_and_its_own_saga(place: str) -> None:
 
 
 def test_sagas_that_wait_for_each_other(place: str) -> None:
-    """The one that closes the circle is told; the others go on."""
+    """The one that closes the cycle gets the error; the others continue."""
     told: list[str] = []
     stores: list[sagas.Store] = []
 
@@ -150,8 +150,9 @@ def test_sagas_that_wait_for_each_other(place: str) -> None:
 
 @pytest.mark.parametrize("plain", [False, True])
 def test_parents_that_take_all_places(place: str, plain: bool) -> None:
-    """Each waits for a child that has no place: one is told, and is called again once there are
-    places, so that all end."""
+    """Each waits for a child that has no slot: one gets the error, and is called again once there
+    are slots, so that all end.
+    """
     told: list[str] = []
     stores: list[Any] = []
     child = sagas.Saga("child")
@@ -200,8 +201,9 @@ def test_parents_that_take_all_places(place: str, plain: bool) -> None:
 
 
 def test_parents_of_children_that_need_no_place(place: str) -> None:
-    """A child that waits for a worker, an approval or a time may end without a place: nobody is
-    told anything."""
+    """A child that waits for a worker, an approval or a time may end without a slot: no function
+    gets an error.
+    """
     stores: list[sagas.Store] = []
     faults: list[BaseException] = []
     child = sagas.Saga("child")
@@ -232,8 +234,7 @@ def test_parents_of_children_that_need_no_place(place: str) -> None:
     run(main())
 
 
-# -- approvals that say so themselves
-# ----------------------------------------------------------------
+# -- approvals that decide themselves
 
 
 def asking(function: Callable[[Task], Any]) -> sagas.Saga:
@@ -243,7 +244,7 @@ def asking(function: Callable[[Task], Any]) -> sagas.Saga:
 
 
 def small(task: Task) -> Any:
-    """By its input."""
+    """Approve small inputs."""
     if task.input == "small":
         return sagas.Approved({"by": "rule"})
     return sagas.Rejected("too dear") if task.input == "dear" else None
@@ -255,13 +256,13 @@ async def small_async(task: Task) -> Any:
 
 
 def small_later(task: Task) -> Any:
-    """A plain function whose result is to be awaited: a decorator that is not async, say."""
+    """A plain function whose result is to be awaited: a decorator that is not async, for example."""
     return small_async(task)
 
 
 @pytest.mark.parametrize("function", [small, small_async, small_later])
 def test_an_approval_that_says_so_itself(place: str, function: Callable[[Task], Any]) -> None:
-    """It is over at once, done or failed for good; else somebody is asked, as before."""
+    """It is over at once, done or failed permanently; else an operator is asked, as before."""
     saga = asking(function)
 
     async def main() -> None:
@@ -284,7 +285,7 @@ def test_an_approval_that_says_so_itself(place: str, function: Callable[[Task], 
 
 
 def test_an_approval_that_finishes_itself(place: str) -> None:
-    """It would wait until it is asked: it is told what to return. In a thread, too."""
+    """It would wait until it is asked: the error says what to return. In a thread, too."""
     told: list[str] = []
     stores: list[Any] = []
 
@@ -319,7 +320,7 @@ def test_an_approval_that_finishes_itself(place: str) -> None:
 
 
 def test_an_answer_of_what_is_no_approval(place: str) -> None:
-    """It is a result that is no JSON: the step is done, and the result is not kept."""
+    """It is a result that is not JSON: the step is done, and the result is not kept."""
     saga = simple(lambda task: sagas.Approved(1))
 
     async def main() -> None:

@@ -1,4 +1,7 @@
-"""Attempts that workers do, of sagas that are being undone: what is taken back from workers, by whom, and what is not, because a worker may have done it."""
+"""Attempts of workers, of sagas that are being undone: which node withdraws which of them.
+
+An attempt that a worker may have done is not withdrawn.
+"""
 
 from __future__ import annotations
 
@@ -30,7 +33,7 @@ ROWS = (
 
 
 def trip(**pay: Any) -> sagas.Saga:
-    """Two steps that workers do, side by side."""
+    """Return a saga of two parallel steps that workers do."""
     saga = sagas.Saga("trip")
     saga.step(name="pay", external=True, undo=sagas.NEVER, **pay)
     saga.step(name="hold", external=True, undo=sagas.NEVER)
@@ -44,7 +47,7 @@ def opened(
     events: list[Event] | None = None,
     **more: Any,
 ) -> sagas.Store:
-    """A store that serves workers."""
+    """Open a store that serves workers."""
     names = {"node": node} if node else {}
     store = sagas.open(
         place, [saga], on_event=None if events is None else events.append, **names, **more
@@ -54,7 +57,7 @@ def opened(
 
 
 def asked(url: str, text: str) -> list[tuple[Any, ...]]:
-    """The rows that a statement gives."""
+    """Return the rows of a statement."""
     with psycopg.connect(url, autocommit=True) as link:
         cursor = link.execute(text)  # type: ignore[arg-type]
         return cursor.fetchall() if cursor.description else []
@@ -64,7 +67,9 @@ def asked(url: str, text: str) -> list[tuple[Any, ...]]:
 async def two(
     postgresql: Server, url: str, saga: sagas.Saga, relay: Relay, lease: float
 ) -> AsyncIterator[tuple[sagas.Store, sagas.Store, list[Event]]]:
-    """A node that reaches its server through a relay, another one, and what happens at the first."""
+    """Return a node that reaches its server through a relay, another one, and the events of the
+    first.
+    """
     events: list[Event] = []
     far = postgresql.url(url.rpartition("/")[2], port=relay.port)
     async with opened(url, saga, "other", lease=lease) as other, opened(
@@ -74,13 +79,15 @@ async def two(
 
 
 def has_offered(store: sagas.Store) -> bool:
-    """Whether a node has taken the saga over, and its offers are in the store."""
+    """Return whether a node has taken the saga over, and its offers are in the store."""
     inside = store._inside
     return any(saga.busy for saga in inside.sagas.by_key.values()) and not inside.external._offering
 
 
 def test_a_node_that_lost_its_shard_takes_nothing_back(postgresql: Server, url: str) -> None:
-    """An abort is kept, and its answer comes past the node's lease, as another node has offered the task again: a worker still gets it."""
+    """An abort is stored, and its reply comes after the node's lease, as another node has offered
+    the task again: a worker still gets it.
+    """
     saga = trip()
 
     async def main(relay: Relay) -> None:
@@ -100,7 +107,7 @@ def test_a_node_that_lost_its_shard_takes_nothing_back(postgresql: Server, url: 
             relay.go_on()
             await until(lambda: [event for event in events if event.name == "shard_lost"])
             await asyncio.gather(aborting, return_exceptions=True)
-            await asyncio.sleep(1)  # time for what the node does of the abort
+            await asyncio.sleep(1)  # time for the node's reaction to the abort
             for words in (PAY, HOLD):
                 (task,) = await other.workers.claim(words, wait=60, lease=600)
                 assert await other.workers.report(task.attempt_id, task.lease, 5)
@@ -114,7 +121,9 @@ def test_a_node_that_lost_its_shard_takes_nothing_back(postgresql: Server, url: 
 def test_an_answer_to_a_withdrawal_counts_under_its_epoch_alone(
     postgresql: Server, url: str
 ) -> None:
-    """It comes late, when the shard was loaded again, because its engine died, and the attempt was offered again. A worker that got it is not denied."""
+    """It comes late, when the shard was loaded again, because its engine died, and the attempt was
+    offered again. A worker that claimed it keeps it.
+    """
     saga = sagas.Saga("trip")
     saga.step(name="pay", external=True, undo=sagas.NEVER)
 
@@ -135,15 +144,14 @@ def test_an_answer_to_a_withdrawal_counts_under_its_epoch_alone(
                 if runner.engine:
                     runner.engine.process.kill()
             await until(lambda: [event for event in events if event.name == "engine_died"])
-            await asyncio.wait(
-                [claiming], timeout=2
-            )  # time for a node that goes on without the answer
+            # time for a node that continues without the reply
+            await asyncio.wait([claiming], timeout=2)
             relay.answer()
             relay.go_on()
             ending = asyncio.create_task(slow.wait("k", 60))
             await asyncio.wait([claiming, ending], return_when=asyncio.FIRST_COMPLETED)
             if claiming.done():
-                await asyncio.wait([ending], timeout=1)  # time for what the node does of the answer
+                await asyncio.wait([ending], timeout=1)  # time for the node's reaction to the reply
                 (task,) = claiming.result()
                 assert await other.workers.report(task.attempt_id, task.lease, 5)
             claiming.cancel()
@@ -158,7 +166,10 @@ def test_an_answer_to_a_withdrawal_counts_under_its_epoch_alone(
 @pytest.mark.parametrize("cause", ["abort", "sibling"])
 @pytest.mark.parametrize("waits", ["backoff", "person"])
 def test_what_is_unknown_is_not_given_up(url: str, cause: str, waits: str) -> None:
-    """Its worker got it from a node that does not drive the saga; it may be done, so that it is done again, or a person says what it did."""
+    """Its worker got it from a node that does not drive the saga.
+
+    It may be done, so that it is called again, or an operator reports its outcome.
+    """
     saga = trip(tries=2, backoff=HOUR, max_unknown=9 if waits == "backoff" else 0)
 
     async def main() -> None:
@@ -204,7 +215,9 @@ async def _is_unknown(store: sagas.Store) -> bool:
     ],
 )
 def test_a_row_has_one_last_word_in_a_commit(words: tuple[str, ...], last: str) -> None:
-    """The server changes a row once, in an order of the parts that it does not promise; and a saga that is to be undone changes no row of which another part has said something."""
+    """The server changes a row once per statement, in an order of the parts that is not defined;
+    and a saga that is to be undone changes no row that another part has changed.
+    """
     attempt, shard, saga = "ab-3-pay-run-1", 5, 5 * SHARD_CAPACITY + 3
     rows: dict[str, Any] = {
         "offers": (attempt, shard, saga, 0, "run", 1, "trip/pay/run", None, None, 1.0, None),
@@ -225,7 +238,9 @@ def test_a_row_has_one_last_word_in_a_commit(words: tuple[str, ...], last: str) 
 def test_the_order_of_a_commit_s_parts_is_nothing(
     url: str, reverse: bool, monkeypatch: pytest.MonkeyPatch
 ) -> None:
-    """A person says that a step failed: its row is settled, and the others are told of the end, whichever part the server does first."""
+    """An operator reports that a step failed: its row is finished, and the others are notified of
+    the end, whichever part the server does first.
+    """
     saga = trip()
     monkeypatch.setattr(
         commit_statement, "sorted", lambda parts: sorted(parts, reverse=reverse), raising=False
@@ -253,7 +268,7 @@ def test_the_order_of_a_commit_s_parts_is_nothing(
 def test_what_no_worker_could_get_is_offered_again(
     place: str, change: str, caplog: pytest.LogCaptureFixture, monkeypatch: pytest.MonkeyPatch
 ) -> None:
-    """Its row was damaged: that is found, and told as a warning."""
+    """Its row was damaged: that is found, and logged as a warning."""
     saga, events = trip(), list[Event]()
     monkeypatch.setattr(offer_check, "PAUSE", 0.2)
 
@@ -275,7 +290,7 @@ def test_what_no_worker_could_get_is_offered_again(
 
 
 def changed(place: str, change: str) -> None:
-    """Changes the table by hand."""
+    """Change the table by hand."""
     if "://" in place:
         asked(place, change.format("sagas.external_attempts"))
         return
@@ -288,7 +303,10 @@ async def _ready(store: sagas.Store) -> bool:
 
 
 def test_nothing_of_a_drain_is_done_before_its_commit(postgresql: Server, url: str) -> None:
-    """A person says that a step failed. Until that is kept, a function that runs beside it is not told of it, and nothing that waits is given up."""
+    """An operator reports that a step failed.
+
+    Until that is stored, a parallel function is not notified, and no waiting attempt is given up.
+    """
     saga, tasks, gate = sagas.Saga("trip"), list[sagas.Task[Any]](), asyncio.Event()
     saga.approval(name="review")(lambda task: None)
     saga.step(name="pay", external=True, undo=sagas.NEVER)

@@ -1,4 +1,4 @@
-"""Wrong coordinators, each found by name: the judge of the kill tests has teeth."""
+"""Mutants of the coordinator, each found by name by the verifier of the kill tests."""
 
 from __future__ import annotations
 
@@ -15,13 +15,13 @@ NAMES = sorted(module.name for module in pkgutil.iter_modules(wrong.__path__))
 
 
 def test_there_are_enough() -> None:
-    """At least eight."""
+    """At least eight are needed."""
     assert len(NAMES) >= 8
 
 
 @pytest.mark.parametrize("name", NAMES)
 def test_a_wrong_coordinator_is_found(name: str) -> None:
-    """Under the kind of strike at which it shows, within a few stores."""
+    """The kind of strike that reveals it finds it within a few stores."""
     module = importlib.import_module(f"wrong.{name}")
     found: set[str] = set()
     for seed in range(4):

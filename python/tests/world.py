@@ -1,10 +1,15 @@
-"""The program that the kill tests kill: five sagas, each of whose calls is told to a witness outside, and over PostgreSQL a sixth whose steps are inside, and a seventh whose steps workers do: each node has one, who gets tasks of the sagas of all nodes.
+"""The program that the kill tests kill: five sagas, each of whose calls is reported to a witness.
 
-    python3 tests/world.py STORE SOCKET COUNT [--concurrency N] [--small] [--wrong NAME] [--eye URL] [--node NAME] [--lease SECONDS]
+    python3 tests/world.py STORE SOCKET COUNT [--concurrency N] [--small] [--wrong NAME]
+        [--eye URL] [--node NAME] [--lease SECONDS]
 
-Whether an attempt fails is drawn from the key, the step and the attempt alone, so that it is the same whenever that attempt
-is made again. With `--small` a log takes few sagas, and two children share many logs. What the program is told (a saga is started, aborted, over) it tells the witness, with what a look into
-the database's file shows at that moment.
+Over PostgreSQL there are a sixth saga whose steps are inside, and a seventh whose steps workers do:
+each node has one worker, which gets tasks of the sagas of all nodes.
+
+Whether an attempt fails is drawn from the key, the step and the attempt only, so that it is the
+same whenever that attempt is made again. With `--small` a log takes few sagas, and two children
+share many logs. The program reports each reply (a saga is started, aborted, over) to the witness,
+with the content of the database's file at that moment.
 """
 
 from __future__ import annotations
@@ -35,26 +40,26 @@ states.Check.is_on = True
 QUICK = sagas.Backoff(initial=0.01, maximum=0.05)
 ROW = "INSERT INTO public.book(token, note, kind) VALUES(%s, %s, %s)"
 SILENT = {("approve", "run"), ("approve", "undo"), ("pause", "undo")}
-"""What has no effect that the witness sees."""
+"""Steps without an effect that the witness sees."""
 
 
 def chance(seed: str) -> float:
-    """A number from 0 to 1, the same for the same text."""
+    """Return a number from 0 to 1, the same for the same text."""
     return random.Random(seed).random()
 
 
 def expected(key: str, step: str) -> Any:
-    """The result that a step of a saga gives."""
+    """Return the result of a step of a saga."""
     return None if chance(f"{key}/{step}/none") < 0.3 else {"of": [key, step]}
 
 
 class Eye:
-    """A look into the store from beside it."""
+    """A reader of the store outside of the program."""
 
     def __init__(self, store: str) -> None:
         self.store = store
         self._idle: list[psycopg.Connection[tuple[Any, ...]]] = []
-        """connections that nobody looks through at this moment"""
+        """connections that are not in use at this moment"""
 
     def _ask(self, text: str, *words: Any) -> list[tuple[Any, ...]]:
         if self.store.startswith("postgresql:"):
@@ -66,7 +71,7 @@ class Eye:
             db.close()
 
     def _ask_server(self, text: str, words: tuple[Any, ...]) -> list[tuple[Any, ...]]:
-        """Again and again while the server is down: what it does not say cannot be judged."""
+        """Repeat a query while the server is down: what it does not answer cannot be judged."""
         until = time.monotonic() + 120
         while True:
             try:
@@ -77,7 +82,7 @@ class Eye:
                 time.sleep(0.05)
 
     def _look(self, text: str, words: tuple[Any, ...]) -> list[tuple[Any, ...]]:
-        """Once, through a connection that is used again where that went well."""
+        """Execute a query once, through a connection that is used again if the query succeeds."""
         try:
             link = self._idle.pop()
         except IndexError:
@@ -96,12 +101,12 @@ class Eye:
         return rows
 
     def phase(self, key: str) -> tuple[bool, str | None]:
-        """Whether a key is there, and its phase."""
+        """Return whether a key exists, and its phase."""
         rows = self._ask("SELECT phase FROM sagas WHERE key = ?", key)
         return (True, rows[0][0]) if rows else (False, None)
 
     def begins(self, name: str, saga: int, step: int, kind: str) -> int:
-        """How often the lines of a log begin a step's action or compensation."""
+        """Return how often the lines of a log start a step's action or compensation."""
         line = f'{{"event":"start_{kind}","saga":{saga},"step":{step}}}\n'
         rows = self._ask(
             "SELECT text FROM event_log JOIN shards USING (shard) WHERE name = ?", name
@@ -109,7 +114,7 @@ class Eye:
         return sum(text.count(line) for (text,) in rows)
 
     def asked(self) -> list[str]:
-        """The keys of the sagas whose approval is waited for."""
+        """Return the keys of the sagas that wait for an approval."""
         return [
             key
             for (key,) in self._ask(
@@ -118,7 +123,7 @@ class Eye:
         ]
 
     def finished(self, key: str, value: Any) -> bool:
-        """Whether a result is there."""
+        """Return whether a result exists."""
         words = (
             "SELECT value FROM attempts JOIN sagas USING (id) WHERE key = ? AND event = 'commit'"
         )
@@ -127,7 +132,7 @@ class Eye:
         }
 
     def aborts(self, key: str) -> bool:
-        """Whether the lines abort the saga of a key."""
+        """Return whether the lines abort the saga of a key."""
         rows = self._ask(
             "SELECT id % 1000, text FROM sagas JOIN event_log ON shard = id / 1000 WHERE key = ?",
             key,
@@ -136,7 +141,7 @@ class Eye:
 
 
 class World:
-    """The sagas, over a witness and an eye."""
+    """The sagas, over a witness and a reader of the store."""
 
     def __init__(self, witness: Witness, eye: Eye, inside: bool = False) -> None:
         self.witness, self.eye = witness, eye
@@ -150,7 +155,7 @@ class World:
         ]
 
     def act(self, task: Any, failing: float, unknown: float = 0.0) -> Any:
-        """A call: begins, fails or has its effect, and perhaps does not hear of it."""
+        """Make a call: it starts, fails or has its effect, and its outcome may be unknown."""
         said = self.begins(task)
         if chance(self.named(task)) < failing:
             self.fail(task, failing)
@@ -160,17 +165,20 @@ class World:
         return expected(task.key, task.step)
 
     async def write(self, task: Any, failing: float) -> Any:
-        """As `act`, of a step inside: its effect is a row, and half of its failures are for the server to find in the commit."""
+        """As `act`, of a step inside: its effect is a row.
+
+        The server refuses half of its failures in the commit.
+        """
         await task.connection.execute(ROW, self.row(task, failing))
         return expected(task.key, task.step)
 
     def write_in_thread(self, task: Any, failing: float) -> Any:
-        """The same of a plain function."""
+        """As `write`, of a plain function."""
         task.connection.execute(ROW, self.row(task, failing))
         return expected(task.key, task.step)
 
     def row(self, task: Any, failing: float) -> tuple[str, str, str]:
-        """What it writes, if it does not fail before."""
+        """Return the row that it writes, if it does not fail before."""
         said = self.begins(task)
         fails = chance(self.named(task)) < failing
         if fails and chance(f"{self.named(task)}/where") < 0.5:
@@ -182,7 +190,7 @@ class World:
         )
 
     def begins(self, task: Any) -> dict[str, Any]:
-        """It is called."""
+        """Report the start of a call."""
         kind = "undo" if task.is_compensation else "run"
         said = {
             "key": task.key,
@@ -203,10 +211,12 @@ class World:
         return said
 
     def steps(self, task: Any) -> list[str]:
-        """The names of the saga's steps, in order: of one whose steps come from its input, as that gives them."""
-        at, names = (task.saga, task.input["i"]), self.__dict__.setdefault(
-            "names", {}
-        )  # also where no world was made
+        """Return the names of the saga's steps in order.
+
+        If they come from its input, the input gives them.
+        """
+        # also if no world was made
+        at, names = (task.saga, task.input["i"]), self.__dict__.setdefault("names", {})
         if at not in names:
             saga = next(saga for saga in self.sagas if saga.name == task.saga)
             names[at] = re.findall(r'^name = "(.*)"$', saga.toml(task.input), re.M)[1:]
@@ -214,11 +224,11 @@ class World:
         return found
 
     def named(self, task: Any) -> str:
-        """What is drawn by."""
+        """Return the text that the draws of an attempt come from."""
         return f"{task.key}/{task.step}/{'undo' if task.is_compensation else 'run'}/{task.attempt}"
 
     def fail(self, task: Any, failing: float) -> None:
-        """It fails, some for good."""
+        """Fail a call, sometimes permanently."""
         raise (
             sagas.Fail("for good")
             if chance(self.named(task)) < failing / 4
@@ -226,10 +236,9 @@ class World:
         )
 
     def handed(self, task: Any) -> dict[str, Any]:
-        """What it was given."""
-        prefix = task.step.removesuffix(
-            task.declared_step.rpartition("/")[2]
-        )  # of an included saga's
+        """Return the arguments of a call."""
+        # of an included saga
+        prefix = task.step.removesuffix(task.declared_step.rpartition("/")[2])
         more: dict[str, Any] = {
             "results": {
                 (prefix if "/" in task.declared_step else "") + name: value
@@ -241,11 +250,11 @@ class World:
         return more
 
     def is_hazy(self, said: dict[str, Any], unknown: float) -> bool:
-        """Whether the caller does not hear of the effect, this time."""
+        """Return whether the outcome of this call is unknown to the caller, this time."""
         return random.random() < unknown
 
     def chain(self) -> sagas.Saga:
-        """Three steps in a row, with threads, misses and times."""
+        """Three steps in a row, with threads, failures and times."""
         chain = sagas.Saga("chain")
 
         @chain.step(keep=9, undo=1)
@@ -272,7 +281,7 @@ class World:
         return chain
 
     def trip(self) -> sagas.Saga:
-        """A diamond with prices: some of it is worth keeping."""
+        """A diamond with costs: some of it is worth keeping."""
         trip = sagas.Saga("trip")
 
         @trip.step
@@ -342,7 +351,10 @@ class World:
         return late
 
     def order(self) -> sagas.Saga:
-        """Its steps and costs come from its input: most sagas have a definition of their own. Two sagas are included, one of them for each item."""
+        """A saga whose steps and costs come from its input: most have their own definition.
+
+        Two sagas are included, one of them for each item.
+        """
         order, box = sagas.Saga("order"), self.box()
 
         @order.step(keep=9, undo=1)
@@ -405,7 +417,7 @@ class World:
         return box
 
     def desk(self) -> sagas.Saga:
-        """Three steps inside the database, in a row, the second of plain functions."""
+        """Three steps inside the database, in a row; the second has plain functions."""
         desk = sagas.Saga("desk")
 
         @desk.step(transaction=True, tries=2, backoff=QUICK, keep=9, undo=1)
@@ -431,7 +443,10 @@ class World:
         return desk
 
     def far(self) -> sagas.Saga:
-        """Two steps side by side that workers do, and one behind them. An unknown outcome waits for a while, in which the saga may be aborted."""
+        """Two parallel steps that workers do, and a third after them.
+
+        An unknown outcome waits for a while, during which the saga may be aborted.
+        """
         far = sagas.Saga("far")
         pause = sagas.Backoff(initial=0.4, maximum=0.4)
         pay = far.step(name="pay", external=True, tries=2, backoff=pause, keep=9, undo=1)
@@ -447,17 +462,16 @@ FAR = {
     ("hold", "run"): (0.3, 0.0),
     ("send", "run"): (0.2, 0.0),
 }
-"""How often a worker's call fails, and how often it does not hear of it."""
+"""The chance that a worker's call fails, and the chance that its outcome is unknown."""
 LEASE = 1.0
 
 
 async def work(world: World, store: sagas.Store) -> None:
-    """A worker that asks this node for tasks, whichever node drives their sagas."""
+    """Work on the tasks of this node, whichever node drives their sagas."""
     words = [("far", step, kind) for step, kind in FAR]
     while True:
-        with contextlib.suppress(
-            sagas.SagasError
-        ):  # the store is away, or the lease is lost: another one does it again
+        # the store is unavailable, or the lease is lost: another worker does it again
+        with contextlib.suppress(sagas.SagasError):
             for leased in await store.workers.claim(words, limit=2, wait=0.2, lease=LEASE):
                 report = await asyncio.to_thread(done, world, leased.task)
                 await store.workers.report(leased.attempt_id, leased.lease, **report)
@@ -465,7 +479,7 @@ async def work(world: World, store: sagas.Store) -> None:
 
 
 def done(world: World, task: Any) -> dict[str, Any]:
-    """What a worker says of a task."""
+    """Return a worker's report of a task."""
     try:
         return {
             "result": world.act(task, *FAR[task.step, "undo" if task.is_compensation else "run"])
@@ -477,7 +491,7 @@ def done(world: World, task: Any) -> dict[str, Any]:
 
 
 async def abort_unknown(world: World, store: sagas.Store, run: sagas.Run) -> None:
-    """Aborts a saga as soon as one of its outcomes is unknown, if one is."""
+    """Abort a saga as soon as one of its outcomes is unknown, if one is."""
     while True:
         with contextlib.suppress(sagas.StoreUnavailable):
             if any(attempt.key == run.key for attempt in await store.unknown()):
@@ -488,7 +502,7 @@ async def abort_unknown(world: World, store: sagas.Store, run: sagas.Run) -> Non
 
 
 async def approve_all(world: World, store: sagas.Store) -> None:
-    """Somebody who says yes to whatever is asked."""
+    """Approve every request."""
     while True:
         for key in world.eye.asked():
             value = expected(key, "approve")
@@ -499,7 +513,7 @@ async def approve_all(world: World, store: sagas.Store) -> None:
 
 
 async def started(store: sagas.Store, saga: sagas.Saga, key: str, given: Any) -> sagas.Run:
-    """Starts a saga, again and again while the store is away."""
+    """Start a saga; repeat that while the store is unavailable."""
     while True:
         try:
             return await store.start(saga, key=key, input=given)
@@ -508,7 +522,7 @@ async def started(store: sagas.Store, saga: sagas.Saga, key: str, given: Any) ->
 
 
 async def one(world: World, store: sagas.Store, number: int) -> None:
-    """A saga from its start to its end, each thing told to the witness once the program was told it."""
+    """Run a saga to its end, and report each reply to the witness once the program has it."""
     key, note, eye = f"k{number}", world.witness.note, world.eye
     run = await started(store, world.sagas[number % len(world.sagas)], key, {"i": number})
     note(what="started", key=key, there=eye.phase(key)[0])
@@ -538,7 +552,11 @@ async def one(world: World, store: sagas.Store, number: int) -> None:
 
 
 async def every(world: World, store: sagas.Store, count: int) -> None:
-    """All of them at once; of those with steps inside each by itself, before the others or behind them, so that they are alone as well."""
+    """Run all sagas at once.
+
+    Those with steps inside run before the others or after them, one by one, so that they are alone
+    as well.
+    """
     inside = [number for number in range(count) if number % len(world.sagas) == 5]
     others = [number for number in range(count) if number not in inside]
     is_first = random.random() < 0.5
@@ -551,7 +569,7 @@ async def every(world: World, store: sagas.Store, count: int) -> None:
 
 
 async def opened(stack: contextlib.AsyncExitStack, make: Callable[[], sagas.Store]) -> sagas.Store:
-    """Opens a store, again and again while its server is down."""
+    """Open a store; repeat that while its server is down."""
     while True:
         try:
             return await stack.enter_async_context(make())
@@ -562,7 +580,7 @@ async def opened(stack: contextlib.AsyncExitStack, make: Callable[[], sagas.Stor
 
 
 async def main(words: argparse.Namespace) -> None:
-    """Starts what is not there, waits for all, and closes; SIGTERM closes it earlier."""
+    """Start the sagas that do not exist, wait for all, and close. SIGTERM closes it earlier."""
     world = World(
         Witness(words.socket), Eye(words.eye or words.store), inside=words.node is not None
     )
@@ -601,13 +619,15 @@ async def main(words: argparse.Namespace) -> None:
             print("closing", flush=True)
         for other in others:
             other.cancel()
-    asyncio.get_running_loop().remove_signal_handler(
-        signal.SIGTERM
-    )  # a loop that closes would complain of one that comes now
+    # a loop that closes would complain of one that comes now
+    asyncio.get_running_loop().remove_signal_handler(signal.SIGTERM)
 
 
 def is_unexpected(record: logging.LogRecord) -> bool:
-    """Not what the functions here raise on purpose: a traceback is to be one of the package's own."""
+    """Return whether a record is not of an error that the functions here raise deliberately.
+
+    A traceback would be the package's own.
+    """
     return getattr(record, "sagas", {}).get("name") not in ("step_retrying", "step_failed")
 
 

@@ -10,5 +10,5 @@ UNRECORDED = "a shard may be taken over at any time; leases say when it is worth
 
 
 def apply() -> None:
-    """What a node says of itself is over before it is read."""
+    """Let a node's lease be over before it is read."""
     setattr(node_lease, "SAY", node_lease.SAY.replace("%(lease)s", "(%(lease)s - 660)"))

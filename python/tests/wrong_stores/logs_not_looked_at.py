@@ -1,4 +1,4 @@
-"""A commit of several logs writes whatever it is given, whoever has them now."""
+"""A commit of several logs writes everything, whichever nodes have them now."""
 
 from __future__ import annotations
 
@@ -9,7 +9,7 @@ MOMENT = "another_node_has_one_of_two_logs"
 
 
 def apply() -> None:
-    """Takes each log for this node's."""
+    """Take each log for this node's."""
     setattr(
         commit_statement,
         "LISTED",

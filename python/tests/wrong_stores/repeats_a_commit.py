@@ -1,4 +1,4 @@
-"""A commit whose answer was lost is made again."""
+"""A commit whose reply was lost is made again."""
 
 from __future__ import annotations
 
@@ -16,7 +16,7 @@ MOMENT = "the_answer_to_a_commit_is_lost"
 
 
 def apply() -> None:
-    """Puts the same lines behind what is there."""
+    """Append the same lines again."""
     right, jobs = PostgreSQL.commit, set[asyncio.Task[None]]()
 
     def commit(self: PostgreSQL, batches: Sequence[Batch], then: Then, now: bool) -> None:

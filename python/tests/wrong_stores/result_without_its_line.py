@@ -1,4 +1,4 @@
-"""Of each fifth commit with results the rows are written, and not its lines."""
+"""The rows of each fifth commit with results are written, and its lines are not."""
 
 from __future__ import annotations
 
@@ -12,7 +12,7 @@ MOMENT = "nothing_happens"
 
 
 def apply() -> None:
-    """Leaves lines out."""
+    """Leave lines out."""
     right, turns = Commit.words, itertools.count(1)
 
     def words(self: Commit, node: bytes) -> tuple[str, list[bytes | None]]:

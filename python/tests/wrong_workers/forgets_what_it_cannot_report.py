@@ -1,4 +1,4 @@
-"""A report that cannot be written is let go, and its message is acknowledged."""
+"""A report that cannot be written is dropped, and its message is acknowledged."""
 
 from __future__ import annotations
 
@@ -14,7 +14,7 @@ STRIKES = "store"
 
 
 def apply() -> None:
-    """Takes whatever message for done."""
+    """Take each message for done."""
     right = Work.perform
 
     def perform(self: Work, told: dict[str, Any]) -> None:
