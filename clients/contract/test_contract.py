@@ -1,4 +1,4 @@
-"""What each client and worker does at a real service, over both databases. See README.md."""
+"""The behavior of each client and worker at a real service, over both databases. See README.md."""
 
 from __future__ import annotations
 
@@ -61,7 +61,9 @@ ITEMS = [
 ]
 STEPS = ["pair/a", "pair/a/undo", "pair/b"]
 SOLO = [step.replace("pair", "solo") for step in STEPS]
-"""The same definition twice: all cases share a worker of `pair`, and have workers of their own for `solo`."""
+"""The same definition twice: all cases share a worker of `pair`, and have their own workers for
+`solo`.
+"""
 TOKENS = {
     "contract": ("operator", None),
     "weak": ("worker", ["pair/a"]),
@@ -75,7 +77,7 @@ Made = Callable[[str], list[str]]
 
 @pytest.fixture(scope="module")
 def tokens() -> dict[str, str]:
-    """Those of the service, which has them from its start on."""
+    """Return the tokens of the service, which has them from its start on."""
     return {}
 
 
@@ -124,7 +126,7 @@ def language(request: pytest.FixtureRequest) -> str:
 
 @pytest.fixture(scope="module")
 def driver(service: Served, operator: str, language: str, command: Made) -> Iterator[Driver]:
-    """A driver with a worker, for many cases."""
+    """Run a driver with a worker, for many cases."""
     with contextlib.ExitStack() as stack:
         one = driven(stack, service, operator, language, command)
         work(one, service.url, operator, "main")
@@ -134,7 +136,7 @@ def driver(service: Served, operator: str, language: str, command: Made) -> Iter
 
 @pytest.fixture
 def make(service: Served, operator: str, language: str, command: Made) -> Iterator[Make]:
-    """Makes drivers that are killed behind their case."""
+    """Return a function that starts drivers; they are killed after their case."""
     with contextlib.ExitStack() as stack:
         yield lambda: driven(stack, service, operator, language, command)
 
@@ -158,7 +160,7 @@ def fresh(word: str = "k") -> str:
 
 
 def script(*words: str, **more: list[str]) -> Words:
-    """An input: what `a` does, and the others."""
+    """Return an input: the behavior of `a`, and that of the other steps."""
     return {
         "script": {
             "a": list(words),
@@ -168,7 +170,7 @@ def script(*words: str, **more: list[str]) -> Words:
 
 
 def played(driver: Driver, given: Any, key: str | None = None) -> Words:
-    """A saga of `pair` from its start to its end."""
+    """Run a saga of `pair` from its start to its end."""
     key = key or fresh()
     assert driver.ask("start", definition="pair", key=key, input=given) == {"key": key, "new": True}
     end: Words = driver.ask("wait", key=key, timeout=LONG)
@@ -180,7 +182,9 @@ DONE = {"a": {"done": "a"}, "b": {"done": "b"}}
 
 
 def test_outcomes(driver: Driver, language: str) -> None:
-    """Returned, failed, tried again and unknown: how often each function is called, with which key, and how the saga ends."""
+    """Check returned, failed, retried and unknown attempts: the calls of each function, their keys,
+    and the end of the saga.
+    """
     unknowns = ["unknown", "timeout", "refused", *(["throw"] if language != "python" else [])]
     cases: dict[str, tuple[Words, str, int, int, int]] = {
         "ok": (script("ok"), "completed", 1, 1, 0),
@@ -250,7 +254,9 @@ ODD = [
 
 
 def test_items(driver: Driver, service: Served, operator: str) -> None:
-    """A task has its declared step, and its item with number and key; also its compensation, and one of an included saga, which has what it is given."""
+    """A task has its declared step, and its item with number and key; so have its compensation, and
+    a task of an included saga, which has its own input.
+    """
     work(driver, service.url, operator, "items", steps=ITEMS)
     listed, keyed, fair = fresh("items"), fresh("items"), fresh("items")
     said = {"script": {"ship-0": ["ok"], "mail": ["fail"]}, "parcels": [{"to": "Rome"}, 7]}
@@ -292,7 +298,7 @@ def test_items(driver: Driver, service: Served, operator: str) -> None:
 
 
 def test_inputs(driver: Driver) -> None:
-    """What goes in comes out: as input, as result, and in what the next step needs."""
+    """A value is the same as input, as result, and in the results that the next step needs."""
     keys = [fresh("odd/ü %\U0001f600") for _ in ODD]
     for key, value in zip(keys, ODD):
         given = {"script": {"a": ["echo"], "b": ["echo"]}, "value": value}
@@ -309,8 +315,9 @@ def test_inputs(driver: Driver) -> None:
 
 
 def test_trace_contexts(driver: Driver) -> None:
-    """That of a start is handed to each function, also of a compensation; one that is not valid is
-    refused before anything is sent.
+    """Each function gets the trace context of the start, also a compensation.
+
+    The client refuses an invalid one before it sends anything.
     """
     trace = "00-0af7651916cd43dd8448eb211c80319c-b7ad6b7169203331-01"
     given = script("ok", b=["fail"])
@@ -327,14 +334,14 @@ def test_trace_contexts(driver: Driver) -> None:
 
 
 def test_big_results(driver: Driver, language: str) -> None:
-    """One of a megabyte is stored; a step whose result is refused is done all the same."""
+    """A result of a megabyte is stored; a step whose result is refused is done all the same."""
     end = played(driver, script("big", b=["huge"]))
     assert end["results"]["a"] == {"text": "x" * 1_000_000}
     assert end["phase"] == "completed" and list(end["results"]["b"]) == ["unstorable"]
 
 
 def test_callers(driver: Driver, service: Served) -> None:
-    """Each call, and the errors by their names."""
+    """Check each call of a caller, and the errors by their names."""
     ask, refused = driver.ask, driver.refused
     key, labels = fresh("call"), {"customer": fresh("c"), "ü": "ß=1"}
     start = {"definition": "asked", "key": key, "input": {"n": 1}, "labels": labels}
@@ -392,7 +399,7 @@ def test_callers(driver: Driver, service: Served) -> None:
 
 
 def test_rights(make: Make, service: Served, tokens: dict[str, str]) -> None:
-    """A token that is wrong, or too weak: callers get the error, and a worker ends with it."""
+    """If a token is wrong or too weak, callers get the error, and a worker ends with it."""
     driver, url = make(), service.url
     weak, caller = tokens["weak"], tokens["caller"]
     for wrong in ("sagas_wrong", None):
@@ -434,7 +441,10 @@ def test_rights(make: Make, service: Served, tokens: dict[str, str]) -> None:
 
 
 def test_events(make: Make, service: Served) -> None:
-    """They come in order, of the saga that is asked for; behind a restart comes that some are missed, and the stream goes on."""
+    """Events come in order, of the requested saga.
+
+    After a restart the stream reports that some are missed, and continues.
+    """
     driver, key = make(), fresh("event")
     driver.ask("events", key=key)
     driver.ask("start", definition="asked", key=fresh(), input=None)
@@ -456,7 +466,10 @@ def test_events(make: Make, service: Served) -> None:
 
 
 def test_restart_of_the_service(make: Make, service: Served, operator: str) -> None:
-    """It is killed while functions run and callers wait, and is away for their reports: all are repeated, and each function ran once."""
+    """The service is killed while functions run and callers wait, and is down for their reports.
+
+    All of them are repeated, and each function ran once.
+    """
     driver = make()
     work(driver, [service.url], operator, "w", steps=SOLO)
     keys = [fresh("restart") for _ in range(4)]
@@ -480,7 +493,9 @@ def test_restart_of_the_service(make: Make, service: Served, operator: str) -> N
 
 
 def test_lost_answers(make: Make, service: Served, operator: str) -> None:
-    """The answer of a start, of a claim and of each kind of report is lost: it is repeated, and counts once."""
+    """The reply to a start, to a claim and to each kind of report is lost: the request is repeated,
+    and counts once.
+    """
     host, _, port = service.address.rpartition(":")
     with relaying(int(port), host=host) as relay:
         driver, url = make(), f"http://127.0.0.1:{relay.port}"
@@ -506,7 +521,9 @@ def test_lost_answers(make: Make, service: Served, operator: str) -> None:
 
 
 def test_a_service_that_stands_still(make: Make, service: Served, operator: str) -> None:
-    """It costs no lease: the next service hears of a heartbeat, and of an outcome, while the lease lasts."""
+    """A stopped service costs no lease: the next service gets a heartbeat and an outcome while the
+    lease lasts.
+    """
     host, _, port = service.address.rpartition(":")
     driver, runs, ends = make(), fresh("still"), fresh("still")
     with contextlib.ExitStack() as stack:
@@ -529,7 +546,10 @@ def test_a_service_that_stands_still(make: Make, service: Served, operator: str)
 
 
 def test_lost_lease(make: Make, service: Served, operator: str) -> None:
-    """A worker stands still past its lease. Another has the task: the function hears of it, and its report counts for nothing."""
+    """A worker is stopped past its lease, and another one has the task.
+
+    The function is notified, and its report counts for nothing.
+    """
     driver = make()
     work(driver, service.url, operator, "w", steps=["solo/a"], lease=1, concurrency=2)
     key, done = fresh("lease"), fresh("lease")
@@ -543,9 +563,8 @@ def test_lost_lease(make: Make, service: Served, operator: str) -> None:
             while len(tasks) < 2:
                 tasks |= {one["key"]: one for one in take(client, "solo/a", lease=LONG, most=2)}
         driver.heard("canceled", key=key, why="lease")
-        driver.ask(
-            "release", key=done, step="a"
-        )  # `complete` counts under any lease that was issued
+        # `complete` counts under any lease that was issued
+        driver.ask("release", key=done, step="a")
         theirs = driver.calls(done, "solo/a")[0]
         assert tasks[done]["idempotency_key"] == theirs["idempotency_key"]
         assert report(client, tasks[key], result={"done": "a"}).status_code == 200
@@ -562,7 +581,9 @@ def test_lost_lease(make: Make, service: Served, operator: str) -> None:
 
 
 def test_abort_while_a_function_runs(make: Make, service: Served, operator: str) -> None:
-    """It is told by a heartbeat that the saga is to be undone, and says that it had no effect; one that does not listen is undone."""
+    """A heartbeat reports that the saga is to be undone, and the function reports that it had no
+    effect. A function that does not listen is undone.
+    """
     driver = make()
     work(driver, service.url, operator, "w", steps=SOLO, lease=4)
     listens, deaf = fresh("abort"), fresh("abort")
@@ -586,7 +607,9 @@ def test_abort_while_a_function_runs(make: Make, service: Served, operator: str)
 
 
 def test_an_abort_cancels_once(make: Make, service: Served, operator: str) -> None:
-    """A function that does not know then is called again, and is left to find out: its heartbeats cancel it no more."""
+    """A function whose outcome is unknown then is called again, to find out: its heartbeats do not
+    cancel it again.
+    """
     driver, key = make(), fresh("doubt")
     work(driver, service.url, operator, "w", steps=SOLO, lease=4)
     driver.ask("start", definition="solo", key=key, input=script("doubt"))
@@ -604,7 +627,9 @@ def test_an_abort_cancels_once(make: Make, service: Served, operator: str) -> No
 
 
 def test_killed_worker(make: Make, service: Served, operator: str) -> None:
-    """It is killed with -9: when its leases have ended, another does the tasks with the same idempotency keys."""
+    """A worker is killed with SIGKILL: when its leases have ended, another one does the tasks with
+    the same idempotency keys.
+    """
     first, second = make(), make()
     work(first, service.url, operator, "first", steps=SOLO, lease=1)
     keys = [fresh("kill") for _ in range(3)]
@@ -623,7 +648,9 @@ def test_killed_worker(make: Make, service: Served, operator: str) -> None:
 
 
 def test_a_claim_that_is_answered_at_a_stop(make: Make, service: Served, operator: str) -> None:
-    """The answer is on its way while the worker is stopped: its task is given back, however long its lease is."""
+    """The reply is in transit while the worker is stopped: its task is released, however long its
+    lease is.
+    """
     host, _, port = service.address.rpartition(":")
     with relaying(int(port), host=host) as relay, service.client(operator) as client:
         driver, key = make(), fresh("claim")
@@ -632,7 +659,8 @@ def test_a_claim_that_is_answered_at_a_stop(make: Make, service: Served, operato
         driver.ask("start", definition="solo", key=key, input=script("ok"))
         assert relay.stands.wait(LONG)
         stopped = driver.send("stop", worker="w")
-        assert driver.ask("get", key=key)["phase"] == "open"  # what was sent before is under way
+        # the requests sent before are in transit
+        assert driver.ask("get", key=key)["phase"] == "open"
         relay.go_on()
         assert stopped.result(LONG) == {}
         for step in ("a", "b"):
@@ -648,14 +676,15 @@ def test_a_claim_that_is_answered_at_a_stop(make: Make, service: Served, operato
 
 
 def test_an_idle_stop_is_quick(make: Make, service: Served, operator: str) -> None:
-    """The claim that waits at the service ends with its worker, and what comes then is another's."""
+    """The claim that waits at the service ends with its worker, and later tasks go to other
+    workers.
+    """
     driver, key, claim = make(), fresh("idle"), "/v1/tasks/claim 200"
     before = service.told().count(claim)
     work(driver, service.url, operator, "idle", steps=["solo/a"], wait=30)
     until = time.monotonic() + LONG
-    while (
-        service.told().count(claim) == before and time.monotonic() < until
-    ):  # the first one, which does not wait
+    # the first one, which does not wait
+    while service.told().count(claim) == before and time.monotonic() < until:
         time.sleep(0.1)
     assert driver.send("stop", worker="idle").result(20) == {}
     driver.ask("start", definition="solo", key=key, input=script("ok"))
@@ -670,14 +699,17 @@ def test_an_idle_stop_is_quick(make: Make, service: Served, operator: str) -> No
 
 
 def test_long_functions_and_a_stop(make: Make, service: Served, operator: str) -> None:
-    """A lease is kept while a function runs. A worker that is asked to end reports it, and gives back what has not begun."""
+    """A lease is kept while a function runs.
+
+    A worker that is asked to end reports it, and releases tasks that have not started.
+    """
     driver = make()
     work(driver, service.url, operator, "w", steps=["solo/a"], concurrency=1, lease=3)
     keys = [fresh("stop") for _ in range(3)]
     driver.ask("start", definition="solo", key=keys[0], input=script("hold"))
     driver.heard("called", key=keys[0])
     with service.client(operator) as client:
-        assert take(client, "solo/a", wait=6.6) == []  # over two leases long
+        assert take(client, "solo/a", wait=6.6) == []  # longer than two leases
         for key in keys[1:]:
             driver.ask("start", definition="solo", key=key, input=script("ok"))
         stopped = driver.send("stop", worker="w")

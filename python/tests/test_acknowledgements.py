@@ -1,4 +1,4 @@
-"""What the record of a program has of its commits and acknowledgements, without a database."""
+"""A program's record of its commits and acknowledgements, without a database."""
 
 from __future__ import annotations
 
@@ -41,14 +41,14 @@ class Sent:
 
 
 def commit(first: int, text: str = "a\nb\n", shard: int = SHARD, epoch: int = 1) -> Sent:
-    """A commit of one chunk."""
+    """Return a commit of one chunk."""
     rows = [(shard, first, 0.0, text, epoch)]
     return Sent({"lines": rows}, {shard: first + text.count("\n")})
 
 
 @pytest.fixture
 def record(tmp_path: pathlib.Path) -> Iterator[RecordFile]:
-    """A record in which a shard without events was taken up."""
+    """Return a record in which a shard without events was taken over."""
     found = RecordFile(str(tmp_path / "record"), "run")
     found.open()
     found.moved(LINE)
@@ -58,13 +58,13 @@ def record(tmp_path: pathlib.Path) -> Iterator[RecordFile]:
 
 
 def noted(record: RecordFile) -> list[str]:
-    """The lines of a record that is closed, without what names the session."""
+    """Return the lines of a record that is closed, without the name of the session."""
     record.close()
     return written(record)
 
 
 def written(record: RecordFile) -> list[str]:
-    """The lines that are in the file."""
+    """Return the lines that are in the file."""
     words = [line.split(" ") for line in pathlib.Path(record.path).read_text().splitlines()]
     return [" ".join([one[0], *one[5:]]) for one in words if one[0] != "sagas-record"]
 
@@ -78,7 +78,7 @@ SECOND = f"sent 2 {digest(('a' + chr(10) + 'b' + chr(10)) * 2)}"
 
 
 def test_what_follows_an_answer_is_written_with_it(record: RecordFile) -> None:
-    """An acknowledgement that rests on no more than another one can wait."""
+    """An acknowledgement can wait if it depends on no more than another one."""
     session, one = record.session(SHARD, 1), commit(0)
     record.commit = one
     assert written(record) == []
@@ -93,7 +93,7 @@ def test_what_follows_an_answer_is_written_with_it(record: RecordFile) -> None:
 
 
 def test_an_acknowledgement_of_an_older_chunk_while_another_is_sent(record: RecordFile) -> None:
-    """It is written at once. The chunk that is sent follows, with its answer."""
+    """It is written at once. The chunk in transit follows, with its reply."""
     session, one, two = record.session(SHARD, 1), commit(0), commit(2)
     record.commit = one
     record.heard(one, {SHARD})
@@ -105,7 +105,7 @@ def test_an_acknowledgement_of_an_older_chunk_while_another_is_sent(record: Reco
 
 
 def test_what_is_acknowledged_too_early_is_behind_what_was_sent(record: RecordFile) -> None:
-    """And before the answer, if that comes at all."""
+    """It also precedes the reply, if one comes."""
     session, one, two = record.session(SHARD, 1), commit(0), commit(2)
     record.commit = one
     record.heard(one, {SHARD})
@@ -118,7 +118,7 @@ def test_what_is_acknowledged_too_early_is_behind_what_was_sent(record: RecordFi
 
 
 def test_a_commit_without_an_answer(record: RecordFile) -> None:
-    """It is there, and what was heard of others too."""
+    """The commit is in the record, and so are the replies of the others."""
     session = record.session(SHARD, 1)
     record.commit = commit(0)
     record.unanswered()
@@ -131,7 +131,7 @@ def test_a_commit_without_an_answer(record: RecordFile) -> None:
 
 
 def test_another_server_takes_over_while_a_commit_is_sent(record: RecordFile) -> None:
-    """The commit and its answer are of the server that was there when it was sent."""
+    """The commit and its reply are those of the server at the time of sending."""
     one = commit(0)
     record.commit = one
     record.moved("00000002")
@@ -149,7 +149,9 @@ def test_another_server_takes_over_while_a_commit_is_sent(record: RecordFile) ->
 
 @pytest.mark.parametrize("early", [False, True])
 def test_a_shard_that_begins(record: RecordFile, early: bool) -> None:
-    """Its takeover is noted once, before its first commit and before what rests on that."""
+    """Its takeover is noted once, before its first commit and before acknowledgements that depend
+    on it.
+    """
     one, session = commit(0, shard=8), record.session(8, 1)
     one.parts["born"] = [(8, "name")]
     record.commit = one
@@ -168,8 +170,10 @@ def test_a_shard_that_begins(record: RecordFile, early: bool) -> None:
 
 
 def test_lines_are_in_order(tmp_path: pathlib.Path) -> None:
-    """As in a record that writes each at once; only an acknowledgement of what was heard may be
-    before a commit that was sent meanwhile. What is acknowledged is in the file.
+    """The order is that of a record that writes each line at once.
+
+    Only an acknowledgement of an earlier reply may come before a commit that was sent in the
+    meantime. Acknowledged lines are in the file.
     """
     for seed in range(300):
         chance = random.Random(seed)
@@ -221,7 +225,7 @@ def test_lines_are_in_order(tmp_path: pathlib.Path) -> None:
 
 
 def settled(lines: Sequence[str]) -> list[str]:
-    """The same, with each acknowledgement of what was heard before the commit that it is behind."""
+    """Return the lines, with each such acknowledgement moved before the commit that it follows."""
     found, heard = list[str](), 0
     for line in lines:
         what, *words = line.split(" ")
@@ -235,7 +239,7 @@ def settled(lines: Sequence[str]) -> list[str]:
 
 
 def _is_behind(found: Sequence[str], place: int) -> bool:
-    """Whether a commit is between that place and the last answer."""
+    """Return whether a commit is between that index and the last reply."""
     for line in reversed(found[:place]):
         if line.startswith("sent"):
             return True
@@ -244,7 +248,7 @@ def _is_behind(found: Sequence[str], place: int) -> bool:
     return False
 
 
-# -- what acknowledgements rest on
+# -- the commits that acknowledgements depend on
 
 
 def shelf() -> Shelf:
@@ -254,7 +258,7 @@ def shelf() -> Shelf:
 
 
 def begun(acknowledgements: Acknowledgements) -> tuple[ShardDriver, Attempt]:
-    """A shard with the first attempt of a saga, whose commit is done."""
+    """Return a shard with the first attempt of a saga, whose commit is done."""
     kinds = shelf().kinds
     shard = ShardDriver.created(ShardIdentity(SHARD, "name", ShardDefinitions(kinds)), LINE)
     shard.to(ShardState.STARTING)
@@ -271,7 +275,7 @@ def begun(acknowledgements: Acknowledgements) -> tuple[ShardDriver, Attempt]:
 
 
 def recovered(shard: ShardDriver, busy: Sequence[tuple[int, str, int]]) -> recovery.Recovery:
-    """What comes of a recovery of a shard whose saga is open, with these attempts."""
+    """Return the effects of a recovery of a shard whose saga is open, with these attempts."""
     shard.fail()
     shard.to(ShardState.LOADING)
     rows = [(SHARD * 1000, "k", 0, "{}", None, None, None)]
@@ -283,8 +287,10 @@ def recovered(shard: ShardDriver, busy: Sequence[tuple[int, str, int]]) -> recov
 
 
 def test_an_attempt_that_the_store_does_not_have_rests_on_nothing(record: RecordFile) -> None:
-    """Its saga may be the same one as before, and restored. If it were called all the same, the
-    record would not be allowed, even if an older session had its answer.
+    """Its saga may be the same one as before, and restored.
+
+    If it were called anyway, the record would not be allowed, even if an older session had its
+    reply.
     """
     acknowledgements = Acknowledgements(record)
     shard, attempt = begun(acknowledgements)
@@ -304,7 +310,7 @@ def test_an_attempt_that_the_store_does_not_have_rests_on_nothing(record: Record
 
 
 def test_what_is_not_in_the_store_rests_on_nothing(record: RecordFile) -> None:
-    """No acknowledgement of it rests on what was decided."""
+    """No acknowledgement of it depends on the decision."""
     acknowledgements = Acknowledgements(record)
     shard, attempt = begun(acknowledgements)
     saga = attempt.instance

@@ -1,4 +1,4 @@
-"""The pages of docs/dev/architecture have the package as it is."""
+"""The pages of docs/dev/architecture describe the package as it is."""
 
 from __future__ import annotations
 
@@ -9,11 +9,11 @@ import package_map
 
 FOLDER = package_map.TOP / "docs/dev/architecture"
 CHANGES = re.compile(r"\b(INSERT INTO|UPDATE (?!SET\b|OF\b)|DELETE FROM|pg_notify\()")
-"""Part of a statement that changes rows, or says that they changed."""
+"""A part of a statement that changes rows, or reports that they changed."""
 
 
 def statements(body: list[ast.stmt], owner: str) -> list[str]:
-    """The names of a module that have such a statement."""
+    """Return the names of a module that have such a statement."""
     found: list[str] = []
     for node in body:
         if isinstance(node, ast.ClassDef):
@@ -37,7 +37,7 @@ def statements(body: list[ast.stmt], owner: str) -> list[str]:
 
 
 def test_each_statement_that_changes_rows_has_its_fence() -> None:
-    """The page names each statement on PostgreSQL, and none that is gone."""
+    """The page names each statement on PostgreSQL, and none that was removed."""
     page = (FOLDER / "statements.md").read_text(encoding="utf-8")
     found: set[str] = set()
     for path in package_map.SRC.rglob("*.py"):
@@ -48,14 +48,14 @@ def test_each_statement_that_changes_rows_has_its_fence() -> None:
 
 
 def test_the_map_is_the_tree() -> None:
-    """Each module has its line, and no line is of a module that is gone."""
+    """Each module has its line, and no line is of a module that was removed."""
     for name in package_map.PAGES:
         written = (FOLDER / name).read_text(encoding="utf-8")
         assert written == package_map.page(name), "run python3 python/tests/package_map.py"
 
 
 def test_each_layer_is_in_a_page() -> None:
-    """A folder of the package that no page has would have no line."""
+    """A folder of the package without a page would have no line."""
     layers = {layer for _, layers in package_map.PAGES.values() for layer in layers if layer}
     folders = {path.parent for path in package_map.SRC.rglob("*.py")} - {package_map.SRC}
     assert layers == {path.relative_to(package_map.SRC).parts[0] for path in folders}

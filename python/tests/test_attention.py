@@ -1,4 +1,4 @@
-"""What needs a person until a person has seen to it, wherever it is asked for."""
+"""Each item that needs an operator, until an operator has resolved it, in each list."""
 
 from __future__ import annotations
 
@@ -17,8 +17,11 @@ from sagas.inspection.question import StoreReader
 
 
 def shop() -> sagas.Saga:
-    """Takes, and sends: by its input the sending fails, and then the giving back; or nobody knows;
-    or nothing is left to do."""
+    """Return a saga that takes and sends.
+
+    Its input decides: the send fails, and then the compensation; or the outcome is unknown; or no
+    step is left.
+    """
     shop = sagas.Saga("shop")
 
     @shop.step(keep=9, undo=0)
@@ -42,7 +45,7 @@ def shop() -> sagas.Saga:
 
 
 def must() -> sagas.Saga:
-    """A saga that may be stuck."""
+    """Return a saga that may be stuck."""
     must = sagas.Saga("must")
 
     @must.step(skip=sagas.NEVER)
@@ -61,12 +64,12 @@ WANTED: list[Entry] = [
 
 
 def told(found: list[sagas.Attention]) -> list[Entry]:
-    """All but the time."""
+    """Return items without their time."""
     return [(one.key, one.saga, one.why, one.step, one.undo, one.detail) for one in found]
 
 
 async def fill(store: sagas.Store, kinds: list[sagas.Saga]) -> None:
-    """One of each, and some of which nobody has to see anything."""
+    """Fill a store with one saga of each kind, and some that need no operator."""
     await (await store.start(kinds[1], "stuck")).wait()
     await (await store.start(kinds[0], "well-undone")).wait()
     end = await (await store.start(kinds[0], "gone", "gone")).wait()
@@ -79,8 +82,10 @@ async def fill(store: sagas.Store, kinds: list[sagas.Saga]) -> None:
 def test_what_needs_a_person(
     place: str, capsys: pytest.CaptureFixture[str], caplog: pytest.LogCaptureFixture
 ) -> None:
-    """It is one list, for the program, an operator's command and the service's first page; and goes
-    when somebody has resolved it."""
+    """The program, an operator's command and the service's first page have the same list.
+
+    An item leaves it when an operator has resolved it.
+    """
     kinds = [shop(), must()]
 
     async def main() -> None:
@@ -178,8 +183,10 @@ EVERYBODY = [
 def test_one_whose_compensation_failed_is_resolved(
     place: str, who: Any, capsys: pytest.CaptureFixture[str]
 ) -> None:
-    """By whoever may: then nothing of it needs a person, and it is in the list of those that are
-    resolved. Its first note stays, with its time."""
+    """Any operator may resolve it: then it needs no operator, and is in the list of resolved sagas.
+
+    Its first note stays, with its time.
+    """
     kinds = [shop(), must()]
 
     async def first() -> None:

@@ -1,4 +1,8 @@
-"""What has begun and is not called now: the program that has the saga knows for what it waits, and the command, which has the store alone, says that it has begun."""
+"""Attempts that have started and are not being called.
+
+The program that has the saga knows what they wait for. The command, which has only the store,
+reports that they have started.
+"""
 
 from __future__ import annotations
 
@@ -29,7 +33,7 @@ BOUNDS: dict[str, dict[str, Any]] = {
 
 
 def kinds(gate: asyncio.Event) -> dict[str, sagas.Saga]:
-    """A saga for each reason to wait, whose step is called until the gate opens."""
+    """Return a saga for each reason to wait, whose step is called until the gate opens."""
 
     async def wait(task: Task) -> None:
         await gate.wait()
@@ -46,7 +50,7 @@ def kinds(gate: asyncio.Event) -> dict[str, sagas.Saga]:
 
 
 def test_without_async(tmp_path: pathlib.Path) -> None:
-    """The same."""
+    """The same without async."""
     saga = sagas.Saga("one")
     saga.step(name="a", external=True)
     with sagas.open_sync(tmp_path / "x.db", [saga]) as store:
@@ -56,7 +60,7 @@ def test_without_async(tmp_path: pathlib.Path) -> None:
 
 
 def test_what_waited_for_its_time_is_called(place: str) -> None:
-    """Once that has come, nothing says any more that it is waited for."""
+    """Once the time has come, no list reports the wait any more."""
     gate, late = asyncio.Event(), sagas.Saga("late")
 
     @late.wait(until=datetime.timedelta(seconds=0.05))
@@ -77,7 +81,10 @@ def test_what_waited_for_its_time_is_called(place: str) -> None:
 
 
 def test_the_store_and_its_program_together() -> None:
-    """A lease that has run out is none; what the program says goes before an older row, and is left out where it is of another attempt."""
+    """A lease that has expired does not count.
+
+    The program's report replaces an older row, and is left out if it is of another attempt.
+    """
 
     def held(why: str, until: float | None, said: str | None = None, attempt: int = 1) -> Waits:
         return Waits(1, "k", "s", "a", False, attempt, why, 2, 5.0, until, said)
@@ -120,7 +127,10 @@ def test_the_store_and_its_program_together() -> None:
 def test_what_has_begun_says_for_what_it_waits(
     place: str, capsys: pytest.CaptureFixture[str]
 ) -> None:
-    """Its limit, its rate, a back-off, or somebody elsewhere; of what is called the program says that, and of both the command that it has begun."""
+    """The reasons are its limit, its rate, a back-off, or an external worker.
+
+    The program reports attempts that are being called; the command reports both as started.
+    """
 
     async def shown(key: str, *words: str) -> str:
         assert await asyncio.to_thread(store_command.main, [place, "show", key, *words]) == 0

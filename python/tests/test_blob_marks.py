@@ -1,4 +1,4 @@
-"""Whose the values in a blob store are, and values that a blob store does not give."""
+"""The owner of the values in a blob store, and values that a blob store does not return."""
 
 from __future__ import annotations
 
@@ -27,7 +27,7 @@ OLD = datetime.timedelta(days=3).total_seconds()
 
 
 def wait_for_name(store: sagas.Store) -> Any:
-    """The blobs of a store, once it is known whose they are."""
+    """Return the blobs of a store, once their owner is known."""
     return until(lambda: blobs_of(store).prefix and blobs_of(store))
 
 
@@ -36,7 +36,7 @@ def blobs_of(store: sagas.Store) -> Any:
 
 
 async def asked(store: sagas.Store, key: str) -> None:
-    """Waits until a saga waits for its approval."""
+    """Wait until a saga waits for its approval."""
     await until(lambda: [one for one in store.active_attempts(key) if one.waits == "approval"])
 
 
@@ -46,7 +46,7 @@ async def swept(store: sagas.Store) -> int:
 
 
 def copied(place: str, tmp_path: pathlib.Path) -> str:
-    """A copy of a store, as a backup gives it."""
+    """Return a copy of a store, as a backup has it."""
     if not place.startswith("postgresql"):
         copy = str(tmp_path / "copy.db")
         with contextlib.closing(sqlite3.connect(place)) as db, contextlib.closing(
@@ -62,7 +62,7 @@ def copied(place: str, tmp_path: pathlib.Path) -> str:
 
 
 def make_older(folder: pathlib.Path) -> None:
-    """As if all was put some days ago."""
+    """Change the times as if all had been put some days ago."""
     for path in values_in(folder):
         before = path.stat().st_mtime - OLD
         os.utime(path, (before, before))
@@ -71,8 +71,10 @@ def make_older(folder: pathlib.Path) -> None:
 def test_a_copy_deletes_nothing_of_the_original(
     place: str, tmp_path: pathlib.Path, caplog: pytest.LogCaptureFixture
 ) -> None:
-    """Neither by its sweep nor by its retention; what it puts itself the original does not delete.
-    It is told so, and may replace the original once an operator says so: then it deletes."""
+    """Neither its sweep nor its retention does, and the original does not delete the copy's own
+    blobs. The copy logs that. It may replace the original once an operator says so: then it
+    deletes.
+    """
     saga, folder = copy(), tmp_path / "blobs"
     blobs, nothing = sagas.FolderBlobStore(folder), datetime.timedelta(0)
 
@@ -130,8 +132,11 @@ def test_a_copy_deletes_nothing_of_the_original(
 
 
 def test_an_exact_copy_at_the_same_place(tmp_path: pathlib.Path) -> None:
-    """A backup that takes the place of the store has an older token. A folder of its own without
-    marks it takes at once. If two open stores each take the values, neither deletes any."""
+    """A backup that replaces the store has an older token.
+
+    It takes over a separate folder without marks at once. If two open stores each take over the
+    values, neither deletes any.
+    """
     saga, folder, place = copy(), tmp_path / "blobs", str(tmp_path / "store.db")
     blobs = sagas.FolderBlobStore(folder)
 
@@ -177,7 +182,7 @@ def test_an_exact_copy_at_the_same_place(tmp_path: pathlib.Path) -> None:
 
 
 def test_two_nodes_have_the_same_values(url: str, tmp_path: pathlib.Path) -> None:
-    """Each changes the marks, and neither takes the other's for those of another store."""
+    """Each changes the marks, and neither takes the other's marks for those of another store."""
     saga, blobs = copy(), sagas.FolderBlobStore(tmp_path / "blobs")
 
     async def main() -> None:
@@ -191,7 +196,7 @@ def test_two_nodes_have_the_same_values(url: str, tmp_path: pathlib.Path) -> Non
 
 
 def test_own_blobs_refused(tmp_path: pathlib.Path) -> None:
-    """What is no blob store, and a store that never had one."""
+    """It refuses an object that is not a blob store, and a store that never had one."""
     place = str(tmp_path / "store.db")
 
     async def main() -> None:
@@ -209,7 +214,7 @@ def test_own_blobs_refused(tmp_path: pathlib.Path) -> None:
 
 
 class Flaky(Memory):
-    """A blob store that does not give some values."""
+    """A blob store that does not return some values."""
 
     def __init__(self) -> None:
         super().__init__()
@@ -226,8 +231,11 @@ class Flaky(Memory):
 def test_a_value_that_is_not_given_parks_its_attempt_alone(
     place: str, caplog: pytest.LogCaptureFixture, monkeypatch: pytest.MonkeyPatch
 ) -> None:
-    """Opening reads no value. Sagas whose values are there go on beside; those that are parked go
-    on by themselves once their values are given, and an abort ends one without them."""
+    """Opening reads no value.
+
+    Sagas whose values exist continue in parallel. Parked sagas continue by themselves once their
+    values are returned, and an abort ends one without them.
+    """
     saga, flaky = copy(), Flaky()
     monkeypatch.setattr(blob_layer, "PAUSES", (0.001,))
     monkeypatch.setattr(attempts, "LEAST_UNREAD", 0.05)
@@ -279,7 +287,7 @@ def test_a_value_that_is_not_given_parks_its_attempt_alone(
 def test_a_worker_gets_other_tasks_meanwhile(
     tmp_path: pathlib.Path, monkeypatch: pytest.MonkeyPatch
 ) -> None:
-    """The task whose input is not given is set aside, and is claimed later."""
+    """The task whose input is missing is set aside, and is claimed later."""
     monkeypatch.setattr(blob_layer, "PAUSES", (0.001,))
     monkeypatch.setattr(attempts, "LEAST_UNREAD", 0.05)
     flaky, saga = Flaky(), sagas.Saga("done")
@@ -308,7 +316,7 @@ def test_a_worker_gets_other_tasks_meanwhile(
 
 
 def test_a_start_of_a_key_compares_its_digest(place: str) -> None:
-    """The input of the saga that is there is not got, unless it may be the same under other types."""
+    """The input of the existing saga is not read, unless it may be the same under other types."""
     saga, flaky = copy(), Flaky()
 
     async def main() -> None:

@@ -1,4 +1,4 @@
-"""Large values in a blob store: there before their rows, gone behind them, over both databases."""
+"""Large values in a blob store: put before their rows, deleted after them, over both databases."""
 
 from __future__ import annotations
 
@@ -31,7 +31,7 @@ THRESHOLD = 1000
 
 
 class Memory:
-    """A blob store of coroutines, whose machine is this program's."""
+    """A blob store with coroutines, in the memory of this program."""
 
     def __init__(self) -> None:
         self.there: dict[str, bytes] = {}
@@ -63,7 +63,7 @@ class Reverse:
 
 
 def copy(undone: list[Any] | None = None) -> sagas.Saga:
-    """Steps with large results, each of which reads the one before; and one that waits."""
+    """Return a saga with large results, each step of which reads the one before; and a waiting one."""
     saga = sagas.Saga("copy")
 
     @saga.step(undo=1, keep=9, backoff=QUICK)
@@ -89,7 +89,7 @@ def at(place: str, blobs: Any, *saga: sagas.Saga, **words: Any) -> sagas.Store:
 
 
 async def texts(store: sagas.Store) -> list[str]:
-    """What the rows have, without the blob store."""
+    """Return the stored texts, without the blob store."""
     database: Any = store._access.inside.store
     inner = getattr(database, "_inner", database)
     query = "SELECT input FROM sagas UNION ALL SELECT value FROM attempts WHERE event = 'commit'"
@@ -97,8 +97,8 @@ async def texts(store: sagas.Store) -> list[str]:
 
 
 def values_in(folder: pathlib.Path) -> list[pathlib.Path]:
-    """The values of a folder, without the marks of the store."""
-    found = os.walk(folder)  # which passes over what is deleted meanwhile
+    """Return the values of a folder, without the marks of the store."""
+    found = os.walk(folder)  # which skips blobs that are being deleted
     paths = (pathlib.Path(place, name) for place, _, names in found for name in names)
     whole = [path for path in paths if path.suffix != ".part"]
     return [path for path in whole if len(path.relative_to(folder).parts) == 3]
@@ -119,7 +119,7 @@ async def called(found: Any) -> Any:
 
 
 def test_a_blob_store_alone(blobs: Any) -> None:
-    """Put twice, got, listed and deleted; what is not there is a `KeyError`."""
+    """Values are put twice, read, listed and deleted; a missing one is a `KeyError`."""
 
     async def main() -> None:
         for _ in range(2):
@@ -139,7 +139,7 @@ def test_a_blob_store_alone(blobs: Any) -> None:
 
 
 def test_a_table_is_durable(url: str, monkeypatch: pytest.MonkeyPatch) -> None:
-    """Whatever the database's own setting says."""
+    """This holds whatever the database's own setting is."""
     made, whole = list[psycopg.Connection[Any]](), connections.connect_now
     with psycopg.connect(url, autocommit=True) as link:
         name = url.rpartition("/")[2]
@@ -154,9 +154,12 @@ def test_a_table_is_durable(url: str, monkeypatch: pytest.MonkeyPatch) -> None:
 def test_large_values_are_outside(
     place: str, tmp_path: pathlib.Path, codec: Any, monkeypatch: pytest.MonkeyPatch
 ) -> None:
-    """Rows refer to them; functions, results, histories and other starts of the key have them, also
-    in the next program and in one without the blob store, which parks them. The compensation has
-    its step's, and retention takes all of them behind the rows."""
+    """Rows refer to them.
+
+    Functions, results, histories and other starts of the key have them, also in the next program. A
+    program without the blob store parks them. The compensation has its step's result, and retention
+    deletes all of them after the rows.
+    """
     undone, folder = list[Any](), tmp_path / "blobs"
     saga, blobs = copy(undone), sagas.FolderBlobStore(folder)
 
@@ -222,7 +225,7 @@ def test_large_values_are_outside(
 
 
 def basket() -> sagas.Saga:
-    """Steps of large items, and one that waits before them."""
+    """Return a saga of large items, with a waiting step before them."""
     saga = sagas.Saga("basket")
     sign = saga.approval(name="sign", backoff=QUICK)(lambda task: None)
 
@@ -239,8 +242,11 @@ def basket() -> sagas.Saga:
 
 @pytest.mark.parametrize("codec", [None, Reverse()], ids=["plain", "codec"])
 def test_large_items_are_outside(place: str, tmp_path: pathlib.Path, codec: Any) -> None:
-    """They are kept outside of the database as inputs are, and read by later programs. Without the
-    blob store the attempts that need them are parked; retention takes them behind the rows."""
+    """They are kept outside of the database as inputs are, and read by later programs.
+
+    Without the blob store the attempts that need them are parked. Retention deletes them after the
+    rows.
+    """
     saga, folder = basket(), tmp_path / "blobs"
     blobs = sagas.FolderBlobStore(folder)
     given = {"parcels": {f"key {number}": "x" * THRESHOLD for number in range(3)}}
@@ -314,8 +320,10 @@ def test_a_child_with_large_values_is_undone(
 
 
 def test_it_is_away(place: str) -> None:
-    """A start says so, and writes nothing; a result waits until it is there again. What was put is
-    missing: the attempt is parked. An input that looks as a reference is data."""
+    """A start raises an error, and writes nothing; a result waits until the blob store is available
+    again. If a value that was put is missing, the attempt is parked. An input that looks like a
+    reference is data.
+    """
     memory, saga = Memory(), copy()
     forged = {"$blob": "ab/1/c", "bytes": 1, "digest": "0" * 64}
 
@@ -345,7 +353,7 @@ def test_it_is_away(place: str) -> None:
 
 
 def test_a_client_reads_them(url: str) -> None:
-    """With the same blob store; without it, that is an error."""
+    """It needs the same blob store; without it, the read is an error."""
     memory, saga = Memory(), copy()
 
     async def main() -> None:
@@ -365,8 +373,10 @@ def test_a_client_reads_them(url: str) -> None:
 
 
 def test_a_service_has_them(tmp_path: pathlib.Path) -> None:
-    """By its options, with a codec of a module: a worker gets the whole input, and its result is
-    outside; a codec that is none is refused."""
+    """They come with its options, with a codec of a module.
+
+    A worker gets the whole input, and its result is stored outside. An invalid codec is refused.
+    """
     (tmp_path / "coded.py").write_text(
         "class Reverse:\n"
         "    def encode(self, data): return data[::-1]\n"
@@ -424,8 +434,10 @@ asyncio.run(main())
 
 
 def test_what_was_acknowledged_is_there_after_a_kill(place: str, tmp_path: pathlib.Path) -> None:
-    """A program is killed amid its starts, three times: each saga that was told of is driven to its
-    end by the next one, with its values."""
+    """A program is killed during its starts, three times.
+
+    The next one runs each acknowledged saga to its end, with its values.
+    """
     here, folder, saga = pathlib.Path(__file__).parent, tmp_path / "blobs", copy()
     environment = os.environ | {
         "PYTHONPATH": f"{here.parent / 'src'}{os.pathsep}{here}",

@@ -1,4 +1,5 @@
-"""`task.cancelled`, `cancel_on_abort=`, `task.progress`, and where a plain function is that takes too long."""
+"""`task.cancelled`, `cancel_on_abort=`, `task.progress`, and the location of a slow plain function.
+"""
 
 from __future__ import annotations
 
@@ -27,7 +28,7 @@ from sagas.definition.control import Control
 
 
 def pair(long: Any, fails: Any, **words: Any) -> sagas.Saga:
-    """A step that takes as long as it is wanted, and one beside it."""
+    """Return a saga with a step that takes as long as the test wants, and a parallel one."""
     saga = sagas.Saga("pair")
     saga.step(name="long", undo=0, keep=5, backoff=QUICK, **words)(long)
     saga.step(name="other", undo=0)(fails)
@@ -51,7 +52,7 @@ async def hear(task: Task) -> None:
     indirect=["place"],
 )
 def test_a_function_hears_that_it_is_not_wanted(place: str, function: Any, why: str) -> None:
-    """It decides itself how it ends; the saga is planned as soon as it has."""
+    """The function decides how it ends; the saga is planned as soon as it has."""
     begun = asyncio.Event()
 
     async def fails(task: Task) -> None:
@@ -77,7 +78,7 @@ def test_a_function_hears_that_it_is_not_wanted(place: str, function: Any, why: 
 
 
 def test_a_function_that_hears_of_the_end_of_the_store_goes_on_later(place: str) -> None:
-    """It says that nobody knows what it did, and is called again by the next program, with its key."""
+    """It reports an unknown outcome, and the next program calls it again with its key."""
     keys: list[str] = []
 
     async def long(task: Task) -> int:
@@ -107,7 +108,10 @@ def test_a_function_that_hears_of_the_end_of_the_store_goes_on_later(place: str)
 def test_a_function_that_is_cancelled_with_its_saga(
     place: str, says: str, timeout: float | None
 ) -> None:
-    """What it raises then counts. Where it says nothing, nobody knows: it is called again, and not cancelled again."""
+    """The exception that it raises then counts.
+
+    If it returns no outcome, that is unknown: it is called again, and not cancelled again.
+    """
     told: list[str] = []
 
     async def long(task: Task) -> str:
@@ -163,7 +167,7 @@ def test_what_cannot_be_cancelled_is_refused() -> None:
 
 
 def test_what_is_wrong_with_progress_is_told_to_the_function() -> None:
-    """A copy in another process tells nobody, and is never cancelled."""
+    """A copy in another process reports to no store, and is never cancelled."""
     control = Control()
     for words, error in [
         ((2,), ValueError),
@@ -186,7 +190,9 @@ def test_what_is_wrong_with_progress_is_told_to_the_function() -> None:
 
 
 def test_the_command_shows_progress(place: str, capsys: pytest.CaptureFixture[str]) -> None:
-    """Of a function that runs, within some seconds; of one that is over nothing."""
+    """It shows the progress of a running function, within some seconds, and nothing of a finished
+    one.
+    """
     goes_on = threading.Event()
 
     def long(task: Task) -> str:
@@ -212,7 +218,7 @@ def test_the_command_shows_progress(place: str, capsys: pytest.CaptureFixture[st
 
 
 def test_a_plain_function_past_its_time_is_named_with_where_it_is(tmp_path: pathlib.Path) -> None:
-    """The innermost call first, out to the step's function, and nothing of the package."""
+    """The innermost call comes first, out to the step's function, and no line of the package."""
     told: list[sagas.Event] = []
     goes_on = threading.Event()
 
@@ -270,7 +276,9 @@ asyncio.run(main())
 def test_a_program_that_is_killed_while_a_function_is_cancelled(
     place: str, tmp_path: pathlib.Path
 ) -> None:
-    """The abort is kept: the next program calls the same attempt again, and it hears from its beginning that it is cancelled."""
+    """The abort is stored: the next program calls the same attempt again, cancelled from its
+    beginning.
+    """
     here = pathlib.Path(__file__).parent
     path = f"{here.parent / 'src'}{os.pathsep}{here}"
     environment = os.environ | {"PYTHONPATH": path, "SAGAS_PROGRAM": program()}
@@ -304,7 +312,10 @@ def test_a_program_that_is_killed_while_a_function_is_cancelled(
 def test_a_worker_tells_its_progress_with_its_heartbeat(
     store: str | None, tmp_path: pathlib.Path
 ) -> None:
-    """The service, its dashboard and the command show it. What is no progress is refused, and keeps nothing."""
+    """The service, its dashboard and the command show it.
+
+    Invalid progress is refused, and stores nothing.
+    """
     one = 'format = 2\nname = "one"\n[[step]]\nname = "a"\nundo = "never"\n'
     goes_on = threading.Event()
     with served(tmp_path, {"one.toml": one}, store=store) as service, service.client() as client:
@@ -351,8 +362,11 @@ keep = 5
 def test_a_worker_hears_that_its_task_is_not_wanted(
     store: str | None, tmp_path: pathlib.Path
 ) -> None:
-    """With its heartbeat, and with a task that is claimed then. An async function is cancelled once
-    where it asks for that; whoever lost its lease hears so, too."""
+    """The heartbeat reports it, and so does a later claim.
+
+    An async function is cancelled once if it asks for that; a worker that lost its lease is
+    notified, too.
+    """
     heard, calls = list[Any](), list[Any]()
     with served(tmp_path, {"two.toml": TWO}, store=store) as service, service.client() as client:
 
@@ -364,7 +378,7 @@ def test_a_worker_hears_that_its_task_is_not_wanted(
         (a,), (b,) = take(client, "two/a"), take(client, "two/b")
         assert a["cancelled"] is None and beat(a) is None
         assert report(client, b, "fail", error="no", final=True).status_code == 200
-        run(until(lambda: beat(a) == "failed"))  # the saga hears of it in the next look
+        run(until(lambda: beat(a) == "failed"))  # the saga gets it in the next look
         client.post("/v1/sagas/fails/abort", json={})
         assert beat(a) == "aborted"
         assert report(client, a, "unknown", error="gone").status_code == 200

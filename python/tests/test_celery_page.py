@@ -1,4 +1,7 @@
-"""The guide to Celery is run: its code saved, its commands given, their outputs compared; and the example."""
+"""The guide to Celery, executed: its code is saved, its commands run and their outputs compared.
+
+The example runs, too.
+"""
 
 from __future__ import annotations
 
@@ -27,7 +30,10 @@ def blocks(language: str, page: str) -> list[str]:
 
 
 def test_the_page(tmp_path: pathlib.Path) -> None:
-    """A broker, a worker, a trip that goes well and one of which the car is given back; on a port of its own."""
+    """It needs a broker and a worker.
+
+    One trip completes, and of another one the car is returned. The broker has its own port.
+    """
     page = PAGE.replace("6379", str(free_port()))
     shop, book = blocks("python", page)[:2]
     (tmp_path / "shop.py").write_text(shop)
@@ -71,7 +77,7 @@ def test_the_page(tmp_path: pathlib.Path) -> None:
 
 
 def environment_in(folder: pathlib.Path) -> dict[str, str]:
-    """Commands `python` and `celery` that are this Python's."""
+    """Return an environment with commands `python` and `celery` of this Python."""
     (folder / "bin").mkdir()
     for name, words in (("python", ""), ("celery", "-m celery")):
         (folder / "bin" / name).write_text(f'#!/bin/sh\nexec {sys.executable} {words} "$@"\n')
@@ -84,7 +90,7 @@ def environment_in(folder: pathlib.Path) -> dict[str, str]:
 
 
 def test_the_example() -> None:
-    """One command: broker, worker, saga, a failure, and what was undone."""
+    """One command shows broker, worker, saga, a failure and its compensations."""
     path = "examples/celery/run.py"
     assert f"PYTHONPATH=python/src python3 {path}" in (TOP / path).read_text()
     environment = os.environ | {"PYTHONPATH": "python/src"}

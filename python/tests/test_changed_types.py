@@ -1,5 +1,7 @@
-"""Inputs and results whose types have changed under open sagas: what a program cannot read it does
-not do, and nothing fails because of that."""
+"""Inputs and results whose types have changed under open sagas.
+
+A program does not execute what it cannot read, and no step fails because of that.
+"""
 
 from __future__ import annotations
 
@@ -23,14 +25,14 @@ from sagas.definition.task import Told
 
 @dataclasses.dataclass
 class Old:
-    """An order as it was."""
+    """An order of the earlier release."""
 
     amount: int
 
 
 @dataclasses.dataclass
 class Wants:
-    """As a program wants it that does not know of old ones."""
+    """The order of a program that does not know earlier orders."""
 
     amount: int
     address: str
@@ -38,27 +40,29 @@ class Wants:
 
 @dataclasses.dataclass
 class Mended:
-    """As it should have been added."""
+    """The order with the field added as it should be."""
 
     amount: int
     address: str = "unknown"
 
 
 class Color(enum.Enum):
-    """As results were."""
+    """A result of the earlier release."""
 
     RED = "red"
 
 
 class Fewer(enum.Enum):
-    """One is gone."""
+    """A result without one field."""
 
     BLUE = "blue"
 
 
 class Shop:
-    """charge, an approval, ship: with what ship, and the refund, read their input as. What each
-    call did is kept."""
+    """A saga of charge, an approval, and ship; with the types that ship and the refund read.
+
+    The class keeps what each call did.
+    """
 
     def __init__(
         self, ship_as: Any, refund_as: Any = None, gives: Any = Color, fails: bool = False
@@ -99,7 +103,7 @@ class Shop:
 
 
 async def opened_at(place: str, shop: Shop, *keys: str) -> None:
-    """Sagas that wait to be approved, as a program leaves them that closes."""
+    """Leave sagas that wait for an approval, as a program does that closes."""
     async with sagas.open(place, [shop.saga]) as store:
         for key in keys:
             await store.start(shop.saga, key, {"amount": 314159})
@@ -112,9 +116,9 @@ async def opened_at(place: str, shop: Shop, *keys: str) -> None:
 
 
 async def parked(store: sagas.Store, key: str = "k") -> list[sagas.Attention]:
-    """What needs a person, once the saga waits for another program."""
+    """Return what needs an operator, once the saga waits for another program."""
     await until(lambda: any(one.waits == "cannot_decode" for one in store.active_attempts(key)))
-    while not (found := await store.attention()):  # its row is on its way
+    while not (found := await store.attention()):  # its row is being written
         await asyncio.sleep(0.005)
     return found
 
@@ -139,8 +143,9 @@ async def parked(store: sagas.Store, key: str = "k") -> list[sagas.Attention]:
 def test_a_type_that_changed_parks_the_attempt(
     place: str, change: dict[str, Any], why: str, caplog: pytest.LogCaptureFixture
 ) -> None:
-    """It waits, is shown, and goes on in a program that can read it: nothing fails, nothing is
-    compensated, no try is used up."""
+    """It waits, is listed, and continues in a program that can read it: no step fails, none is
+    compensated, no try is used up.
+    """
     new, mended = Shop(**change), Shop(Mended)
     told: list[sagas.Event] = []
 
@@ -179,7 +184,9 @@ def test_a_type_that_changed_parks_the_attempt(
 
 
 def test_a_compensation_that_cannot_read_waits(place: str) -> None:
-    """As an action: it has not failed, and the saga ends undone in a program that can read it."""
+    """It waits as an action does: it has not failed, and the saga ends undone in a program that can
+    read it.
+    """
     new, mended = Shop(Old, refund_as=Wants, fails=True), Shop(Old, refund_as=Mended)
 
     async def main() -> None:
@@ -199,7 +206,9 @@ def test_a_compensation_that_cannot_read_waits(place: str) -> None:
 
 
 def test_a_person_may_say_how_it_ended(place: str) -> None:
-    """Where no program will read it any more: `finish`, and the saga goes on by that."""
+    """If no program will read it any more, `finish` reports its outcome, and the saga continues
+    with that.
+    """
     new = Shop(Wants, refund_as=Old)
 
     async def main() -> None:
@@ -207,7 +216,7 @@ def test_a_person_may_say_how_it_ended(place: str) -> None:
         async with sagas.open(place, [new.saga]) as store:
             await store.complete("k", "ok")
             await parked(store)
-            # does not wait for what is parked: nothing begins any more
+            # does not wait for what is parked: nothing starts any more
             assert await store.abort("k")
             await store.fail("k", "ship", "it was never shipped")
             end = await store.wait("k")
@@ -220,7 +229,7 @@ def test_a_person_may_say_how_it_ended(place: str) -> None:
 
 
 def waits(hint: Any, calls: list[str]) -> sagas.Saga:
-    """A wait that says when it is called for its time, and when its function is."""
+    """Return a wait that notes when its time is computed, and when its function is called."""
     saga = sagas.Saga("waits")
 
     def pause(task: Task) -> None:
@@ -237,8 +246,7 @@ def waits(hint: Any, calls: list[str]) -> sagas.Saga:
 
 
 def test_a_wait_that_is_over_is_over(place: str) -> None:
-    """A wait whose function cannot read its input is not waited for once more by the next
-    program."""
+    """A wait whose function cannot read its input is not waited for again by the next program."""
     calls: list[str] = []
     strict, mended = waits(Wants, calls), waits(Mended, calls)
 
@@ -254,8 +262,10 @@ def test_a_wait_that_is_over_is_over(place: str) -> None:
 
 
 def test_another_node_has_it(url: str) -> None:
-    """A log of which this node cannot read something goes to another one that comes, once; where no
-    other can, it is driven here but for that."""
+    """A log with an unreadable value goes once to another node that opens.
+
+    If no other node can read it, this node runs all but that attempt.
+    """
     old, new = Shop(Old), Shop(Wants)
 
     async def main() -> None:
@@ -273,7 +283,7 @@ def test_another_node_has_it(url: str) -> None:
 
 
 def test_two_nodes_of_which_none_can(url: str) -> None:
-    """Each spares it for the other, and one has it in the end: what can be read of it goes on."""
+    """Each leaves it for the other, and one has it in the end: the readable sagas continue."""
     one, two = Shop(Wants), Shop(Wants)
 
     async def main() -> None:
@@ -294,8 +304,9 @@ def test_two_nodes_of_which_none_can(url: str) -> None:
 
 
 def test_a_worker_of_celery_that_cannot_read_its_order() -> None:
-    """It is one of those who do not know, so that it is ordered again, and perhaps of another
-    worker; no try is used up."""
+    """The outcome is unknown there, so that it is sent again, perhaps to another worker; no try is
+    used up.
+    """
     worker = pytest.importorskip("sagas.celery.worker")
 
     def reads(task: sagas.Task[Wants]) -> None:
@@ -309,7 +320,7 @@ def test_a_worker_of_celery_that_cannot_read_its_order() -> None:
 
 
 def test_a_worker_of_celery_that_reads_the_result_of_a_child() -> None:
-    """What the function of a child step says of its result is the child's input."""
+    """The return type of a child step's function is the type of the child's input."""
     worker = pytest.importorskip("sagas.celery.worker")
     app = pytest.importorskip("celery").Celery("app")
     queue = pytest.importorskip("sagas.celery").Queue(app, "q", store="nowhere.db")
@@ -333,8 +344,9 @@ def test_a_worker_of_celery_that_reads_the_result_of_a_child() -> None:
 
 
 def steps(*names: str, calls: list[str], version: int = 1) -> sagas.Saga:
-    """An approval, and behind it steps in a row, each of which notes that it was called, and by
-    which version."""
+    """Return a saga: an approval, and then steps in a row, each of which notes that it was called,
+    and by which version.
+    """
     saga = sagas.Saga("steps", version=version)
     last = saga.approval(name="ok")(lambda task: None)
     for name in names:
@@ -347,15 +359,16 @@ def steps(*names: str, calls: list[str], version: int = 1) -> sagas.Saga:
 
 
 async def left_open(place: str, saga: sagas.Saga) -> None:
-    """A saga that waits to be approved, as a program leaves it."""
+    """Leave a saga that waits for an approval, as a program does."""
     async with sagas.open(place, [saga]) as store:
         await store.start(saga, "old")
         await until(lambda: any(one.waits == "approval" for one in store.active_attempts("old")))
 
 
 def test_a_step_that_was_added(place: str) -> None:
-    """A saga that is open goes on by the definition that it was begun with, and today's functions;
-    a new one has the step."""
+    """An open saga continues by its original definition, and with the current functions; a new one
+    has the step.
+    """
     calls: list[str] = []
     before, after = steps("a", calls=calls), steps("a", "b", calls=calls)
 
@@ -379,8 +392,9 @@ def test_a_step_that_was_added(place: str) -> None:
 
 
 def test_a_step_that_is_gone_or_renamed(place: str) -> None:
-    """A file is not opened, and the step is named; over PostgreSQL the log is left, until a node
-    has the step again."""
+    """A file is not opened, and the error names the step; over PostgreSQL the log is left, until a
+    node has the step again.
+    """
     calls: list[str] = []
     before, after = steps("a", "b", calls=calls), steps("a", "c", calls=calls)
 
@@ -402,8 +416,9 @@ def test_a_step_that_is_gone_or_renamed(place: str) -> None:
 
 
 def test_both_versions(place: str) -> None:
-    """Sagas of the older version go on by its functions, and those that are started by the newer
-    one's."""
+    """Sagas of the older version continue with its functions, and new ones with those of the newer
+    one.
+    """
     calls: list[str] = []
     one, two = steps("a", calls=calls), steps("b", calls=calls, version=2)
 
@@ -424,7 +439,7 @@ def test_both_versions(place: str) -> None:
 
 
 def test_a_field_that_is_gone_and_a_result_that_has_more(place: str) -> None:
-    """What a type does not name is not read; a field with a default is as by its default."""
+    """A field that a type does not name is not read; a missing field has its default."""
 
     @dataclasses.dataclass
     class Less:

@@ -1,4 +1,4 @@
-"""Children are undone by the definitions that they ran with, whatever the program declares today."""
+"""Children are undone by the definitions that they ran with, whatever the program declares now."""
 
 from __future__ import annotations
 
@@ -24,13 +24,15 @@ from sagas.server import json_views
 
 
 class World:
-    """A parent with a child, declared anew for each program, and what was done."""
+    """A parent with a child, declared again for each program, and the calls of their functions."""
 
     def __init__(self) -> None:
         self.done = list[str]()
 
     def child(self, *steps: str, version: int = 1, **costs: int) -> sagas.Saga:
-        """One of steps in this order, each of which needs the one before; `x-`: without a compensation."""
+        """Return a child with steps in this order, each of which needs the one before; `x-` has no
+        compensation.
+        """
         saga, before = sagas.Saga("child", version=version), list[Any]()
         for name in steps:
             undo = {"undo": 0} if name.endswith("-") else {}
@@ -41,12 +43,12 @@ class World:
         return saga
 
     def do(self, task: Task) -> str:
-        """What each step does."""
+        """The action of each step."""
         self.done.append(task.step)
         return f"done {task.step}"
 
     def undo(self, task: Task) -> None:
-        """What each compensation does."""
+        """The compensation of each step."""
         assert (
             task.result == f"done {task.step}"
             and task.key.endswith("/:stay")
@@ -55,7 +57,7 @@ class World:
         self.done.append(f"undo {task.step} {' '.join(task.results)}".strip())
 
     def parent(self, child: sagas.Saga, **options: Any) -> list[sagas.Saga]:
-        """One whose child completes, and which a person lets fail."""
+        """Return a parent whose child completes, and which an operator lets fail."""
         parent = sagas.Saga("parent")
         stay = parent.child(child, name="stay", input=lambda task: None, **options)
         signed = parent.approval(name="sign", needs=[stay])(lambda task: None)
@@ -63,7 +65,7 @@ class World:
         return [parent, child]
 
     async def started(self, place: str, known: list[sagas.Saga], key: str = "t") -> None:
-        """One is started, by a program that ends once the child has completed."""
+        """Start one in a program that ends once the child has completed."""
         async with sagas.open(place, known) as store:
             await store.start(known[0], key)
             await until(
@@ -71,7 +73,7 @@ class World:
             )
 
     async def failed(self, store: sagas.Store, key: str = "t") -> dict[str, str]:
-        """The states of its steps once it has ended."""
+        """Return the states of its steps once it has ended."""
         await store.fail(key, "sign", "no")
         return (await store.wait(key, 60)).states
 
@@ -82,7 +84,10 @@ ONES_UNDONE = ["undo y x", "undo x"]
 
 @pytest.mark.parametrize("steps, lacks", [(("x2", "y"), "x"), (("x", "y-"), "y")])
 def test_a_compensation_that_is_gone(place: str, steps: tuple[str, ...], lacks: str) -> None:
-    """Its step was renamed or removed, or it alone: no program without it opens the file, and over PostgreSQL no node without it has the shard."""
+    """Its step was renamed or removed, or only the compensation was.
+
+    No program without it opens the file, and over PostgreSQL no node without it has the shard.
+    """
     world = World()
     old, new = world.parent(world.child("x", "y")), world.parent(world.child(*steps))
     why = (
@@ -111,7 +116,9 @@ def test_a_compensation_that_is_gone(place: str, steps: tuple[str, ...], lacks: 
 
 @pytest.mark.parametrize("steps", [("x", "y", "z"), ("y", "x"), ("z", "y", "x")])
 def test_other_steps_and_another_order(place: str, steps: tuple[str, ...]) -> None:
-    """What never ran is not undone; the rest in the order in which it ran, with the results that it had."""
+    """A step that never ran is not undone; the others are, in the order in which they ran, with
+    their results.
+    """
     world = World()
     old, new = world.parent(world.child("x", "y")), world.parent(world.child(*steps))
 
@@ -127,7 +134,9 @@ def test_other_steps_and_another_order(place: str, steps: tuple[str, ...]) -> No
 
 
 def test_the_program_changes_while_a_child_is_undone(place: str) -> None:
-    """What undoes it goes on by its own definition. It needs what that has."""
+    """The saga that undoes it continues by its own definition, and needs the functions of that
+    definition.
+    """
     world, broken = World(), [True]
 
     def undo(task: Task) -> None:
@@ -164,7 +173,9 @@ def test_the_program_changes_while_a_child_is_undone(place: str) -> None:
 
 
 def test_who_may_undo_a_child(tmp_path: pathlib.Path) -> None:
-    """A parent that never undoes it, or by its own function, needs none of its compensations; nor does one whose version the program has twice."""
+    """A parent that never undoes it, or does so by its own function, needs none of its
+    compensations. Nor does one whose version the program has twice.
+    """
     place, new = str(tmp_path / "store.db"), World()
 
     async def main() -> None:
@@ -188,9 +199,8 @@ def test_who_may_undo_a_child(tmp_path: pathlib.Path) -> None:
                 with pytest.raises(sagas.MissingStep):
                     await sagas.open(at, now).__aenter__()
                 second = new.child("x2", version=2)
-                async with sagas.open(
-                    at, [*new.parent(second), own[1]]
-                ) as store:  # the parent starts version 2 from now on
+                # the parent starts version 2 from now on
+                async with sagas.open(at, [*new.parent(second), own[1]]) as store:
                     assert (await new.failed(store))["stay"] == "undone"
                 assert world.done == ["x", "undo x"]
 
@@ -198,7 +208,7 @@ def test_who_may_undo_a_child(tmp_path: pathlib.Path) -> None:
 
 
 def family(world: World, leaf: str) -> list[sagas.Saga]:
-    """A parent whose child has a child of one step."""
+    """Return a parent whose child has a child of one step."""
     below = sagas.Saga("below")
     below.step(lambda task: world.done.append(task.key), name=leaf, keep=9).compensation(
         lambda task: world.done.append(f"undo {task.key}")
@@ -209,7 +219,10 @@ def family(world: World, leaf: str) -> list[sagas.Saga]:
 
 
 def test_a_child_of_a_child(place: str, capsys: pytest.CaptureFixture[str]) -> None:
-    """It is looked for at the opening, too, and undone by its own definition. Operators see how many there are."""
+    """The opening checks it, too, and it is undone by its own definition.
+
+    Operators see how many there are.
+    """
     world, shell = World(), Shell(place, capsys)
     old, new, more = family(world, "x"), family(world, "x2"), family(world, "x")
     more[2].step(lambda task: None, name="z", keep=1).compensation(
@@ -245,14 +258,16 @@ def test_a_child_of_a_child(place: str, capsys: pytest.CaptureFixture[str]) -> N
 
 
 def test_the_definitions_of_an_open_store_are_those_of_another(place: str) -> None:
-    """Without what undoes their children, which the other store makes itself."""
+    """They exclude the sagas that undo their children, which the other store makes itself."""
     known = family(World(), "x")
     store = sagas.open(place, known)
     assert store.sagas == known and len(Shelf(store.sagas).sagas) == 5
 
 
 def test_a_node_that_cannot_undo_a_child_leaves_it(url: str) -> None:
-    """The child was done by another node after this one has taken the parent: it waits for a program that can, and that node gets it."""
+    """Another node did the child after this one took over the parent: the undo waits for a program
+    that can do it, and that node gets it.
+    """
     world, gate = World(), asyncio.Event()
     old, new = world.child("x"), world.child("x2")
 
@@ -299,7 +314,9 @@ def test_a_node_that_cannot_undo_a_child_leaves_it(url: str) -> None:
 
 
 def test_a_compensation_is_in_the_definition(place: str) -> None:
-    """So its removal is seen also where a step has nothing to undo now; a definition of an older release does not say it."""
+    """So its removal is noticed even if a step has nothing to undo now; a definition of an older
+    release does not have it.
+    """
     had, has = World().child("x"), World().child("x-")
     assert (
         "\n# compensated\n" in had.toml()
@@ -346,7 +363,9 @@ def test_a_compensation_is_in_the_definition(place: str) -> None:
 
 
 def test_definitions_that_undo_children() -> None:
-    """Their text says which child they undo, and what each compensation may read; one of an older release has neither."""
+    """Their text names the child that they undo, and the results that each compensation may read; a
+    text of an older release has neither.
+    """
     world = World()
     child = world.child("x", "y", "z-", version=3)
     saga = undo_sagas.undo_saga(child)
@@ -389,7 +408,7 @@ def test_definitions_that_undo_children() -> None:
 
 
 def test_a_child_of_which_nothing_can_be_undone(caplog: pytest.LogCaptureFixture) -> None:
-    """A number as `undo` is then not meant."""
+    """A number as `undo` is then probably a mistake."""
     child = World().child("x")
     child.step(name="held", needs=["x"])(lambda task: None)
     (warning,) = World().parent(child, undo=1, keep=9)[0].warnings()
@@ -408,7 +427,7 @@ def test_a_child_of_which_nothing_can_be_undone(caplog: pytest.LogCaptureFixture
 
 
 def leaf() -> list[sagas.Saga]:
-    """A parent whose child is done by workers, and undone by them."""
+    """Return a parent whose child is done and undone by workers."""
     child = sagas.Saga("leaf")
     plan = child.step(lambda task: {"rooms": 2}, name="plan", undo=0)
     child.step(external=True, name="room", needs=[plan], keep=9, undo=0).compensation(external=True)
@@ -416,7 +435,7 @@ def leaf() -> list[sagas.Saga]:
 
 
 def opened(place: str, node: str, **words: Any) -> sagas.Store:
-    """A store that serves workers."""
+    """Open a store that serves workers."""
     store = sagas.open(
         place, leaf(), node=node if place.startswith("postgresql") else None, **words
     )
@@ -425,7 +444,7 @@ def opened(place: str, node: str, **words: Any) -> sagas.Store:
 
 
 class Backwards:
-    """A codec that nobody needs a key for."""
+    """A codec without a key."""
 
     def encode(self, data: bytes) -> bytes:
         return data[::-1]
@@ -437,7 +456,9 @@ class Backwards:
 def test_workers_undo_a_child(
     place: str, capsys: pytest.CaptureFixture[str], monkeypatch: pytest.MonkeyPatch
 ) -> None:
-    """The worker of the child's step is handed its compensation, as of the child, also by another node; until one claims it, that is listed."""
+    """The worker of the child's step gets its compensation, as of the child, also by another node;
+    until a worker claims it, it is listed.
+    """
     monkeypatch.setattr(backlog, "UNCLAIMED", -1.0)
     shell, codec = Shell(place, capsys), Backwards()
 
@@ -481,9 +502,8 @@ def test_workers_undo_a_child(
             )
             assert found.original_idempotency_key == task.task.idempotency_key
             assert found.idempotency_key == task.task.idempotency_key.replace("-run", "-undo")
-            told = worker_task.task_of(
-                json_views.task(undo, one.now()), Context()
-            )  # as a `Worker` gets it
+            # as a `Worker` gets it
+            told = worker_task.task_of(json_views.task(undo, one.now()), Context())
             assert worker_task.word_of(told) == "leaf/room/undo" and (told.result, told.key) == (
                 found.result,
                 found.key,
@@ -499,7 +519,7 @@ def test_workers_undo_a_child(
 
 
 def test_a_task_that_an_older_release_offered(tmp_path: pathlib.Path) -> None:
-    """It was offered under a name that no worker asks for: it is offered again."""
+    """It was offered under a name that no worker claims: it is offered again."""
     place = str(tmp_path / "store.db")
 
     async def main() -> None:
@@ -521,7 +541,9 @@ def test_a_task_that_an_older_release_offered(tmp_path: pathlib.Path) -> None:
 
 @pytest.mark.parametrize("is_aborted", [False, True])
 def test_children_of_an_earlier_release(tmp_path: pathlib.Path, is_aborted: bool) -> None:
-    """A child that is under way, with its own child, and a saga that undoes one: they keep their keys, and no other is started."""
+    """A child in progress, with its own child, and a saga that undoes one keep their keys, and no
+    other is started.
+    """
     place, calls = str(tmp_path / "store.db"), list[str]()
     leaf, middle, top = sagas.Saga("leaf"), sagas.Saga("middle"), sagas.Saga("top")
     room = leaf.step(name="room", keep=9)(lambda task: calls.append("room"))
@@ -581,7 +603,7 @@ def test_children_of_an_earlier_release(tmp_path: pathlib.Path, is_aborted: bool
 
 
 def test_children_of_items(place: str) -> None:
-    """Each item has a child of its own, which is undone with its own key and input."""
+    """Each item has its own child, which is undone with its own key and input."""
     world, group, top = World(), sagas.Saga("group"), sagas.Saga("top")
     child = sagas.Saga("child")
     child.step(lambda task: task.input, name="x", keep=9).compensation(
@@ -630,7 +652,9 @@ def test_a_child_with_items(place: str) -> None:
 
 
 def test_the_second_child_is_undone(place: str) -> None:
-    """Of children of which only the last one completed that one is undone, by its own definition; one that is stuck is resolved before."""
+    """If only the last one completed, that one is undone, by its own definition; a stuck one is
+    resolved before.
+    """
     world = World()
 
     def known(*steps: str) -> list[sagas.Saga]:

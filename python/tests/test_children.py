@@ -27,7 +27,7 @@ from sagas.storage.filters import NOTHING, Filter, Scope
 
 
 class Trip:
-    """A trip with a hotel, and what was done."""
+    """A trip with a hotel, and the calls of its functions."""
 
     def __init__(self) -> None:
         self.done = list[str]()
@@ -78,7 +78,7 @@ class Trip:
 
 
 class Backwards:
-    """A codec that nobody needs a key for."""
+    """A codec without a key."""
 
     def encode(self, data: bytes) -> bytes:
         return data[::-1]
@@ -111,7 +111,10 @@ def test_a_child_completes(place: str) -> None:
 
 
 def test_a_completed_child_is_undone(place: str, capsys: pytest.CaptureFixture[str]) -> None:
-    """By its own compensations, in their order, also with a codec. The command and the API show who started whom."""
+    """Its own compensations undo it, in their order, also with a codec.
+
+    The command and the API show the parent and the child.
+    """
     world, shell = Trip(), Shell(place, capsys)
 
     async def main() -> None:
@@ -153,7 +156,7 @@ def test_a_completed_child_is_undone(place: str, capsys: pytest.CaptureFixture[s
 
 
 def test_a_child_fails(place: str) -> None:
-    """So the step fails, and says why."""
+    """Then the step fails, with the reason."""
     world = Trip()
 
     async def main() -> None:
@@ -167,7 +170,7 @@ def test_a_child_fails(place: str) -> None:
 
 
 class Slow:
-    """A child that waits for a person, beside a step that may fail, and below a grandchild."""
+    """A child that waits for an operator, next to a step that may fail, and below a grandchild."""
 
     def __init__(self, **costs: int) -> None:
         self.done = list[str]()
@@ -196,7 +199,7 @@ class Slow:
         self.all = [self.top, self.child, self.sub]
 
     async def started(self, store: sagas.Store, **words: Any) -> sagas.Run:
-        """One whose child waits for its approval."""
+        """Start one whose child waits for its approval."""
         found = await store.start(self.top, "t", **words)
 
         async def asks() -> bool:
@@ -213,7 +216,7 @@ class Slow:
 
 
 def test_an_abort_goes_down(place: str, capsys: pytest.CaptureFixture[str]) -> None:
-    """The child is aborted, and undoes what its own child did, before the parent ends."""
+    """The child is aborted, and undoes its own child, before the parent ends."""
     world, shell = Slow(), Shell(place, capsys)
 
     async def main() -> None:
@@ -240,7 +243,7 @@ def test_an_abort_goes_down(place: str, capsys: pytest.CaptureFixture[str]) -> N
 
 @pytest.mark.parametrize("stays", [True, False])
 def test_a_plan_that_drops_the_child(place: str, stays: bool) -> None:
-    """If a step fails, the child goes on where the plan would keep it; else it is aborted."""
+    """If a step fails, the child continues if the plan would keep it; else it is aborted."""
     world = Slow(undo=3, keep=0) if stays else Slow()
 
     async def main() -> None:
@@ -258,7 +261,7 @@ def test_a_plan_that_drops_the_child(place: str, stays: bool) -> None:
 
 
 def test_another_child_behind_one_that_failed(place: str) -> None:
-    """If a person wants that; its key says so. A child that is stuck is resolved first."""
+    """An operator may request that; its key shows it. A stuck child is resolved first."""
     failing, calls = sagas.Saga("failing"), list[str]()
 
     @failing.step(skip=sagas.NEVER)
@@ -290,7 +293,7 @@ def test_another_child_behind_one_that_failed(place: str) -> None:
 
 
 def test_definitions_that_cannot_be() -> None:
-    """Each says what to do."""
+    """Each error says what to do."""
     hotel, trip = sagas.Saga("hotel"), sagas.Saga("trip")
     hotel.step(name="room")(lambda task: None)
     trip.child(hotel, input=lambda task: None)
@@ -320,7 +323,7 @@ def test_definitions_that_cannot_be() -> None:
 
 
 def test_keys_and_inputs_that_cannot_be(place: str) -> None:
-    """A key that leaves no room for a child's is refused at the start; the others fail the step."""
+    """A key that is too long for a child's key is refused at the start; the others fail the step."""
     world = Trip()
 
     @world.trip.child(world.hotel, keep=0)
@@ -352,7 +355,7 @@ def test_keys_and_inputs_that_cannot_be(place: str) -> None:
 
 
 def test_in_a_simulation() -> None:
-    """Children are run as well; what happens to their steps is said by the path."""
+    """Children are run as well; a path names their steps."""
     world = Trip()
     ok = sagas.testing.run(world.trip, {"days": 4})
     assert ok.ok and ok.results["tour"] == {
@@ -400,7 +403,9 @@ def until_survived(
     open_store: Callable[[Callable[[sagas.Event], None]], sagas.Store],
     work: Callable[[sagas.Store], Coroutine[Any, Any, None]],
 ) -> int:
-    """Runs a program that is killed at its first event, then at its fourth, and so on, until it survives; how often it was killed."""
+    """Run a program that is killed at its first event, then at its fourth, and so on, until it
+    survives; return how often it was killed.
+    """
     for count in itertools.count(1, 3):
         child = os.fork()
         if child == 0:
@@ -424,11 +429,13 @@ def until_survived(
 
 @pytest.mark.parametrize("way", ["undone", "aborted"])
 def test_kills_at_any_event(place: str, tmp_path: pathlib.Path, way: str) -> None:
-    """Each child is started once, and none is open behind its parent, however often the program dies."""
+    """Each child is started once, and none stays open after its parent, however often the program
+    dies.
+    """
     file, world, slow = tmp_path / "done", Trip(), Slow()
 
     def note(step: sagas.Step[Any]) -> None:
-        """Its calls tell their keys outside."""
+        """Its calls report their keys to the test."""
         function = step.run.function
         assert function
 
@@ -489,7 +496,9 @@ def test_kills_at_any_event(place: str, tmp_path: pathlib.Path, way: str) -> Non
 
 
 def test_a_child_of_another_node(url: str) -> None:
-    """A slow node has started the child meanwhile: it is that child, and an abort reaches it there."""
+    """A slow node has started the child in the meantime: it is that child, and an abort reaches it
+    there.
+    """
     child, top, gate = sagas.Saga("child"), sagas.Saga("top"), asyncio.Event()
     child.approval(name="sign")(lambda task: None)
 
@@ -522,12 +531,12 @@ def test_a_child_of_another_node(url: str) -> None:
 
 
 def test_children_stay_with_their_parents(place: str, monkeypatch: pytest.MonkeyPatch) -> None:
-    """What is over is not deleted as long as its parent is open."""
+    """A finished child is not deleted as long as its parent is open."""
     monkeypatch.setattr("sagas.definition.shelf.SHARD_CAPACITY", 1)
     world = Slow(keep=0, undo=3)
 
     async def closed(store: sagas.Store, count: int) -> None:
-        """So many shards are closed."""
+        """Wait until this many shards are closed."""
 
         async def are() -> bool:
             return (

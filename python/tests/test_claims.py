@@ -29,21 +29,21 @@ WORD = [("far", "a", "run")]
 
 
 def opened(place: str, saga: sagas.Saga) -> sagas.Store:
-    """A store that serves workers."""
+    """Open a store that serves workers."""
     store = sagas.open(place, [saga])
     store.leased = True
     return store
 
 
 def far() -> sagas.Saga:
-    """One step, which workers do."""
+    """Return a saga of one step, which workers do."""
     saga = sagas.Saga("far")
     saga.step(name="a", external=True, undo=0)
     return saga
 
 
 class Table:
-    """Answers a lot when it is told to, and keeps what it was asked."""
+    """A table that returns a batch when the test says so, and keeps its requests."""
 
     def __init__(self) -> None:
         self.asked: list[list[str]] = []
@@ -69,7 +69,10 @@ class Table:
 
 
 def test_a_lot_has_one_group_at_most() -> None:
-    """What comes while the first is asked waits. Each lot has what has waited longest."""
+    """Requests that come while the first batch is in progress wait.
+
+    Each batch has those that have waited longest.
+    """
 
     async def main() -> None:
         table = Table()
@@ -91,7 +94,7 @@ def test_a_lot_has_one_group_at_most() -> None:
 
 
 def test_a_lot_that_fails() -> None:
-    """Its callers hear of it, and the next lot is asked."""
+    """Its callers get the error, and the next batch is asked."""
 
     async def main() -> None:
         table = Table()
@@ -107,7 +110,7 @@ def test_a_lot_that_fails() -> None:
 
 
 def test_callers_that_are_cancelled() -> None:
-    """Their answers are dropped: also that of a caller who was told, and has not gone on yet."""
+    """Their replies are dropped, also if the caller has its reply and has not continued yet."""
 
     async def main() -> None:
         table = Table()
@@ -126,7 +129,7 @@ def test_callers_that_are_cancelled() -> None:
 
 
 def test_what_is_cancelled_before_it_is_asked() -> None:
-    """It is not asked: a claim would take from the others what is given back at once."""
+    """It is not asked: a claim would take tasks from others, and release them at once."""
 
     async def main() -> None:
         table = Table()
@@ -144,7 +147,7 @@ def test_what_is_cancelled_before_it_is_asked() -> None:
 
 
 def test_a_claim_that_is_cancelled_is_given_back(place: str) -> None:
-    """Wherever it was: the task can be claimed at once, though its lease would be long."""
+    """Wherever it was, the task can be claimed at once, despite its long lease."""
     saga = far()
 
     async def main() -> None:
@@ -194,8 +197,9 @@ def test_many_at_once(place: str) -> None:
 
 
 def test_a_wrong_claim_fails_no_other(place: str) -> None:
-    """Half of a pair of characters in a worker's name or in its report, or a limit below 0: claims
-    and reports beside it are kept.
+    """It has half of a surrogate pair in a worker's name or in its report, or a limit below 0.
+
+    Concurrent claims and reports are kept.
     """
     saga = far()
 
@@ -223,8 +227,10 @@ def test_a_wrong_claim_fails_no_other(place: str) -> None:
 def test_tasks_that_cannot_be_read_are_given_back(
     place: str, fault: Exception | None, monkeypatch: pytest.MonkeyPatch
 ) -> None:
-    """Also where their claim is cancelled meanwhile. What this node cannot hand out at all keeps
-    its lease: it would block what has waited less long.
+    """This holds also if their claim is cancelled in the meantime.
+
+    A task that this node cannot offer to any worker keeps its lease: it would block tasks that have
+    waited less long.
     """
     saga = far()
 
@@ -262,7 +268,7 @@ def test_tasks_that_cannot_be_read_are_given_back(
 
 
 def test_what_is_reported_is_not_claimed(place: str) -> None:
-    """The lease is over, and its worker reports *done* when another one claims: in any order."""
+    """The lease is over, and its worker reports *done* while another one claims, in any order."""
     saga = far()
 
     async def main() -> None:
@@ -289,7 +295,7 @@ ONE = 'format = 2\nname = "one"\n[[step]]\nname = "a"\nundo = "never"\n'
 def test_a_client_that_goes_with_its_report_keeps_no_lease(
     tmp_path: pathlib.Path, place: str
 ) -> None:
-    """What was claimed for it can be claimed at once."""
+    """A task that was claimed for it can be claimed at once."""
     with served(tmp_path, {"one.toml": ONE}, store=place) as service, service.client() as client:
         for number in range(40):
             start(client, "one", f"k{number}")
@@ -311,7 +317,7 @@ def test_a_client_that_goes_with_its_report_keeps_no_lease(
 
 
 class Claims:
-    """A service whose claims and reports come out as the case says."""
+    """A service whose claims and reports end as the case says."""
 
     def __init__(self, *outcomes: list[str] | BaseException) -> None:
         self.outcomes, self.given_back, self.is_stopping = [*outcomes], list[str](), False
@@ -354,7 +360,7 @@ def test_what_was_claimed_and_is_not_answered(
     back: list[str],
     monkeypatch: pytest.MonkeyPatch,
 ) -> None:
-    """It is given back, whether the report or the claim behind it raises."""
+    """It is released, whether the report or the later claim raises."""
     monkeypatch.setattr(task_claims.json_views, "task", lambda one, now: one)
 
     async def main() -> None:

@@ -1,4 +1,4 @@
-"""Clients: they start sagas that nodes take, in a transaction of their own or in the caller's."""
+"""Clients: they start sagas that nodes take, in their own transaction or in the caller's."""
 
 from __future__ import annotations
 
@@ -24,7 +24,7 @@ from sagas.storage.postgresql import notifications
 
 
 def shop() -> sagas.Saga:
-    """A step, an approval where the input asks for one, and a step that may fail."""
+    """Return a saga with a step, an approval if the input requests one, and a step that may fail."""
     shop = sagas.Saga("shop")
 
     @shop.step
@@ -45,7 +45,7 @@ def shop() -> sagas.Saga:
 
 
 def inbox(url: str) -> int:
-    """How many starts no log has yet."""
+    """Return how many starts no log has yet."""
     with psycopg.connect(url) as link:
         row = link.execute("SELECT count(*) FROM sagas.pending_starts").fetchone()
         assert row
@@ -58,7 +58,7 @@ SELECT count(*) FROM pg_stat_activity WHERE wait_event_type = 'Lock' AND applica
 
 
 async def connected(url: str, client: sagas.Client, kind: sagas.Saga, count: int) -> None:
-    """Starts so many sagas at once that the client has as many connections."""
+    """Start `count` sagas at once, so that the client has that many connections."""
     with psycopg.connect(url) as link, psycopg.connect(url, autocommit=True) as eye:
         link.execute("LOCK TABLE sagas.pending_starts")
         some = [
@@ -71,8 +71,9 @@ async def connected(url: str, client: sagas.Client, kind: sagas.Saga, count: int
 
 
 def test_a_start_behind_the_server_s_restart(postgresql: Server, url: str) -> None:
-    """Connections that have ended meanwhile are tried past, however many the client has: the start
-    is made, and once."""
+    """The client skips connections that have ended in the meantime, however many it has: the start
+    is made, and once.
+    """
     kind = shop()
 
     async def main() -> None:
@@ -100,7 +101,10 @@ def test_a_start_behind_the_server_s_restart(postgresql: Server, url: str) -> No
 
 
 def test_a_client_starts_and_waits(url: str) -> None:
-    """Many starts by two clients, some of the same keys: nodes take them, each once; ends, lists and conflicts are as at a node."""
+    """Two clients make many starts, some of the same keys: nodes take each of them once.
+
+    Ends, lists and conflicts are as at a node.
+    """
     kind = shop()
 
     async def main() -> None:
@@ -143,7 +147,7 @@ def test_a_client_starts_and_waits(url: str) -> None:
 
 
 def test_what_a_client_is_not_made_with() -> None:
-    """Told before it connects."""
+    """The error comes before it connects."""
     for url in (None, 5, "store.db"):
         with pytest.raises(sagas.InvalidStore, match="not a URL of a PostgreSQL database"):
             sagas.Client(url)  # type: ignore[arg-type]
@@ -152,7 +156,9 @@ def test_what_a_client_is_not_made_with() -> None:
 
 
 def test_a_start_waits_for_a_node(url: str, capsys: pytest.CaptureFixture[str]) -> None:
-    """It is kept while no node is there, and the operators' command shows it; the first that comes takes it. One that lacks the saga leaves it."""
+    """It is kept while there is no node, and the operators' command shows it; the first node takes
+    it. A node without the saga leaves it.
+    """
     kind, other = shop(), sagas.Saga("other")
 
     @other.step
@@ -182,7 +188,10 @@ def test_a_start_waits_for_a_node(url: str, capsys: pytest.CaptureFixture[str]) 
 
 
 def test_a_start_whose_caller_is_cancelled_takes_no_connection_away(url: str) -> None:
-    """It waits for the client's only connection, and its caller has no time: those that come later have the connection, and it may be a start itself."""
+    """It waits for the client's only connection, and its caller has no time.
+
+    Later callers get the connection, and one of them may be a start.
+    """
     kind = simple(lambda task: 1)
 
     async def main() -> None:
@@ -206,7 +215,7 @@ def test_a_start_whose_caller_is_cancelled_takes_no_connection_away(url: str) ->
 
 
 def waits_for_a_lock(url: str) -> list[Any]:
-    """The server's processes that wait for a lock in this database."""
+    """Return the server's processes that wait for a lock in this database."""
     with psycopg.connect(url) as link:
         return link.execute(
             "SELECT 1 FROM pg_stat_activity WHERE datname = current_database() AND wait_event_type"
@@ -217,7 +226,10 @@ def waits_for_a_lock(url: str) -> list[Any]:
 def test_a_start_that_no_node_has_taken_is_withdrawn(
     url: str, capsys: pytest.CaptureFixture[str]
 ) -> None:
-    """`waiting` lists it, and `abort` takes it back. One that a node has just taken is aborted by that, once it has begun."""
+    """`pending` lists it, and `abort` withdraws it.
+
+    One that a node has just taken is aborted once it has started.
+    """
     kind, other = sagas.Saga("signed"), shop()
 
     @kind.approval
@@ -270,7 +282,7 @@ def test_a_start_that_no_node_has_taken_is_withdrawn(
 
 
 def requests(url: str) -> int:
-    """How many requests nobody has answered."""
+    """Return how many requests have no reply."""
     with psycopg.connect(url) as link:
         text = "SELECT count(*) FROM sagas.operator_commands WHERE answer IS NULL"
         of_sagas = link.execute(text).fetchone()
@@ -281,7 +293,7 @@ def requests(url: str) -> int:
 
 
 def fast(called: list[str]) -> sagas.Saga:
-    """One step, which tells its key."""
+    """Return a saga of one step, which notes its key."""
     fast = sagas.Saga("fast")
 
     @fast.step
@@ -320,7 +332,7 @@ def test_an_abort_before_a_node_comes_wins(url: str) -> None:
 
 
 def test_a_node_withdraws_a_start_of_a_saga_that_it_lacks(url: str) -> None:
-    """`Store.abort` of a client's start that no node has taken, as `Client.abort`."""
+    """`Store.abort` of a client's start that no node has taken works as `Client.abort`."""
     kind, other = shop(), sagas.Saga("other")
 
     @other.step
@@ -335,7 +347,10 @@ def test_a_node_withdraws_a_start_of_a_saga_that_it_lacks(url: str) -> None:
 
 
 def test_an_abort_whose_start_goes_away_hears_of_it(url: str) -> None:
-    """A node has taken the start, so the abort waits; it returns where the start is let go, and withdraws it where the node gives it back."""
+    """A node has taken the start, so the abort waits.
+
+    It returns when the start is deleted, and withdraws it when the node releases it.
+    """
     kind = shop()
     made(url, kind)
 
@@ -365,7 +380,7 @@ def test_an_abort_whose_start_goes_away_hears_of_it(url: str) -> None:
 
 
 def test_a_finish_of_a_start_that_is_withdrawn_hears_of_it(url: str) -> None:
-    """It waits for a node; the abort of another client takes the start away, and the request with it."""
+    """It waits for a node; the abort of another client removes the start, and the request with it."""
     kind = shop()
     made(url, kind)
 
@@ -383,7 +398,10 @@ def test_a_finish_of_a_start_that_is_withdrawn_hears_of_it(url: str) -> None:
 
 
 def test_an_abort_and_a_node_at_once(url: str) -> None:
-    """Whoever has the start first, what the abort answers is so. True: nothing was called and the key is free, or the end says so. False: it is over."""
+    """Whichever has the start first, the reply to the abort is true.
+
+    True: nothing was called and the key is free, or the end says so. False: the saga is over.
+    """
     called: list[str] = []
     kind = fast(called)
     made(url, kind)
@@ -429,7 +447,9 @@ def test_an_abort_and_a_node_at_once(url: str) -> None:
 
 
 def test_a_start_is_in_the_inbox_or_in_a_log(url: str) -> None:
-    """In one of them at each moment, and never in both; one that a node took which is gone is another's."""
+    """It is in one of them at each moment, and never in both; a start that a dead node took goes to
+    another one.
+    """
     kind = shop()
 
     def places() -> list[int]:
@@ -467,7 +487,7 @@ def test_a_start_is_in_the_inbox_or_in_a_log(url: str) -> None:
 
 
 def made(url: str, kind: sagas.Saga) -> None:
-    """A node makes the tables, and leaves."""
+    """Let a node make the tables."""
 
     async def main() -> None:
         async with sagas.open(url, [kind]):
@@ -477,7 +497,7 @@ def made(url: str, kind: sagas.Saga) -> None:
 
 
 def test_a_start_that_somebody_is_at_holds_up_no_other(url: str) -> None:
-    """Its row is locked: a node takes those before and behind it, and it later."""
+    """Its row is locked: a node takes the starts before and after it, and takes it later."""
     kind = shop()
     made(url, kind)
 
@@ -502,7 +522,7 @@ def test_a_start_that_somebody_is_at_holds_up_no_other(url: str) -> None:
 
 
 def test_a_client_drives_nothing(url: str) -> None:
-    """It has no child, no lease and no log."""
+    """It has no engine, no lease and no log."""
     kind = shop()
     made(url, kind)
     others = set(children(os.getpid()))  # servers that other tests use
@@ -519,7 +539,7 @@ def test_a_client_drives_nothing(url: str) -> None:
 
 
 def test_abort_and_finish_by_a_client(url: str) -> None:
-    """Both wait until the node that has the saga has said so."""
+    """Both wait until the node that has the saga has replied."""
     saga = sagas.Saga("signed")
 
     @saga.approval()
@@ -543,7 +563,7 @@ def test_abort_and_finish_by_a_client(url: str) -> None:
 
 @pytest.mark.parametrize("commits", [True, False])
 def test_a_start_in_the_callers_transaction(url: str, commits: bool) -> None:
-    """The saga is there exactly if the caller's transaction commits."""
+    """The saga exists exactly if the caller's transaction commits."""
     kind = shop()
 
     async def main() -> None:
@@ -570,8 +590,11 @@ def test_a_start_in_the_callers_transaction(url: str, commits: bool) -> None:
 @pytest.mark.parametrize("plain", [False, True], ids=["async", "plain"])
 @pytest.mark.parametrize("how", ["begun", "idle", "autocommit"])
 def test_a_start_that_fails_in_the_callers_transaction(url: str, how: str, plain: bool) -> None:
-    """Its row is written, and the look for the key fails: nothing of it is left, and what the
-    caller wrote in the transaction stays, before the start and after it."""
+    """Its row is written, and the look for the key fails.
+
+    Nothing of the start is left, and the caller's own writes in the transaction stay, before the
+    start and after it.
+    """
     kind = shop()
     made(url, kind)
     late = {"options": "-c lock_timeout=500ms", "autocommit": how == "autocommit"}
@@ -610,7 +633,7 @@ def test_a_start_that_fails_in_the_callers_transaction(url: str, how: str, plain
 
 
 def test_a_client_without_async(url: str) -> None:
-    """`SyncClient`, and a start in the transaction of a plain connection."""
+    """`SyncClient` works, and so does a start in the transaction of a plain connection."""
     kind = shop()
     with sagas.open_sync(url, [kind]), sagas.SyncClient(url) as client:
         assert client.start(kind, "k").wait(200).ok
@@ -625,7 +648,10 @@ def test_a_client_without_async(url: str) -> None:
 
 
 def test_a_client_in_a_forked_child(url: str) -> None:
-    """With async and without it says at once that it is another process's, and its closing there does nothing to that one's."""
+    """With async and without it, it raises at once that it is another process's.
+
+    Closing it there does not affect that one.
+    """
     kind = shop()
     text = (
         "the client was opened in another process, before a fork. Create and open one in this"
@@ -656,7 +682,7 @@ def test_a_client_in_a_forked_child(url: str) -> None:
 
 
 def test_a_client_that_is_entered_twice(url: str) -> None:
-    """The second entry is an error that says so, and the first goes on."""
+    """The second entry is an error that says so, and the first one continues."""
     kind = shop()
 
     async def main() -> None:
@@ -679,7 +705,9 @@ def test_a_client_that_is_entered_twice(url: str) -> None:
 def test_closing_ends_the_waits_of_other_threads(
     url: str, is_client: bool, monkeypatch: pytest.MonkeyPatch
 ) -> None:
-    """The saga is nobody's here: those that wait for it hear at once that it is closed."""
+    """The saga is driven elsewhere: threads that wait for it get the error at once that the client
+    is closed.
+    """
     entered, whole = threading.Semaphore(0), notifications.News.wait
 
     async def entering(*words: Any) -> None:
@@ -713,7 +741,7 @@ def test_closing_ends_the_waits_of_other_threads(
 
 
 def test_a_client_by_the_other_kind_of_with() -> None:
-    """`with` and `async with` each say what is meant."""
+    """`with` and `async with` each say which one is meant."""
     url = "postgresql://a@127.0.0.1/b"
     with pytest.raises(
         TypeError,
@@ -754,7 +782,9 @@ def test_a_connection_of_the_other_kind(url: str) -> None:
 
 
 def test_what_a_clients_run_tells(url: str) -> None:
-    """Whether this start began it, its events and its plan, as at a node; before a node has it there are none."""
+    """It returns whether this start began the saga, its events and its plan, as at a node; before a
+    node has it there are none.
+    """
     kind = shop()
     made(url, kind)
 
@@ -788,7 +818,7 @@ def test_what_a_clients_run_tells(url: str) -> None:
 
 
 def test_a_client_waits_too_long(url: str) -> None:
-    """It hears what the saga waits for."""
+    """The error says what the saga waits for."""
     saga = sagas.Saga("signed")
 
     @saga.approval()
@@ -805,7 +835,9 @@ def test_a_client_waits_too_long(url: str) -> None:
 
 
 def test_a_start_that_loses_its_race_with_a_node(url: str) -> None:
-    """A node begins a key while a client's start of it, with another input, is not yet committed: the node's stands, and the client hears of it."""
+    """A node starts a key while a client's start of it, with another input, is not yet committed:
+    the node's counts, and the client gets the conflict.
+    """
     kind = shop()
 
     async def main() -> None:
@@ -839,7 +871,7 @@ CREATE TRIGGER stays_once BEFORE DELETE ON sagas.pending_starts
 def test_a_start_whose_key_has_a_saga_goes_away(
     url: str, monkeypatch: pytest.MonkeyPatch, is_seen: bool
 ) -> None:
-    """The commit that takes it out fails: it is taken out by the next one, and never begun."""
+    """The commit that removes it fails: the next one removes it, and it is never opened."""
     kind, told = shop(), list[str]()
 
     async def main() -> None:
@@ -873,7 +905,9 @@ def test_a_start_whose_key_has_a_saga_goes_away(
 def test_a_start_that_fails_at_first_is_taken_again(
     url: str, where: str, monkeypatch: pytest.MonkeyPatch
 ) -> None:
-    """The answer to its taking is lost, or the node cannot open it then: the node, which has it, takes it up again by itself."""
+    """The reply to its taking is lost, or the node cannot open it then: the node, which has it,
+    retries by itself.
+    """
     kind = shop()
 
     async def main() -> None:
@@ -906,7 +940,11 @@ def test_a_start_that_fails_at_first_is_taken_again(
 
 
 def test_a_race_for_one_key_fails_no_other_start(url: str, monkeypatch: pytest.MonkeyPatch) -> None:
-    """Two nodes begin one key at once: who loses finds the other's, and what it began in the same commit is begun again; nobody hears of it."""
+    """Two nodes start one key at once.
+
+    The loser finds the other's saga, and starts the other sagas of the same commit again; no caller
+    notices it.
+    """
     kind = shop()
 
     async def main() -> None:
@@ -934,7 +972,9 @@ def test_a_race_for_one_key_fails_no_other_start(url: str, monkeypatch: pytest.M
 def test_faults_of_the_given_connection_are_told_as_its_own(
     url: str, postgresql: Server, plain: bool
 ) -> None:
-    """Closed, in a failed transaction, to a database without the tables, or to that of another store: nothing is written, and each text says what to do."""
+    """The connection is closed, in a failed transaction, to a database without the tables, or to
+    that of another store. Nothing is written, and each text says what to do.
+    """
     kind, bare, other = shop(), postgresql.create(), postgresql.create()
     for place in (url, other):
         made(place, kind)
@@ -981,7 +1021,7 @@ def test_faults_of_the_given_connection_are_told_as_its_own(
 
 
 def spoilt(link: psycopg.Connection[Any], how: str) -> None:
-    """Closes it, or does something in its transaction, which may fail."""
+    """Close it, or do something in its transaction, which may fail."""
     if how == "close":
         link.close()
     elif how:
@@ -990,7 +1030,9 @@ def spoilt(link: psycopg.Connection[Any], how: str) -> None:
 
 
 def test_a_given_connection_with_rows_of_its_own_kind(url: str) -> None:
-    """Dicts, by cursors of another class: a start reads its own rows all the same, also where the key is there."""
+    """Rows are dicts, by cursors of another class: a start reads its own rows anyway, also if the
+    key exists.
+    """
     kind = shop()
     made(url, kind)
 
@@ -1018,7 +1060,9 @@ def test_a_given_connection_with_rows_of_its_own_kind(url: str) -> None:
 
 
 def test_a_store_and_a_client_wait_by_key_for_some_time(url: str) -> None:
-    """`wait(key, timeout=)` as of a run; a store that lacks the version of a client's start says so too."""
+    """`wait(key, timeout=)` works as that of a run; a store without the version of a client's start
+    says so too.
+    """
     kind, later = shop(), sagas.Saga("shop", version=2)
 
     @later.step

@@ -31,7 +31,7 @@ OLD, NEW = Fernet.generate_key(), Fernet.generate_key()
 
 
 class Encryption:
-    """Encrypts by the newest of its keys, whose id goes with the data."""
+    """Encrypt with the newest of its keys, whose id is stored with the data."""
 
     def __init__(self, **keys: bytes) -> None:
         self.keys, self.newest = keys, max(keys)
@@ -45,7 +45,7 @@ class Encryption:
 
 
 class Identity:
-    """Reads whatever it is given."""
+    """A codec that reads any data."""
 
     def encode(self, data: bytes) -> bytes:
         return data
@@ -54,7 +54,7 @@ class Identity:
 
 
 class Wrong:
-    """Fails, with the value in its text."""
+    """A codec that fails, with the value in its text."""
 
     def __init__(self, fails: bool = True) -> None:
         self.fails = fails
@@ -69,7 +69,7 @@ class Wrong:
 
 
 KNOWN = Encryption(a=OLD, b=NEW)
-"""What `--app test_codec:KNOWN` is."""
+"""The codec of `--app test_codec:KNOWN`."""
 
 
 @dataclasses.dataclass
@@ -78,7 +78,7 @@ class Card:
 
 
 def shop() -> sagas.Saga:
-    """Its input, each result and what a person says have the secret in them."""
+    """Return a saga with the secret in its input, in each result and in an operator's report."""
     made = sagas.Saga("shop")
 
     @made.step(undo=1, keep=5)
@@ -104,7 +104,7 @@ def shop() -> sagas.Saga:
 
 
 def holds_secret(place: str) -> list[str]:
-    """The tables that have the secret in them somewhere."""
+    """Return the tables that have the secret in them somewhere."""
     tables = "sagas attempts suspensions operator_commands external_attempts event_log schedules"
     found = tables.split() + (["pending_starts"] if place.startswith("postgresql:") else [])
     with contextlib.closing(admin.connect(place)) as link:
@@ -112,7 +112,10 @@ def holds_secret(place: str) -> list[str]:
 
 
 def test_nothing_of_a_value_is_stored(place: str, capsys: pytest.CaptureFixture[str]) -> None:
-    """Across restarts; a newer key reads what an older one wrote; callers and steps see values."""
+    """This holds across restarts.
+
+    A newer key reads the data of an older one; callers and steps see values.
+    """
 
     async def main() -> None:
         kind = shop()
@@ -159,14 +162,14 @@ LOOKALIKES: list[Any] = [
     {"$plain": {"$codec": "AAAA"}},
     {"$blob": "00/1/ab", "bytes": 3, "digest": "0" * 64},
 ]
-"""Values from outside that look as what is stored in place of one."""
+"""Values from outside that look like encoded ones."""
 
 
 @pytest.mark.parametrize("codec", [None, Encryption(a=OLD)], ids=["plain", "codec"])
 def test_a_value_that_looks_encoded_is_data(
     place: str, codec: Encryption | None, capsys: pytest.CaptureFixture[str]
 ) -> None:
-    """Wherever it comes in; also once the store has another codec, which could read it."""
+    """This holds for each way in; also once the store has another codec, which could read it."""
     made = sagas.Saga("made")
     a = made.step(lambda task: task.input, name="a", undo=0)
     made.step(external=True, name="b", needs=[a], undo=0)
@@ -220,7 +223,7 @@ def asked(place: str) -> int:
 
 
 def test_a_store_of_before(place: str) -> None:
-    """What was written without a codec can be read with one."""
+    """Values that were written without a codec can be read with one."""
 
     async def main() -> None:
         kind = shop()
@@ -236,13 +239,13 @@ def test_a_store_of_before(place: str) -> None:
 
 
 def forget(place: str) -> None:
-    """Take the note out of a store that its values are encoded."""
+    """Remove the store's note that its values are encoded."""
     with contextlib.closing(admin.connect(place, "rw")) as link:
         assert link.changed("DELETE FROM secrets WHERE name = 'codec'") == 1
 
 
 def test_a_forgotten_codec(place: str, capsys: pytest.CaptureFixture[str]) -> None:
-    """The store is neither opened nor written; of one without the note, an attempt waits."""
+    """The store is neither opened nor written. In a store without the note, an attempt waits."""
     made = sagas.Saga("made")
     ok = made.approval(lambda task: None, name="ok")
     calls = []
@@ -282,7 +285,7 @@ def test_a_forgotten_codec(place: str, capsys: pytest.CaptureFixture[str]) -> No
 
 
 def test_nodes_and_clients_agree(url: str, caplog: pytest.LogCaptureFixture) -> None:
-    """No program with a codec comes to nodes without one, and none without one stays."""
+    """No program with a codec joins nodes without one, and no program without one stays."""
     kind = simple(lambda task: task.input)
     outside = sagas.Saga("outside")
     outside.approval(lambda task: None, name="ok")
@@ -314,7 +317,8 @@ def test_nodes_and_clients_agree(url: str, caplog: pytest.LogCaptureFixture) -> 
                 await client.complete("o", "ok", SECRET)
         forget(url)
         async with sagas.open(url, kinds, node="paused", lease=2.0) as store:
-            with contextlib.closing(admin.connect(url, "rw")) as link:  # while it slept, say
+            # while it slept, for example
+            with contextlib.closing(admin.connect(url, "rw")) as link:
                 link.changed(codec_note.NOTE)
             await until(lambda: "This node does nothing more" in caplog.text)
             await until(lambda: not store.holds())
@@ -324,7 +328,7 @@ def test_nodes_and_clients_agree(url: str, caplog: pytest.LogCaptureFixture) -> 
 
 
 def test_a_key_that_is_not_there(place: str, caplog: pytest.LogCaptureFixture) -> None:
-    """The attempt waits and is not counted as failed; it goes on with the key."""
+    """The attempt waits and does not count as failed; it continues with the key."""
 
     async def main() -> None:
         kind = shop()
@@ -345,7 +349,7 @@ def test_a_key_that_is_not_there(place: str, caplog: pytest.LogCaptureFixture) -
 
 
 def test_a_codec_that_fails(tmp_path: pathlib.Path, caplog: pytest.LogCaptureFixture) -> None:
-    """Nothing is begun; a result that cannot be encoded is kept as one that is no JSON."""
+    """No saga is started; a result that cannot be encoded is kept as one that is not JSON."""
     codec = Wrong()
 
     async def main() -> None:
@@ -369,7 +373,7 @@ def test_a_codec_that_fails(tmp_path: pathlib.Path, caplog: pytest.LogCaptureFix
 
 
 def test_a_client_and_a_worker(url: str) -> None:
-    """A client has the codec, too; workers over HTTP get and give plain values."""
+    """A client has the codec, too; workers over HTTP exchange plain values."""
     made = sagas.Saga("made")
     step = made.step(external=True, name="a")
     step.compensation(external=True)
@@ -398,8 +402,10 @@ def test_a_client_and_a_worker(url: str) -> None:
 
 
 def test_a_result_of_a_worker_is_never_plain(place: str) -> None:
-    """Not in the table of the store until its node takes it over, and not in a file behind it. The
-    same report again is one, and another one is refused."""
+    """It is not plain in the store's table before its node takes it over, nor in a file after that.
+
+    The same report again is one, and another one is refused.
+    """
     made = sagas.Saga("made")
     made.step(external=True, name="a", undo=0)
 
@@ -439,7 +445,7 @@ def test_a_result_of_a_worker_is_never_plain(place: str) -> None:
 
 
 def test_a_start_that_one_node_cannot_decode(url: str, monkeypatch: pytest.MonkeyPatch) -> None:
-    """It is left to a node that can: it holds up no other start, and can be aborted."""
+    """It is left to a node that can: it blocks no other start, and can be aborted."""
     monkeypatch.setattr(client_starts, "MANY", 2)
     kind = simple(lambda task: task.input)
     whole = Encryption(a=OLD, b=NEW)
@@ -463,7 +469,7 @@ def test_a_start_that_one_node_cannot_decode(url: str, monkeypatch: pytest.Monke
 
 
 def left(url: str) -> list[tuple[Any, ...]]:
-    """The starts that no node has."""
+    """Return the starts that no node has."""
     with contextlib.closing(admin.connect(url)) as link:
         return link.starts()
 
@@ -480,7 +486,7 @@ def test_in_a_test_without_a_store() -> None:
 
 
 def test_a_result_of_a_transaction_is_encoded_once(url: str, tmp_path: pathlib.Path) -> None:
-    """Also if its program was killed before it reported the step."""
+    """This holds also if its program was killed before it reported the step."""
     prepare(url)
     script = KILLED.format(url=url).replace(
         'node="killed"', f'node="killed", codec=test_codec.Encryption(a={OLD!r})'
@@ -516,7 +522,7 @@ DRIVER = """
 
 
 def test_a_killed_programs_values_are_read(place: str, tmp_path: pathlib.Path) -> None:
-    """Whatever was on its way: what was begun has its input and its results."""
+    """Whatever was in progress, each started saga has its input and its results."""
     (file := tmp_path / "driver.py").write_text(textwrap.dedent(DRIVER.format(path=place, key=OLD)))
     path = f"{HERE.parent / 'src'}:{HERE}"
     environment = {**os.environ, "PYTHONPATH": path, "SAGAS_PROGRAM": program()}

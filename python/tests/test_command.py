@@ -1,4 +1,4 @@
-"""`sagas store`: what operators see and do, beside the running program and without one."""
+"""`sagas store`: what operators see and do, with a running program and without one."""
 
 from __future__ import annotations
 
@@ -36,7 +36,7 @@ Json = dict[str, Any]
 
 
 class Shell:
-    """Runs the command on a store, and gives what it prints."""
+    """Run the command on a store, and return its output."""
 
     def __init__(self, path: str | pathlib.Path, capsys: pytest.CaptureFixture[str]) -> None:
         self.path, self.capsys = path, capsys
@@ -47,7 +47,7 @@ class Shell:
         return self.capsys.readouterr().out
 
     def json(self, *words: str, status: int = 0) -> Any:
-        """What it prints for programs."""
+        """Return its output for programs."""
         return json.loads(self(*words, "--json", status=status))
 
 
@@ -59,7 +59,7 @@ class Screen(io.StringIO):
 
 
 def shop() -> sagas.Saga:
-    """A saga that ends well, is stuck, or waits, by its input."""
+    """Return a saga that ends well, is stuck, or waits, by its input."""
     shop = sagas.Saga("shop")
 
     @shop.step
@@ -92,7 +92,7 @@ def shop() -> sagas.Saga:
 
 
 def signed() -> sagas.Saga:
-    """A saga that waits for a person."""
+    """Return a saga that waits for an operator."""
     signed = sagas.Saga("signed")
 
     @signed.step
@@ -111,7 +111,7 @@ def signed() -> sagas.Saga:
 
 
 def held(path: str) -> list[tuple[Any, ...]]:
-    """What the store holds for a person: keys and why."""
+    """Return what the store holds for an operator: keys and reasons."""
     with contextlib.closing(admin.connect(path)) as link:
         return link.ask(
             "SELECT key, reason FROM suspensions JOIN sagas USING (id) WHERE reason = 'approval' OR"
@@ -120,7 +120,7 @@ def held(path: str) -> list[tuple[Any, ...]]:
 
 
 async def filled(path: str, store: sagas.Store, sagas_: list[sagas.Saga]) -> None:
-    """Starts one saga of each fate, and waits until each has met it."""
+    """Start one saga for each result, and wait until each has it."""
     shop, signed = sagas_
     for key, given in (("good", None), ("bad", "fails"), ("odd", "nobody knows")):
         await store.start(shop, key=key, input=given)
@@ -133,7 +133,7 @@ async def filled(path: str, store: sagas.Store, sagas_: list[sagas.Saga]) -> Non
 
 @pytest.fixture(scope="module", params=["sqlite", "postgresql"])
 def path(request: pytest.FixtureRequest, tmp_path_factory: pytest.TempPathFactory) -> str:
-    """A store that no program has open, over either database."""
+    """Return a store that no program has open, over either database."""
     in_file = request.param == "sqlite"
     path = (
         str(tmp_path_factory.mktemp("store") / "store.db")
@@ -152,12 +152,12 @@ def path(request: pytest.FixtureRequest, tmp_path_factory: pytest.TempPathFactor
 
 @pytest.fixture
 def shell(path: str, capsys: pytest.CaptureFixture[str]) -> Shell:
-    """The command on that store."""
+    """Return the command on that store."""
     return Shell(path, capsys)
 
 
 def test_list(shell: Shell) -> None:
-    """In order of their starts, by phase, by name, and page by page."""
+    """It lists sagas in order of their starts, by phase, by name, and page by page."""
     text = shell("list")
     assert text.splitlines()[0].split() == ["KEY", "SAGA", "PHASE", "STARTED", "ENDED"]
     assert [line.split()[:3] for line in text.splitlines()[1:3]] == [
@@ -187,7 +187,7 @@ def test_list(shell: Shell) -> None:
 
 
 def test_show(shell: Shell) -> None:
-    """A saga's steps, its plan and what it waits for."""
+    """It shows a saga's steps, its plan and what it waits for."""
     text = shell("show", "bad")
     assert (
         "phase    stuck" in text
@@ -208,9 +208,8 @@ def test_show(shell: Shell) -> None:
     assert "an approval" in shell("show", "letter-1")
     assert [step["attempts"] for step in shell.json("show", "bad")["steps"]] == [1, 2]
     assert re.search(r"^STEP +STATE +TRIES +STARTED +ENDED +DETAIL$", text, re.M)
-    assert (
-        len(re.findall(r" \d{4}-\d\d-\d\d \d\d:\d\d:\d\dZ", text)) == 2 + 2 * 2
-    )  # of the saga, and of its steps
+    # of the saga, and of its steps
+    assert len(re.findall(r" \d{4}-\d\d-\d\d \d\d:\d\d:\d\dZ", text)) == 2 + 2 * 2
     reserve, charge = told["steps"]
     assert (
         told["at"]
@@ -223,7 +222,9 @@ def test_show(shell: Shell) -> None:
 
 
 def test_log_and_plan(shell: Shell) -> None:
-    """As the store has them: the events with their times and what came of them, and the last plan with its certificate."""
+    """They are as the store has them: the events with their times and effects, and the last plan
+    with its certificate.
+    """
     events = shell.json("log", "bad")
     assert [(one["event"], one["step"]) for one in events[:3]] == [
         ("open", None),
@@ -246,7 +247,7 @@ def test_log_and_plan(shell: Shell) -> None:
 
 
 def test_counts_stuck_and_waiting(shell: Shell) -> None:
-    """How many there are, which are stuck and why, and what waits for a person."""
+    """They show how many there are, which are stuck and why, and what needs an operator."""
     assert shell.json("stats") == {
         "sagas": {
             "shop": {"open": 1, "completed": 1, "recovered": 0, "stuck": 1, "resolved": 0},
@@ -273,7 +274,7 @@ def test_counts_stuck_and_waiting(shell: Shell) -> None:
 def test_audit_and_export(
     shell: Shell, path: str, tmp_path: pathlib.Path, capsys: pytest.CaptureFixture[str]
 ) -> None:
-    """Each log is audited; a saga is exported with its events; a line that is changed is found."""
+    """Each log is audited; a saga is exported with its events; a changed line is found."""
     assert all(log["good"] for log in shell.json("audit"))
     told = shell.json("export", "bad")
     assert [event["event"] for event in told["events"]][:3] == ["open", "start_run", "commit"]
@@ -297,7 +298,7 @@ def test_audit_and_export(
 
 
 def test_progress_on_a_terminal(path: str, monkeypatch: pytest.MonkeyPatch) -> None:
-    """What takes long says how far it has come, where somebody looks."""
+    """A long command prints its progress to a terminal."""
 
     said = Screen()
     monkeypatch.setattr("sys.stderr", said)
@@ -308,7 +309,9 @@ def test_progress_on_a_terminal(path: str, monkeypatch: pytest.MonkeyPatch) -> N
 def test_what_is_not_there(
     shell: Shell, tmp_path: pathlib.Path, capsys: pytest.CaptureFixture[str]
 ) -> None:
-    """Keys and files that are not there, words that are no text, and files that are no store, change nothing."""
+    """Keys and files that do not exist, arguments that are not text, and files that are not a store
+    change nothing.
+    """
     for words in (
         ["show", "none"],
         ["show", "\udcff"],
@@ -331,7 +334,10 @@ def test_what_is_not_there(
 
 
 def test_show_says_why(tmp_path: pathlib.Path, capsys: pytest.CaptureFixture[str]) -> None:
-    """What a step raised, and not that the tries behind it were given up; of a step that stands since its compensation failed, both."""
+    """It shows the error of a step, and not that the later tries were given up.
+
+    For a step that is kept since its compensation failed, it shows both.
+    """
     must = sagas.Saga("must")
 
     @must.step(keep=sagas.NEVER)
@@ -377,7 +383,9 @@ def test_show_says_why(tmp_path: pathlib.Path, capsys: pytest.CaptureFixture[str
 def test_texts_that_the_output_has_no_characters_for(
     place: str, capsys: pytest.CaptureFixture[str], caplog: pytest.LogCaptureFixture
 ) -> None:
-    """Halves of pairs are printed escaped, and so is what is beyond ASCII where the output has no more than that; JSON has them all."""
+    """Halves of surrogate pairs are printed escaped, and so are characters beyond ASCII if the
+    output is ASCII; JSON has them all.
+    """
     caplog.set_level(logging.CRITICAL, "sagas")  # the tests' runner takes no halves of pairs
     odd = "half \ud800 of a pair, \N{PILE OF POO} and \xe9"
     saga, letter = sagas.Saga("odd"), signed()
@@ -435,7 +443,11 @@ def test_texts_that_the_output_has_no_characters_for(
 def test_no_text_adds_a_line_or_moves_a_cursor(
     tmp_path: pathlib.Path, capsys: pytest.CaptureFixture[str]
 ) -> None:
-    """What callers, workers, functions and operators say: a terminal obeys none of it, each table has a line a row, and JSON has it as it is."""
+    """Texts come from callers, workers, functions and operators.
+
+    A terminal executes none of them, each table has one line per row, and JSON has the text
+    unchanged.
+    """
     odd = "part\n40\x1b[1A\x1b[2K\x1b]0;x\x07\x7f\x9b31m\u202e"
     far, letter, place = sagas.Saga("far"), signed(), str(tmp_path / "store.db")
     far.step(name="car", external=True, undo=0)
@@ -501,7 +513,9 @@ def test_no_text_adds_a_line_or_moves_a_cursor(
 
 
 def test_a_compensation_that_failed_is_seen(place: str, capsys: pytest.CaptureFixture[str]) -> None:
-    """Those that ended with it are listed and counted, and told of as `undo failed`, with what was raised; programs get the word of the rules."""
+    """Such sagas are listed and counted, and shown as `undo failed`, with the error; programs get
+    the word of the rules.
+    """
     row = sagas.Saga("row")
 
     @row.step(keep=5)
@@ -557,7 +571,7 @@ def test_a_compensation_that_failed_is_seen(place: str, capsys: pytest.CaptureFi
 def test_a_log_says_who_did_what_and_why(
     place: str, capsys: pytest.CaptureFixture[str], monkeypatch: pytest.MonkeyPatch
 ) -> None:
-    """Of what an operator did, also of what was refused; texts are cut for terminals alone."""
+    """It has each action of an operator, also a refused one; only a terminal cuts the texts."""
     kind, why, shell = (
         signed(),
         f"the customer {'who is well known ' * 9}called",
@@ -621,7 +635,7 @@ def test_a_far_time_hides_nothing(
 
 
 def test_wrong_words_of_lists(place: str, capsys: pytest.CaptureFixture[str]) -> None:
-    """They have the status 2 and a line; and the words to go on with are as a shell takes them."""
+    """The status is 2, with one line; the arguments for the next page are quoted for a shell."""
     kind = simple(lambda task: None)
 
     async def main() -> None:
@@ -663,7 +677,9 @@ FULL = "sagas store: cannot write the output or a temporary file: No space left 
 
 
 def test_an_output_that_takes_nothing(tmp_path: pathlib.Path) -> None:
-    """Status 4, and of a disk that is full a line that says so; a pipe whose reader has ended needs none."""
+    """The status is 4, with a line for a full disk; for a pipe whose reader has ended there is
+    none.
+    """
     with sagas.open_sync(
         place := str(tmp_path / "store.db"), [kind := simple(lambda task: None)]
     ) as store:
@@ -686,7 +702,9 @@ def test_an_output_that_takes_nothing(tmp_path: pathlib.Path) -> None:
 def test_errors_that_nobody_reads(
     path: str, capsys: pytest.CaptureFixture[str], monkeypatch: pytest.MonkeyPatch
 ) -> None:
-    """Where standard error is closed, the status says it alone: no error is printed between the answers."""
+    """If standard error is closed, only the status reports the error: it is not printed between the
+    output.
+    """
     for words, status in (["audit"], 0), (["show", "none"], 1), (["list", "--limit", "1"], 0):
         monkeypatch.setattr("sys.stderr", None)
         assert store_command.main([path, *words, "--json"]) == status
@@ -695,7 +713,9 @@ def test_errors_that_nobody_reads(
 
 
 def test_beside_the_running_program(place: str, capsys: pytest.CaptureFixture[str]) -> None:
-    """abort, finish and resolve, while the program has the store open: it does what is asked, and the command says so."""
+    """abort, finish and resolve while the program has the store open: it executes them, and the
+    command says so.
+    """
     path, kinds = place, [shop(), signed()]
     shell = Shell(path, capsys)
 
@@ -715,9 +735,8 @@ def test_beside_the_running_program(place: str, capsys: pytest.CaptureFixture[st
                     (note.what, note.told, note.answer)
                     for note in looks.ask(one_saga.notes("letter-1"))
                 ] == [("abort", {"note": "written twice"}, True)]
-            assert (
-                await beside("abort", "letter-1", status=1) == ""
-            )  # it is over, and nobody is asked
+            # it is over, and needs no operator
+            assert await beside("abort", "letter-1", status=1) == ""
             assert "succeeded" in await beside(
                 "complete", "letter-2", "sign", "--result", '"signed"'
             )
@@ -733,7 +752,9 @@ def test_beside_the_running_program(place: str, capsys: pytest.CaptureFixture[st
 
 
 def test_finish_says_what_is_wrong(place: str, capsys: pytest.CaptureFixture[str]) -> None:
-    """On standard error, without an error's name: a step that has not begun, one that is over, a name that is misspelt, a text that is no JSON."""
+    """It reports on standard error, without an error's name: a step that has not started, a
+    finished one, a misspelt name, a text that is not JSON.
+    """
     path, kinds = place, [shop(), signed()]
 
     def finish(*words: str, status: int = 1) -> str:
@@ -761,10 +782,11 @@ def test_finish_says_what_is_wrong(place: str, capsys: pytest.CaptureFixture[str
                 await store.complete("letter-1", "sing")
 
     run(main())
+    # also while no program runs
     assert (
         finish("letter-1", "sing")
         == "sagas store: saga 'letter-1' has no step 'sing'; did you mean 'sign'?\n"
-    )  # also while no program runs
+    )
     assert "not JSON" in finish("letter-1", "sign", "--result", "yes", status=2)
     store_command.main([path, "complete", "letter-1", "sign", "--result", "yes"])
     assert """Write a text as '"yes"'""" in capsys.readouterr().err
@@ -780,7 +802,10 @@ def test_finish_says_what_is_wrong(place: str, capsys: pytest.CaptureFixture[str
 def test_many_stuck_sagas_are_resolved_at_once(
     place: str, capsys: pytest.CaptureFixture[str]
 ) -> None:
-    """By their keys, or each that nobody has resolved; those that are not stuck are told, and the others are resolved all the same."""
+    """They are given by their keys, or all unresolved ones.
+
+    Sagas that are not stuck are reported, and the others are resolved anyway.
+    """
     shell = Shell(place, capsys)
 
     async def main() -> None:
@@ -814,7 +839,7 @@ def test_many_stuck_sagas_are_resolved_at_once(
 
 
 def test_without_a_program(place: str, capsys: pytest.CaptureFixture[str]) -> None:
-    """What is asked while no program has the store open is done by the next one."""
+    """Requests that come while no program has the store open are executed by the next one."""
     path, kinds = place, [shop(), signed()]
     shell = Shell(path, capsys)
 
@@ -838,7 +863,9 @@ def test_without_a_program(place: str, capsys: pytest.CaptureFixture[str]) -> No
 
 
 def test_words_for_people() -> None:
-    """Times are in UTC, by the same form in the command, on the page and in the service's log; one of a thing is one."""
+    """Times are in UTC, in the same form in the command, on the page and in the service's log; a
+    count of one has the singular.
+    """
     record = logging.LogRecord("sagas", logging.INFO, "", 0, "said", None, None)
     record.created, record.msecs = 86400.0, 7
     assert formatting.moment(86400.0) == words.clock(86400.0) == "1970-01-02 00:00:00Z"
@@ -857,6 +884,7 @@ def test_words_for_people() -> None:
     )
 
 
+# as of a transaction that no program has reported
 FORGED = {
     "UPDATE sagas SET phase = CASE key WHEN 'good' THEN 'stuck' ELSE 'ended' END WHERE key IN ('good', 'bad')": [
         "good: the row says stuck, the events say completed",
@@ -891,18 +919,16 @@ FORGED = {
     "INSERT INTO attempts SELECT id, 1, 'undo', 1, 'ok', NULL, 0 FROM sagas WHERE key = 'good'": [
         "good: charge, undo 1: the row says ok, the events nothing"
     ],
-    "INSERT INTO attempts SELECT id, 1, 'run', 1, 'ok', NULL, 0 FROM sagas WHERE key = 'odd'": (
-        []
-    ),  # as of a transaction that nobody has reported
+    "INSERT INTO attempts SELECT id, 1, 'run', 1, 'ok', NULL, 0 FROM sagas WHERE key = 'odd'": ([]),
     "UPDATE attempts SET value = 'null'": [],
 }
-"""What is done to the rows of a store, and what the audit says of it."""
+"""Changes of the rows of a store, and the audit's report of each."""
 
 
 def test_rows_that_differ_from_the_events(
     path: str, tmp_path: pathlib.Path, capsys: pytest.CaptureFixture[str]
 ) -> None:
-    """The audit names each saga and each attempt of which the rows say something else; a value is in the rows alone."""
+    """The audit names each saga and each attempt whose rows differ; a value is only in the rows."""
     if path.startswith("postgresql:"):
         return
     for place, (statement, told) in enumerate(FORGED.items()):
@@ -921,7 +947,7 @@ def test_rows_that_differ_from_the_events(
 
 
 def test_an_audit_of_what_is_being_written(place: str) -> None:
-    """Rows and events are of one moment, at each of them."""
+    """Rows and events are of the same moment, at each of them."""
     kind = shop()
 
     def differences() -> list[audits.Judged]:

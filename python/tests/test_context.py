@@ -1,4 +1,4 @@
-"""`context=` of a store: who gets it, when it is entered and left, and what is wrong with one."""
+"""`context=` of a store: which functions get it, when it is entered and left, and its errors."""
 
 from __future__ import annotations
 
@@ -21,7 +21,7 @@ from sagas.definition.task import Told
 
 
 class Clients:
-    """What functions share; each use of it is told."""
+    """An object that functions share; it notes each use."""
 
     def __init__(self) -> None:
         self.told: list[str] = []
@@ -33,7 +33,7 @@ class Clients:
 
 
 def shop(inside: bool) -> sagas.Saga:
-    """Each way in which a function is called."""
+    """Return a saga with each way in which a function is called."""
     shop = sagas.Saga("shop")
 
     @shop.step(undo=1, keep=5)
@@ -77,11 +77,11 @@ USES = ["simple", "plain", "timed", "within", "pause", "pause", "ask", "simple u
 
 
 def factories(clients: Clients) -> dict[str, Any]:
-    """Each form of a context."""
+    """Return each form of a context."""
 
     @contextlib.asynccontextmanager
     async def later() -> AsyncIterator[Clients]:
-        async with asyncio.TaskGroup(), asyncio.timeout(60):  # both ask for one task
+        async with asyncio.TaskGroup(), asyncio.timeout(60):  # [later()] both request one task
             yield clients
         clients.is_open = False
 
@@ -102,7 +102,7 @@ def factories(clients: Clients) -> dict[str, Any]:
 
 @pytest.mark.parametrize("form", ["object", "async", "plain", "class"])
 def test_each_function_gets_it_and_it_is_left_behind_the_last(place: str, form: str) -> None:
-    """However it is called: simple, in a thread, in its time, in a transaction, as a compensation."""
+    """However it is called: plain, in a thread, in its time, in a transaction, as a compensation."""
     clients = Clients()
     saga, context = shop(inside=place.startswith("postgresql")), factories(clients)[form]
 
@@ -131,7 +131,7 @@ def test_a_store_without_async_opens_and_closes_it_in_one_task(place: str) -> No
 
 
 def test_it_is_made_anew_for_what_goes_on(place: str) -> None:
-    """It is there before the first function of a saga that is taken up is called, and while functions end."""
+    """It exists before the first function of a recovered saga is called, and while functions end."""
     saga, told = sagas.Saga("again"), list[str]()
 
     @contextlib.asynccontextmanager
@@ -159,7 +159,7 @@ def test_it_is_made_anew_for_what_goes_on(place: str) -> None:
 
 
 def bad_factories() -> dict[str, tuple[Callable[[], Any], type[Exception], str]]:
-    """What is wrong with a factory."""
+    """Return wrong factories."""
 
     async def forgot() -> None:
         ...
@@ -179,7 +179,7 @@ def bad_factories() -> dict[str, tuple[Callable[[], Any], type[Exception], str]]
 
 @pytest.mark.parametrize("what", bad_factories())
 def test_a_store_whose_context_cannot_be_entered_is_not_open(place: str, what: str) -> None:
-    """The error is the factory's own, and nobody has the store afterwards."""
+    """The error is the factory's own, and no process has the store afterwards."""
     factory, error, text = bad_factories()[what]
     saga = shop(inside=False)
 
@@ -194,7 +194,7 @@ def test_a_store_whose_context_cannot_be_entered_is_not_open(place: str, what: s
 
 
 def test_what_is_raised_as_it_is_left_is_raised_by_close(tmp_path: pathlib.Path) -> None:
-    """The store is closed all the same."""
+    """The store is closed anyway."""
     saga = shop(inside=False)
 
     @contextlib.contextmanager
@@ -213,7 +213,7 @@ def test_what_is_raised_as_it_is_left_is_raised_by_close(tmp_path: pathlib.Path)
 
 
 def test_a_store_without_one_says_so(tmp_path: pathlib.Path) -> None:
-    """Also a copy in another process, which never gets the object itself."""
+    """So does a copy in another process, which never gets the object itself."""
     saga = sagas.Saga("none")
 
     @saga.step
@@ -233,7 +233,7 @@ def test_a_store_without_one_says_so(tmp_path: pathlib.Path) -> None:
 
 
 def test_a_worker_has_its_own(tmp_path: pathlib.Path) -> None:
-    """It is entered before the first task and left behind the last; an async one is refused."""
+    """It is entered before the first task and left after the last; an async one is refused."""
     one = 'format = 2\nname = "one"\n[[step]]\nname = "a"\nundo = "never"\n'
     clients = Clients()
 

@@ -1,4 +1,4 @@
-"""A shard whose stored data is damaged: it is set aside, and the others are served."""
+"""A shard whose stored data is damaged is set aside, and the others are served."""
 
 from __future__ import annotations
 
@@ -54,7 +54,7 @@ REPAIR = [
 
 
 def write(place: str, *statements: str) -> None:
-    """Change a store, whoever has it open."""
+    """Change a store, even while a program has it open."""
     if place.startswith("postgresql:"):
         with psycopg.connect(
             place.replace("//app@", "//owner@"), options="-csearch_path=sagas"
@@ -68,7 +68,7 @@ def write(place: str, *statements: str) -> None:
 
 
 def signed() -> sagas.Saga:
-    """A saga that waits for a person after its first step."""
+    """Return a saga that waits for an operator after its first step."""
     saga = sagas.Saga("signed")
 
     @saga.step
@@ -86,8 +86,10 @@ def signed() -> sagas.Saga:
 def test_a_damaged_shard_is_set_aside(
     place: str, damage: str, monkeypatch: pytest.MonkeyPatch, caplog: pytest.LogCaptureFixture
 ) -> None:
-    """`open` says so once, however often it tries, and lists its sagas; the other shards are served, and new sagas are started. Once it is repaired,
-    its sagas go on, if its definitions were there; else after the next opening."""
+    """`open` reports it once, however often it tries, and lists its sagas; the other shards are
+    served, and new sagas are started. Once it is repaired, its sagas continue, if the program has
+    their definitions; else after the next opening.
+    """
     monkeypatch.setattr("sagas.definition.shelf.SHARD_CAPACITY", 2)
     monkeypatch.setattr("sagas.runtime.shard_runner.PAUSE_ASIDE", 0.3)
     kind, names = signed(), list[str]()
@@ -145,12 +147,12 @@ def test_a_damaged_shard_is_set_aside(
 
 
 async def is_whole(store: sagas.Store) -> bool:
-    """Whether no shard of it is set aside."""
+    """Return whether no shard of it is set aside."""
     return not await store.attention()
 
 
 def counted(store: sagas.Store) -> list[int]:
-    """The shards that are loaded from now on."""
+    """Count the shards that are loaded from now on."""
     database: Any = store._inside.store
     loads, load = list[int](), database.load
 
@@ -170,7 +172,9 @@ def test_a_damaged_shard_is_deleted(
     monkeypatch: pytest.MonkeyPatch,
     capsys: pytest.CaptureFixture[str],
 ) -> None:
-    """It is exported before, while a program has the store open, and its keys are free again; a sound shard is not deleted."""
+    """It is exported before, while a program has the store open, and its keys are free again; a
+    sound shard is not deleted.
+    """
     monkeypatch.setattr("sagas.definition.shelf.SHARD_CAPACITY", 2)
     monkeypatch.setattr("sagas.runtime.shard_runner.PAUSE_ASIDE", 0.3)
     kind, names, owner = signed(), list[str](), place.replace("//app@", "//owner@")
@@ -232,7 +236,7 @@ def test_a_damaged_shard_is_deleted(
 
 
 def command(store: str, word: str, *words: str) -> int:
-    """The status of a command over a store."""
+    """Return the status of a command over a store."""
     return store_command.main([store, word, *words])
 
 
@@ -271,11 +275,11 @@ def test_a_service_shows_damaged_shards(place: str, tmp_path: pathlib.Path) -> N
 
 
 def when_listed(client: httpx.Client) -> Any:
-    """What needs an operator, once the shard is noted and counted."""
+    """Return what needs an operator, once the shard is noted and counted."""
     end = time.monotonic() + 120
     while True:
         page = client.get("/v1/attention?kind=damaged").json()
-        if page["counts"]["damaged"] == 2 and page["entries"]:  # which are asked for one by one
+        if page["counts"]["damaged"] == 2 and page["entries"]:  # which come with two requests
             return page
         assert time.monotonic() < end, page
         time.sleep(0.05)

@@ -1,4 +1,4 @@
-"""Sagas that are aborted when their time is over, whoever drives them then."""
+"""Sagas that are aborted when their time is over, whichever node drives them then."""
 
 from __future__ import annotations
 
@@ -26,7 +26,7 @@ UTC = datetime.timezone.utc
 
 
 def slow(**words: Any) -> sagas.Saga:
-    """A step that is undone, and an approval that nobody gives."""
+    """Return a saga with a step that is undone, and an approval that never comes."""
     saga = sagas.Saga("slow", **words)
 
     @saga.step(keep=9, undo=1)
@@ -46,7 +46,7 @@ def slow(**words: Any) -> sagas.Saga:
 
 
 def at(place: str, kind: sagas.Saga, events: list[str]) -> Any:
-    """A store whose events are heard."""
+    """Open a store, and collect its events."""
     return sagas.open(
         place, [kind], node="one", lease=2, on_event=lambda one: events.append(one.name)
     )
@@ -55,7 +55,10 @@ def at(place: str, kind: sagas.Saga, events: list[str]) -> Any:
 def test_a_saga_that_is_over_is_not_kept_for_its_deadline(
     tmp_path: pathlib.Path, monkeypatch: pytest.MonkeyPatch
 ) -> None:
-    """A deadline is days away, and sagas end at once: the program keeps few of them. Those that are open are aborted in time."""
+    """A deadline is days away, and sagas end at once: the program keeps few of them.
+
+    Open sagas are aborted in time.
+    """
     monkeypatch.setattr(deadlines, "MOST", 4, raising=False)
     kind, clock = slow(deadline=datetime.timedelta(days=1)), Clock()
 
@@ -82,7 +85,7 @@ def test_a_saga_that_is_over_is_not_kept_for_its_deadline(
 
 @pytest.mark.parametrize("way", ["timedelta", "datetime", "definition"])
 def test_it_is_aborted_in_time(place: str, way: str) -> None:
-    """Its steps know when; one that ended before, and one without, go on."""
+    """Its steps know when; a saga that ended before, and one without a deadline, continue."""
     kind, events = slow(deadline=SOON if way == "definition" else None), list[str]()
 
     async def main() -> None:
@@ -102,7 +105,7 @@ def test_it_is_aborted_in_time(place: str, way: str) -> None:
 
 
 def test_over_a_kill(place: str) -> None:
-    """It is kept with the saga: the next program aborts one whose time was over meanwhile."""
+    """It is stored with the saga: the next program aborts one whose time is over."""
     kind = slow()
     child = os.fork()
     if child == 0:
@@ -126,7 +129,7 @@ def test_over_a_kill(place: str) -> None:
 
 
 def test_the_command_shows_it(place: str, capsys: pytest.CaptureFixture[str]) -> None:
-    """As a time to a person, as a number to programs; of a saga without one it has none."""
+    """A person sees a time, programs a number; a saga without a deadline has none."""
     kind, shell = slow(), Shell(place, capsys)
 
     async def fill() -> float:
@@ -184,7 +187,9 @@ def test_of_another_node(url: str) -> None:
 def chain(
     clock: Clock, late: str = "", dies: str = ""
 ) -> tuple[sagas.Saga, list[tuple[str, str | None]]]:
-    """Steps in a row, what they hear of an abort, and a clock that goes past the deadline in one of them."""
+    """Return steps in a row that note an abort, and a clock that passes the deadline in one of
+    them.
+    """
     saga, calls = sagas.Saga("chain"), list[tuple[str, str | None]]()
 
     def each(task: Task) -> None:
@@ -203,8 +208,9 @@ def chain(
 
 
 def test_nothing_begins_of_a_start_that_is_late(place: str) -> None:
-    """It is started and aborted at once: also with others, with steps that come from the input, and encoded. The same start again is the
-    same saga."""
+    """It is started and aborted at once: also with other starts, with steps that come from the
+    input, and encoded. The same start again is the same saga.
+    """
     kind, calls = chain(Clock())
     each = sagas.Saga("each")
     item = each.step(name="item", for_each=lambda input: input["items"])(
@@ -266,8 +272,11 @@ def test_nothing_begins_of_a_start_that_is_late(place: str) -> None:
 
 
 def test_nothing_begins_behind_the_deadline_of_a_saga_that_is_taken_up(place: str) -> None:
-    """Its program died in a step, which may have had its effect: it is called again, hears of the abort, and is undone. Nothing else begins:
-    in the next program of a file, and at the node that takes a shard over."""
+    """Its program died in a step, which may have had its effect.
+
+    The step is called again, is notified of the abort, and is undone. No other step starts: in the
+    next program of a file, and at the node that takes a shard over.
+    """
     if (child := os.fork()) == 0:
         kind, _ = chain(Clock(), dies="a")
 
@@ -299,7 +308,9 @@ def test_nothing_begins_behind_the_deadline_of_a_saga_that_is_taken_up(place: st
 
 
 def test_no_step_begins_behind_a_deadline(place: str) -> None:
-    """It passes while a step runs: the next one does not begin, though nobody has looked at the time since."""
+    """It passes while a step runs: the next one does not start, though no program has looked at the
+    time since.
+    """
     clock = Clock()
     clock.now = time.time()
     kind, calls = chain(clock, late="b")
@@ -327,7 +338,7 @@ def test_a_client_that_is_late(url: str) -> None:
 
 
 def test_in_a_simulation() -> None:
-    """The clock advances to it, and no further than it has to."""
+    """The clock advances to it, and no further than needed."""
     kind = sagas.Saga("days")
 
     @kind.wait(until=datetime.timedelta(days=3))

@@ -1,4 +1,4 @@
-"""Functions of definitions that are slow: they run in threads, and hold up nothing else."""
+"""Slow functions of definitions run in threads, and block nothing else."""
 
 from __future__ import annotations
 
@@ -19,13 +19,13 @@ NOW = datetime.timedelta(0)
 
 
 class Gate:
-    """Functions that stand still until it is opened, and the threads that are in them."""
+    """Functions that wait until it is opened, and the threads that are in them."""
 
     def __init__(self) -> None:
         self.opened, self.inside = threading.Event(), list[str]()
 
     def holding(self, value: Any) -> Callable[..., Any]:
-        """A function that returns this."""
+        """Return a function that waits and returns this."""
 
         def function(*_: Any) -> Any:
             self.inside.append(threading.current_thread().name)
@@ -36,18 +36,18 @@ class Gate:
 
 
 def nothing(task: Task) -> None:
-    """A step that has nothing to do."""
+    """A step without work."""
 
 
 def quick() -> sagas.Saga:
-    """Another saga of the same node."""
+    """Return another saga of the same node."""
     saga = sagas.Saga("quick")
     saga.step(name="a", when=lambda given: True)(nothing)
     return saga
 
 
 def shop(gate: Gate) -> list[sagas.Saga]:
-    """A saga for each function that a definition can have."""
+    """Return a saga for each function that a definition can have."""
 
     def one(name: str, fair_by: Any = None, **words: Any) -> sagas.Saga:
         saga = sagas.Saga(name, fair_by=fair_by)
@@ -73,7 +73,7 @@ def shop(gate: Gate) -> list[sagas.Saga]:
 
 
 def test_slow_functions_hold_up_nobody_else(place: str) -> None:
-    """All of them at once, and other sagas go on."""
+    """All of them wait at once, and other sagas continue."""
     gate, other = Gate(), quick()
     kid, *slow = shop(gate)
 
@@ -95,7 +95,9 @@ def test_slow_functions_hold_up_nobody_else(place: str) -> None:
 
 
 def test_schedules_and_starts_of_clients(url: str) -> None:
-    """A client computes the steps beside its other calls, and a node takes other starts meanwhile."""
+    """A client computes the steps while it makes other calls, and a node takes other starts at the
+    same time.
+    """
     gate, other = Gate(), quick()
     saga = shop(gate)[4]
     gate.opened.set()
@@ -157,7 +159,7 @@ def test_a_store_that_is_closed_meanwhile(place: str, timeout: float | None) -> 
 
 
 def test_an_abort_meanwhile(place: str) -> None:
-    """What they return is not used, and no function of a step is called."""
+    """Their return values are not used, and no function of a step is called."""
     gate, other = Gate(), quick()
     slow = {saga.name: saga for saga in shop(gate)}
     called: list[str] = []
@@ -179,7 +181,7 @@ def test_an_abort_meanwhile(place: str) -> None:
 
 
 def test_threads_of_functions() -> None:
-    """Short ones share a thread; a slow one has one for itself, and a name half of them."""
+    """Short calls share a thread; a slow one has a thread for itself, and one name half of them."""
     gate, threads = Gate(), FunctionThreads(4, "test")
     slow = gate.holding(1)
 
@@ -204,7 +206,7 @@ def test_threads_of_functions() -> None:
         gate.opened.set()
         assert await asyncio.gather(*held) == [1] * 4
         await threads.end(None)
-        assert len(gate.inside) == 4  # the one that nobody waits for was not called
+        assert len(gate.inside) == 4  # the one whose caller has left was not called
         threads.close()
         assert await threads.call("a", lambda: 3) == 3
         threads.close()
@@ -214,7 +216,7 @@ def test_threads_of_functions() -> None:
 
 
 def test_a_loop_that_is_closed_meanwhile() -> None:
-    """Its threads end all the same."""
+    """Its threads end anyway."""
     gate, threads = Gate(), FunctionThreads(2, "test")
     job: Any = None
 

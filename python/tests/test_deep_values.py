@@ -1,4 +1,4 @@
-"""Values of too many levels: refused by every way in, and no harm where one is stored already."""
+"""Values of too many levels: each way in refuses them, and stored ones do no harm."""
 
 from __future__ import annotations
 
@@ -26,12 +26,12 @@ LEVELS = (MOST_LEVELS + 1, 300, 967, 970, 2000, 100_000)
 
 
 def nested(levels: int) -> str:
-    """The text of a list of so many levels."""
+    """Return the text of a list of this many levels."""
     return "[" * levels + "]" * levels
 
 
 def value_of(levels: int) -> Any:
-    """The same as a value, which nothing had to parse."""
+    """Return it as a value, which nothing had to parse."""
     value: Any = []
     for _ in range(levels - 1):
         value = [value]
@@ -39,7 +39,7 @@ def value_of(levels: int) -> Any:
 
 
 def depth(value: Any) -> int:
-    """The levels of a small value."""
+    """Return the levels of a small value."""
     some = value.values() if isinstance(value, dict) else value
     return 1 + max(map(depth, some), default=0) if isinstance(value, (dict, list)) else 0
 
@@ -53,7 +53,7 @@ JSON = st.recursive(
 
 @given(JSON, st.integers(0, 8), st.booleans())
 def test_levels(value: Any, levels: int, ascii: bool) -> None:
-    """Brackets in texts are none."""
+    """Brackets in texts are not levels."""
     assert is_deeper(json.dumps(value, ensure_ascii=ascii), levels) == (depth(value) > levels)
 
 
@@ -75,7 +75,7 @@ def test_the_limit() -> None:
 
 
 def test_by_a_store(place: str) -> None:
-    """Inputs, schedules and reports are refused; what a function returns is kept as unstorable."""
+    """Inputs, schedules and reports are refused; a function's result is kept as unstorable."""
     saga = sagas.Saga("deep")
 
     @saga.step
@@ -127,7 +127,7 @@ def service(tmp_path_factory: pytest.TempPathFactory) -> Iterator[Served]:
 
 
 def post(service: Served, path: str, text: str) -> tuple[int, str, str]:
-    """The status of an answer to a JSON text, the name of its problem and what it says."""
+    """Return the response to a JSON text: its status, the name of its problem and its detail."""
     with service.client() as client:
         answer = client.post(path, content=text, headers={"content-type": "application/json"})
         told = answer.json()
@@ -136,8 +136,10 @@ def post(service: Served, path: str, text: str) -> tuple[int, str, str]:
 
 @pytest.mark.parametrize("levels", LEVELS)
 def test_by_http(service: Served, levels: int) -> None:
-    """Starts and reports of workers and people: 422 or 400, which says how many levels there may
-    be. Nothing is stored, and a worker's task can still be reported."""
+    """Starts and reports of workers and people get 422 or 400, with the number of levels allowed.
+
+    Nothing is stored, and a worker's task can still be reported.
+    """
     deep, key = nested(levels), f"k{levels}"
     with service.client() as client:
         start(client, "few", key)
@@ -201,14 +203,14 @@ def test_by_a_command_and_by_files(service: Served, tmp_path: pathlib.Path) -> N
 
 
 def far() -> sagas.Saga:
-    """Two steps, which workers do."""
+    """Return a saga of two steps, which workers do."""
     saga = sagas.Saga("far")
     saga.step(name="a", external=True, undo=0)
     return saga
 
 
 def put(place: str, key: str, text: str) -> None:
-    """A value as an earlier release took it."""
+    """Store a value as an earlier release took it."""
     if place.startswith("postgresql"):
         with psycopg.connect(place.replace("app@", "owner@"), autocommit=True) as link:
             link.execute("UPDATE sagas.sagas SET input = %s WHERE key = %s", (text, key))
@@ -219,8 +221,11 @@ def put(place: str, key: str, text: str) -> None:
 
 @pytest.mark.parametrize("levels", [600, 967])
 def test_what_is_stored_already(place: str, tmp_path: pathlib.Path, levels: int) -> None:
-    """A claim has the other tasks. The one that no answer can have waits for a person, at the node
-    that executes its saga too, and can be reported."""
+    """A claim has the other tasks.
+
+    The one that fits no reply needs an operator, at the node that executes its saga too, and can be
+    reported.
+    """
     saga = far()
 
     async def begun() -> None:
@@ -253,7 +258,7 @@ def test_what_is_stored_already(place: str, tmp_path: pathlib.Path, levels: int)
 
 
 def test_a_claim_at_another_node(url: str, tmp_path: pathlib.Path) -> None:
-    """The node that executes the saga is told, and sets the task aside."""
+    """The node that executes the saga is notified, and sets the task aside."""
     files = {"far.toml": far().toml()}
     for name in ("one", "two"):
         (tmp_path / name).mkdir()

@@ -1,4 +1,4 @@
-"""What a declared saga becomes, and what is refused: each fault with file, line and step."""
+"""The definition of a declared saga, and each error in one, with file, line and step."""
 
 from __future__ import annotations
 
@@ -24,7 +24,7 @@ HERE = pathlib.Path(__file__).resolve().parent
 
 
 def trip() -> sagas.Saga:
-    """A saga with all that a definition can say."""
+    """Return a saga with all parts of a definition."""
     trip = sagas.Saga("trip")
 
     @trip.step(timeout=datetime.timedelta(seconds=30))
@@ -47,7 +47,10 @@ def trip() -> sagas.Saga:
 
 
 def test_toml(tmp_path: pathlib.Path) -> None:
-    """Prices, tries and needs become the definition's TOML; without a compensation undo is never, with one it is 0 unless it says more."""
+    """Costs, tries and needs become the definition's TOML.
+
+    Without a compensation `undo` is never; with one it is 0 by default.
+    """
     text = trip().toml()
     assert tomllib.loads(text) == {
         "format": 2,
@@ -76,7 +79,7 @@ def test_toml(tmp_path: pathlib.Path) -> None:
 
 
 def test_what_the_package_shows() -> None:
-    """Its names for users, and none of the modules inside."""
+    """It shows its names for users, and none of the modules inside."""
     shown = dir(sagas)
     assert set(sagas.__all__) < set(shown) and {
         "testing",
@@ -103,7 +106,7 @@ def test_version() -> None:
     assert one.toml() != two.toml() and tomllib.loads(one.toml()) == tomllib.loads(two.toml())
 
 
-# -- faults ------------------------------------------------------------------------------------------------------------
+# -- faults
 
 
 def two_of_a_name(saga: sagas.Saga) -> None:
@@ -418,7 +421,7 @@ FAULTY: list[tuple[Callable[[sagas.Saga], None], str]] = [
 
 @pytest.mark.parametrize("make, text", FAULTY)
 def test_a_fault_names_step_file_and_line(make: Callable[[sagas.Saga], None], text: str) -> None:
-    """Each is a DefinitionError, told at the line where it is to be mended."""
+    """Each is a DefinitionError, reported at the line to change."""
     saga = sagas.Saga("s")
     with pytest.raises(sagas.DefinitionError) as error:
         make(saga)
@@ -431,7 +434,7 @@ def test_a_fault_names_step_file_and_line(make: Callable[[sagas.Saga], None], te
 
 
 def test_a_saga_without_steps_and_two_of_a_name(tmp_path: pathlib.Path) -> None:
-    """Told by file and line too."""
+    """They are reported by file and line too."""
     with pytest.raises(sagas.DefinitionError, match=f"{pathlib.Path(__file__).name}:.*no step"):
         sagas.Saga("empty").toml()
     with pytest.raises(sagas.DefinitionError, match=r"\.py:\d+: saga 'Empty'"):
@@ -448,7 +451,9 @@ def test_a_saga_without_steps_and_two_of_a_name(tmp_path: pathlib.Path) -> None:
 def test_a_compensation_that_is_never_called(
     tmp_path: pathlib.Path, caplog: pytest.LogCaptureFixture
 ) -> None:
-    """It is sound, and probably not meant: a warning, with file and line, which `open` logs; prices of both kinds are quiet."""
+    """It is valid, and probably a mistake: a warning, with file and line, which `open` logs; with
+    both costs there is none.
+    """
     saga = sagas.Saga("s")
 
     @saga.step(undo=5, keep=3)
@@ -478,7 +483,9 @@ def test_a_compensation_that_is_never_called(
 
 
 def chained(receipt: Any = ..., behind: bool = True) -> tuple[sagas.Saga, list[str]]:
-    """A charge, a receipt for it whose undoing is said or not, and something behind that fails; and what is undone of it, as it is."""
+    """Return a charge, a receipt for it whose `undo` is set or not, and a later step that fails;
+    and the undone steps.
+    """
     saga, undone = sagas.Saga("order"), list[str]()
     charge = saga.step(name="charge")(lambda task: None)
     charge.compensation(lambda task: undone.append(task.step))
@@ -495,7 +502,9 @@ def chained(receipt: Any = ..., behind: bool = True) -> tuple[sagas.Saga, list[s
 
 
 def test_nothing_to_undo(place: str) -> None:
-    """A step without a compensation keeps what it needs from being undone; with `undo=0` it is undone by doing nothing."""
+    """A step without a compensation keeps the steps that it needs from being undone; with `undo=0`
+    it is undone by doing nothing.
+    """
     kept, gone = chained()[0], chained(0)
     gone[0].name = "gone"
 
@@ -520,19 +529,20 @@ def test_nothing_to_undo(place: str) -> None:
 
 
 def test_a_compensation_behind_undo_0() -> None:
-    """One that is declared takes the place of doing nothing."""
+    """A declared compensation replaces doing nothing."""
     saga, undone = chained(0)
     saga.steps[1].compensation(lambda task: undone.append(task.step))
     assert sagas.testing.run(saga).states["charge"] == "undone" and undone == ["receipt", "charge"]
     plain = chained(0)[0].toml()
     assert tomllib.loads(saga.toml()) == tomllib.loads(plain)
-    assert (
-        saga.toml().replace('"receipt"\n# compensated\n', '"receipt"\n') == plain
-    )  # so that a program without it is told
+    # so that a program without it is noticed
+    assert saga.toml().replace('"receipt"\n# compensated\n', '"receipt"\n') == plain
 
 
 def test_what_keeps_others_from_being_undone() -> None:
-    """A step without a compensation that does not say what is meant, behind a compensation; quiet where nothing behind or beside it may fail."""
+    """A step without a compensation follows one with a compensation, and does not say what it
+    means. There is no warning if no later or parallel step may fail.
+    """
     saga = chained()[0]
     (warning,) = saga.warnings()
     assert (
@@ -547,7 +557,9 @@ def test_what_keeps_others_from_being_undone() -> None:
 
 
 def test_what_keeps_others_is_told_once() -> None:
-    """Beside the last step too; all that it keeps is named, and not what a step before it keeps already."""
+    """It holds for the last step too; the warning names all steps that it keeps, except those that
+    an earlier step keeps already.
+    """
     saga = chained()[0]
     hire = saga.step(name="hire")(lambda task: None)
     hire.compensation(lambda task: None)
@@ -574,7 +586,10 @@ def test_what_keeps_others_is_told_once() -> None:
 
 
 def test_why_a_step_stands() -> None:
-    """Because another that stands, or is run, needs it; not where it costs less that it stands, or cannot go."""
+    """Another step that is kept, or is running, needs it.
+
+    That is not the reason if keeping it costs less, or it cannot be dropped.
+    """
     text = """
         format = 2
         name = "s"
@@ -602,7 +617,7 @@ def test_why_a_step_stands() -> None:
 
 
 def test_hints_that_are_not_read() -> None:
-    """A name that is there for the checker alone: `open` says that values are as JSON has them."""
+    """A name that only the type checker has: `open` reports that values are as JSON has them."""
     saga = sagas.Saga("s")
 
     @saga.step
@@ -614,7 +629,7 @@ def test_hints_that_are_not_read() -> None:
 
 
 def test_decorators_with_and_without_words() -> None:
-    """`@saga.approval` as `@saga.step`; a function is decorated, and not handed over as `handler`."""
+    """`@saga.approval` works as `@saga.step`; a function is decorated, and not passed as `handler`."""
     saga = sagas.Saga("s")
 
     @saga.approval
@@ -629,7 +644,10 @@ def test_decorators_with_and_without_words() -> None:
 
 
 def test_a_decorator_that_is_left_alone() -> None:
-    """A step or a compensation that was to be: told where it stands. One decorator may make several steps."""
+    """The error for such a step or compensation has its line.
+
+    One decorator may make several steps.
+    """
     saga = sagas.Saga("s")
     both = saga.step(tries=2)
 
@@ -654,7 +672,10 @@ def test_a_decorator_that_is_left_alone() -> None:
 
 
 def test_times_are_seconds_or_a_timedelta() -> None:
-    """Of an approval and of a rate, as of `timeout`; pauses that are cut since nobody said what is the longest are a warning."""
+    """This holds for an approval and a rate, as for `timeout`.
+
+    Pauses that are cut because no longest one is set are a warning.
+    """
     saga = sagas.Saga("s")
     minute = datetime.timedelta(minutes=1)
     ways: tuple[tuple[str, float | datetime.timedelta], ...] = ("a", minute), ("b", 60)
@@ -674,12 +695,12 @@ def test_times_are_seconds_or_a_timedelta() -> None:
     )
 
 
-# -- types ---------------------------------------------------------------------------------------------------------------
+# -- types
 
 
 @dataclasses.dataclass
 class Booking:
-    """What crosses as JSON, both ways."""
+    """A value that is stored as JSON and read again."""
 
     city: str
     day: datetime.date
@@ -738,7 +759,9 @@ TYPED = """
 
 
 def test_types_are_seen(tmp_path: pathlib.Path) -> None:
-    """`task.result_of(flight)` has the type of what `flight` returns, and mypy finds nothing to say of a program."""
+    """`task.result_of(flight)` has the return type of `flight`, and mypy finds no error in a
+    program.
+    """
     path = tmp_path / "typed.py"
     path.write_text(textwrap.dedent(TYPED))
     words = ["mypy", "--strict", "--cache-dir", types_in(tmp_path), str(path)]

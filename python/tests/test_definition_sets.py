@@ -24,7 +24,7 @@ COUNT = 135
 
 
 def many(first: int = 0, count: int = COUNT) -> list[sagas.Saga]:
-    """Sagas of two steps: the second waits for a person where the input says so."""
+    """Return sagas of two steps: the second waits for an operator if the input says so."""
     return [make(f"kind-{number}") for number in range(first, first + count)]
 
 
@@ -47,13 +47,13 @@ def make(name: str, version: int = 1) -> sagas.Saga:
 
 
 def rows(path: str, query: str) -> list[tuple[Any, ...]]:
-    """What a store has, beside the programs."""
+    """Return rows of a store, read without its programs."""
     with contextlib.closing(admin.connect(path)) as link:
         return link.ask(query)
 
 
 def test_a_store_has_as_many_definitions_as_wanted(place: str) -> None:
-    """Sagas of each, before and behind a restart; a shard has 64 of them at most."""
+    """There are sagas of each, before and after a restart; a shard has 64 definitions at most."""
     kinds = many()
 
     async def main() -> None:
@@ -82,7 +82,7 @@ def test_a_store_has_as_many_definitions_as_wanted(place: str) -> None:
 def test_full_shards_of_several_sets(
     tmp_path: pathlib.Path, monkeypatch: pytest.MonkeyPatch
 ) -> None:
-    """Each set has a shard of its own that takes sagas, and the next one of the set follows it."""
+    """Each set has its own shard that takes sagas, and the next one of the set follows it."""
     monkeypatch.setattr("sagas.definition.shelf.SHARD_CAPACITY", 3)
     monkeypatch.setattr("sagas.definition.shelf.MOST_DEFINITIONS", 2)
     path, kinds = str(tmp_path / "store.db"), many(0, 5)
@@ -104,14 +104,14 @@ def test_full_shards_of_several_sets(
 
 
 def test_definitions_without_a_shard_leave(place: str) -> None:
-    """With the last shard of theirs; a version that no open saga has is not asked for any more."""
+    """They leave with their last shard; a version without open sagas is not required any more."""
     first, second = make("kind", 1), make("kind", 2)
 
     async def main(kinds: list[sagas.Saga], key: str, waits: bool) -> None:
         async with sagas.open(place, kinds) as store:
             await store.start(kinds[-1], key, waits)
             await (store.wait(key) if not waits else until(lambda: store.list(phase="open")))
-            # shards that take no sagas any more are closed behind what is waited for
+            # shards that take no sagas any more are closed after the wait
             await until(lambda: len(rows(place, "SELECT 1 FROM shards WHERE closed = 0")) == 1)
 
     async def rest() -> None:
@@ -187,13 +187,13 @@ DRIVER = """
 
 
 def environment() -> dict[str, str]:
-    """Of a program of its own."""
+    """Return the environment of a separate program."""
     path = f"{HERE.parent / 'src'}:{HERE}"
     return {**os.environ, "PYTHONPATH": path, "SAGAS_PROGRAM": program()}
 
 
 def test_a_killed_programs_sagas_of_all_sets_go_on(place: str, tmp_path: pathlib.Path) -> None:
-    """What it said was begun is there, under its definition, and is done once."""
+    """Each acknowledged saga exists, under its definition, and is done once."""
     (file := tmp_path / "driver.py").write_text(textwrap.dedent(DRIVER.format(path=place)))
     began = []
     with subprocess.Popen(

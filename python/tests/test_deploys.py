@@ -1,4 +1,4 @@
-"""Nodes and clients of several releases beside each other: who takes which start."""
+"""Nodes and clients of several releases in parallel: which node takes which start."""
 
 from __future__ import annotations
 
@@ -15,7 +15,7 @@ from sagas.cli import store_command
 
 
 def release(*steps: str, keep: int = 0) -> sagas.Saga:
-    """A release of one saga: each step notes its name."""
+    """Return a release of one saga: each step notes its name."""
     kind = sagas.Saga("pair")
     for step in steps:
         kind.step(name=step, keep=keep)(lambda task: "done")
@@ -23,22 +23,23 @@ def release(*steps: str, keep: int = 0) -> sagas.Saga:
 
 
 def waiting(url: str) -> list[str]:
-    """The keys of the starts that no log has yet."""
+    """Return the keys of the starts that no log has yet."""
     with psycopg.connect(url) as link:
         rows = link.execute("SELECT key FROM sagas.pending_starts ORDER BY key").fetchall()
         return [key for (key,) in rows]
 
 
 def nodes(url: str, capsys: pytest.CaptureFixture[str], *words: str) -> str:
-    """What the command says of nodes."""
+    """Return the command's output about nodes."""
     assert store_command.main([url, "nodes", *words]) == 0
     return capsys.readouterr().out
 
 
 @pytest.mark.parametrize("plain", [False, True])
 def test_a_step_is_added(url: str, capsys: pytest.CaptureFixture[str], plain: bool) -> None:
-    """A client that has the new step starts a saga beside a node that has not: the node leaves it,
-    and both say so. A node that has the step takes it."""
+    """A client that has the new step starts a saga next to a node that has not: the node leaves it,
+    and both report that. A node that has the step takes it.
+    """
     old, new = release("a", "b"), release("a", "b", "c")
 
     async def started(client: sagas.Client) -> sagas.ClientRun:
@@ -75,8 +76,10 @@ def test_a_step_is_added(url: str, capsys: pytest.CaptureFixture[str], plain: bo
 
 
 def test_a_start_of_an_older_client(url: str, capsys: pytest.CaptureFixture[str]) -> None:
-    """A node with another definition leaves it too, until a client of the node's definition starts
-    it again. One of a release without digests, or of a client without steps, is taken by name."""
+    """A node with another definition leaves it too, until a client with the node's definition
+    starts it again. A start of a release without digests, or of a client without steps, is taken by
+    name.
+    """
     old, new, named = release("a"), release("a", keep=5), sagas.Saga("pair")
 
     async def main() -> None:
@@ -95,7 +98,7 @@ def test_a_start_of_an_older_client(url: str, capsys: pytest.CaptureFixture[str]
 
 
 def test_two_releases_side_by_side(url: str) -> None:
-    """Each start is begun by a node of its own definition, whichever is asked first."""
+    """A node with the same definition begins each start, whichever is asked first."""
     old, new = release("a", "b"), release("a", "b", "c")
 
     async def main() -> None:
@@ -109,7 +112,7 @@ def test_two_releases_side_by_side(url: str) -> None:
 
 
 def test_a_definition_with_a_fault_is_not_started(url: str) -> None:
-    """A client hears so at once: no node could have it."""
+    """A client gets the error at once: no node could have it."""
     kind: Any = release("a")
     kind.step(name="b", needs=["nobody"])(lambda task: 1)
 

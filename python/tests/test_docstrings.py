@@ -23,7 +23,7 @@ REFERENCE = pathlib.Path(__file__).resolve().parents[2] / "docs" / "reference"
 
 
 def names() -> Iterator[tuple[str, Any]]:
-    """Every public name that has a docstring of its own, and those of its class."""
+    """Return every public name that has its own docstring, and those of its class."""
     for module in (sagas, sagas.testing, sagas.celery):
         for name in module.__all__:
             thing, full = getattr(module, name), f"{module.__name__}.{name}".removeprefix("sagas.")
@@ -37,13 +37,13 @@ def names() -> Iterator[tuple[str, Any]]:
 
 
 def section(doc: str, word: str) -> set[str]:
-    """The names that a section of a docstring describes."""
+    """Return the names that a section of a docstring describes."""
     found = re.search(rf"^{word}:\n((?:    .*\n|\n)+)", doc + "\n", re.M)
     return set(re.findall(r"^    (\w+):", found[1], re.M)) if found else set()
 
 
 def described(thing: Any) -> set[str]:
-    """What a docstring describes, or one that it refers to."""
+    """Return what a docstring describes, or the docstring that it refers to."""
     doc = inspect.getdoc(thing) or ""
     if inspect.isclass(thing) and inspect.isfunction(vars(thing).get("__init__")):
         doc += "\n\n" + (inspect.getdoc(vars(thing)["__init__"]) or "")
@@ -54,7 +54,7 @@ def described(thing: Any) -> set[str]:
 
 
 def declared(kind: type) -> set[str]:
-    """The attributes of a class: its fields, and what its functions set."""
+    """Return the attributes of a class: its fields, and those that its functions set."""
     tree = ast.walk(ast.parse(inspect.getsource(kind)))
     sets = (it for it in tree if isinstance(it, ast.Attribute) and isinstance(it.ctx, ast.Store))
     found = {it.attr for it in sets if isinstance(it.value, ast.Name) and it.value.id == "self"}
@@ -75,7 +75,7 @@ def test_says_what_it_takes_and_raises(name: str, thing: Any) -> None:
 
 
 def row(word: str, page: str) -> bool:
-    """Whether a page of the reference has a row of a table for a name."""
+    """Return whether a page of the reference has a table row for a name."""
     return bool(re.search(rf"^\|[^|]*`{word}`.*\|$", (REFERENCE / page).read_text(), re.M))
 
 
@@ -94,7 +94,8 @@ def test_the_reference_has_each_exception_and_event() -> None:
 def test_examples_run(tmp_path: Any, monkeypatch: pytest.MonkeyPatch) -> None:
     monkeypatch.chdir(tmp_path)
     told, count = {"sagas": sagas, "asyncio": asyncio}, 0
-    for name, thing in sorted(names(), key=lambda it: it[0] != "Saga"):  # its order is the others'
+    # its order is that of the others
+    for name, thing in sorted(names(), key=lambda it: it[0] != "Saga"):
         for example in doctest.DocTestFinder(recurse=False).find(thing, name, globs=told):
             assert not doctest.DocTestRunner().run(example, clear_globs=False).failed, name
             told.update(example.globs)

@@ -1,4 +1,4 @@
-"""Reports that come before their step begins: stored, used once, and kept over whatever dies."""
+"""Reports that come before their step starts: stored, used once, and kept over any crash."""
 
 from __future__ import annotations
 
@@ -16,7 +16,7 @@ import sagas.testing
 
 
 def visit(calls: list[str] | None = None) -> sagas.Saga:
-    """An approval that opens the others: one, and a step that is done elsewhere."""
+    """Return a saga with an approval that opens the others: one more, and an external step."""
     saga, said = sagas.Saga("visit"), [] if calls is None else calls
 
     opened = saga.approval(name="open", backoff=QUICK)(lambda task: None)
@@ -35,7 +35,7 @@ def visit(calls: list[str] | None = None) -> sagas.Saga:
 
 
 async def asks(store: sagas.Store, step: str = "open") -> None:
-    """The step waits for somebody's word."""
+    """Wait until the step needs a report."""
     waits = ("approval", "worker")
     await until(
         lambda: [
@@ -45,8 +45,11 @@ async def asks(store: sagas.Store, step: str = "open") -> None:
 
 
 def test_it_is_stored_and_used(place: str, capsys: pytest.CaptureFixture[str]) -> None:
-    """Of an approval whose function is not called, and of a step that no worker gets; shown before,
-    gone afterwards; the same again is one report, another one conflicts, also at once."""
+    """An approval whose function is not called, and a step that no worker gets.
+
+    The report is listed before, and gone afterwards. The same report again is one, and another one
+    conflicts, also at the same time.
+    """
     calls, shell = list[str](), Shell(place, capsys)
     saga = visit(calls)
 
@@ -100,7 +103,7 @@ def test_it_is_stored_and_used(place: str, capsys: pytest.CaptureFixture[str]) -
 
 
 def test_a_failure_ends_it(place: str) -> None:
-    """A failure is permanent: no attempt is made again."""
+    """A failure is permanent: no other attempt is made."""
     saga = visit()
 
     async def main() -> None:
@@ -121,8 +124,11 @@ def test_a_failure_ends_it(place: str) -> None:
 def test_one_that_is_not_used_is_known_still(
     place: str, capsys: pytest.CaptureFixture[str]
 ) -> None:
-    """A saga that is undone takes no report of another step. The same one again is no error, and
-    another one conflicts: while it is undone, and once it is over, by Python and by the command."""
+    """A saga that is undone takes no report of another step.
+
+    The same report again is no error, and another one conflicts. This holds while it is undone and
+    once it is over, by Python and by the command.
+    """
     shell, gate, saga = Shell(place, capsys), asyncio.Event(), sagas.Saga("held")
 
     @saga.step
@@ -166,7 +172,7 @@ def test_one_that_is_not_used_is_known_still(
 
 
 def test_it_outlives_a_kill(place: str, capsys: pytest.CaptureFixture[str]) -> None:
-    """The next program, or another node, has it; a report that came by the command, too."""
+    """The next program, or another node, has it; so it is with a report by the command."""
     saga, shell = visit(), Shell(place, capsys)
     if (child := os.fork()) == 0:
 
@@ -185,7 +191,7 @@ def test_it_outlives_a_kill(place: str, capsys: pytest.CaptureFixture[str]) -> N
             await until(lambda: store.active_attempts("k"))
             beside = ("complete", "k", "flight", "--result", '"LH2"', "--no-early")
             told = await asyncio.to_thread(shell, *beside, status=1)
-            assert told == ""  # refused: the first one is stored, or it has not begun
+            assert told == ""  # refused: the first one is stored, or it has not started
             await store.complete("k", "open")
             assert (await store.wait("k", 60)).results["pack"] == [{"by": "ada"}, "LH1"]
 
@@ -193,7 +199,9 @@ def test_it_outlives_a_kill(place: str, capsys: pytest.CaptureFixture[str]) -> N
 
 
 def test_with_a_codec(place: str) -> None:
-    """What is stored is encoded; a program that cannot decode it leaves the attempt to another."""
+    """The stored report is encoded; a program that cannot decode it leaves the attempt to another
+    one.
+    """
 
     class Codec:
         def __init__(self, reads: bool = True) -> None:
@@ -234,7 +242,7 @@ def test_with_a_codec(place: str) -> None:
 
 
 def test_beside_the_beginning(place: str) -> None:
-    """Reports come while their steps begin: each counts, once, wherever its step is by then."""
+    """Reports come while their steps start: each counts once, whatever the state of its step."""
     saga = visit()
 
     async def main() -> None:
@@ -257,7 +265,7 @@ def test_beside_the_beginning(place: str) -> None:
 
 
 def test_from_elsewhere(url: str) -> None:
-    """A client's report, before a node has begun its saga, and another node's."""
+    """A client's report, before a node has started its saga, and another node's."""
     saga = visit()
 
     async def main() -> None:

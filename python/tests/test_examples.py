@@ -1,4 +1,4 @@
-"""The examples, each run as its head says, and what they print."""
+"""The examples, each run as its head says, and their output."""
 
 from __future__ import annotations
 
@@ -62,5 +62,5 @@ def test_an_example_runs(name: str) -> None:
 
 
 def test_each_example_is_tried() -> None:
-    """None without a word of what it prints."""
+    """Each has some expected output."""
     assert set(EXAMPLES) == set(SAYS)

@@ -1,4 +1,4 @@
-"""Attempts that are used up: they fail, ask a person or go on, over restarts and kills."""
+"""Exhausted attempts: they fail, need an operator or continue, over restarts and kills."""
 
 from __future__ import annotations
 
@@ -28,7 +28,9 @@ ASKS = AttentionReason.EXHAUSTED
 
 
 class Notes:
-    """A witness outside of the store: a file with a line for each call, and what fails still."""
+    """A witness outside of the store: a file with a line for each call, and the steps that still
+    fail.
+    """
 
     def __init__(self, folder: pathlib.Path) -> None:
         self.path, self.broken = folder / "calls", folder / "broken"
@@ -37,7 +39,7 @@ class Notes:
         """the call in which this process is killed"""
 
     def called(self, task: Task) -> None:
-        """Note it, before anything else; it fails as long as it is broken."""
+        """Note the call before anything else; it fails as long as the step is broken."""
         with open(self.path, "a") as file:
             file.write(f"{task.idempotency_key} {task.attempt}\n")
         if len(self.lines) == self.strike:
@@ -47,12 +49,12 @@ class Notes:
 
     @property
     def lines(self) -> list[str]:
-        """The calls."""
+        """Return the calls."""
         return self.path.read_text().splitlines() if self.path.exists() else []
 
 
 def order(notes: Notes, **words: Any) -> sagas.Saga:
-    """Charges and sends; the sending fails, and then the refund. By defaults alone."""
+    """Return a saga that charges and sends, with defaults; the send fails, and then the refund."""
     order = sagas.Saga("order")
 
     @order.step(keep=sagas.NEVER)
@@ -71,7 +73,7 @@ def order(notes: Notes, **words: Any) -> sagas.Saga:
 
 
 def alone(notes: Notes, **words: Any) -> sagas.Saga:
-    """One step, which fails as long as it is broken."""
+    """Return a saga of one step, which fails as long as it is broken."""
     saga = sagas.Saga("alone")
 
     @saga.step(name="a", backoff=words.pop("backoff", QUICK), undo=0, **words)
@@ -83,7 +85,7 @@ def alone(notes: Notes, **words: Any) -> sagas.Saga:
 
 
 def killed(place: str, kind: sagas.Saga, keys: list[str]) -> None:
-    """Start sagas in a process that is killed by one of their functions."""
+    """Start sagas in a process that one of their functions kills."""
     child = os.fork()
     if child == 0:
         try:
@@ -99,14 +101,14 @@ def killed(place: str, kind: sagas.Saga, keys: list[str]) -> None:
 
 
 async def asked(store: sagas.Store) -> list[sagas.Attention]:
-    """What waits for a person."""
+    """Return the attempts that need an operator."""
     return [one for one in await store.attention() if one.why is ASKS]
 
 
 def opened(
     place: str, kind: sagas.Saga, hook: Callable[[sagas.Event], object] | None = None
 ) -> Any:
-    """The next program: by its name it has its shards at once, and a case may block its loop."""
+    """Open the next program: by its name it has its shards at once, and a case may block its loop."""
     return sagas.open(place, [kind], node="one", lease=60, on_event=hook)
 
 
@@ -118,8 +120,9 @@ def opened(
 def test_a_refund_that_fails_asks(
     place: str, tmp_path: pathlib.Path, answer: str, strike: int
 ) -> None:
-    """By defaults alone: it is in the inbox and told, also where the program was killed as it was
-    called; a restart calls nothing again; one answer counts, and the same answer again is one."""
+    """With defaults, it is in the inbox and reported, also if the program was killed during the
+    call. A restart does not call it again; one answer counts, and the same answer again is one.
+    """
     notes, events = Notes(tmp_path), list[str]()
     notes.strike = strike
     kind = order(notes)
@@ -165,8 +168,10 @@ def test_a_refund_that_fails_asks(
 
 
 def test_a_step_asks_where_it_says_so(place: str, tmp_path: pathlib.Path) -> None:
-    """Each waits by itself, and is answered by itself or with all of a filter; `Fail` asks nobody;
-    one whose saga is aborted has failed."""
+    """Each waits by itself, and is answered by itself or with all of a filter.
+
+    `Fail` asks no operator; an attempt whose saga is aborted has failed.
+    """
     notes = Notes(tmp_path)
     kind = alone(notes, on_exhausted="ask", tries=2)
     keys = ["a", "b", "c", "d"]
@@ -184,7 +189,8 @@ def test_a_step_asks_where_it_says_so(place: str, tmp_path: pathlib.Path) -> Non
             assert await store.retry_all(saga="other") == 0 == await store.retry_all(step="b")
             await store.complete("c", "a", "by hand")
             assert (await runs[2].wait()).results == {"a": "by hand"}
-            assert await store.retry_all(limit=1) == 1  # it fails twice, and asks again
+            # it fails twice, and needs an operator again
+            assert await store.retry_all(limit=1) == 1
             await until(lambda: len(notes.lines) == 10)
             await until(lambda: counted(2))
             assert await store.fail_all("no", saga="alone", step="a") == 2
@@ -194,8 +200,10 @@ def test_a_step_asks_where_it_says_so(place: str, tmp_path: pathlib.Path) -> Non
 
 
 def test_a_step_that_asks_is_not_failed_by_another(place: str, tmp_path: pathlib.Path) -> None:
-    """A person was asked, and may do it by hand: what was done is undone. A step that is attempted
-    again by itself has failed."""
+    """An operator was asked, and may do it by hand: its effect is undone.
+
+    A step that is retried automatically has failed.
+    """
     notes, undone, kind = Notes(tmp_path), list[str](), sagas.Saga("three")
     asks = kind.step(notes.called, name="asks", tries=2, keep=9, on_exhausted="ask", backoff=QUICK)
     asks.compensation(lambda task: undone.append(task.result))
@@ -220,7 +228,7 @@ def test_a_step_that_asks_is_not_failed_by_another(place: str, tmp_path: pathlib
 
 
 def test_a_limit_counts_the_steps_that_are_meant(place: str) -> None:
-    """Others that have waited longer do not count."""
+    """Other steps that have waited longer do not count."""
     kind, opens = sagas.Saga("two"), set[str]()
 
     def once(task: Task) -> None:
@@ -248,7 +256,7 @@ def test_a_limit_counts_the_steps_that_are_meant(place: str) -> None:
 
 
 def test_how_often_it_failed(place: str, capsys: pytest.CaptureFixture[str]) -> None:
-    """Each failure is counted, and none of those before a person's retry."""
+    """Each failure is counted, and none of those before an operator's retry."""
     kind, pauses = sagas.Saga("often"), iter((0.01, 3600.0, 3600.0))
 
     @kind.step(tries=2, max_attempts=9)
@@ -273,8 +281,10 @@ def test_how_often_it_failed(place: str, capsys: pytest.CaptureFixture[str]) -> 
 def test_more_attempts_than_a_definition_has(
     place: str, tmp_path: pathlib.Path, more: dict[str, Any]
 ) -> None:
-    """They are counted over a kill: the call that was struck is made once more, and the one before
-    it is not counted where its row was on its way.
+    """They are counted over a kill.
+
+    The interrupted call is made again, and the one before it is not counted if its row was being
+    written.
     """
     notes = Notes(tmp_path)
     notes.strike = 6
@@ -298,8 +308,9 @@ def test_more_attempts_than_a_definition_has(
 
 
 def test_a_function_says_when(place: str, tmp_path: pathlib.Path) -> None:
-    """`RetryAfter` goes before the back-off, in attempts of the definition and behind them, and
-    before one of an earlier program."""
+    """`RetryAfter` precedes the back-off, in attempts of the definition and after them, and before
+    one of an earlier program.
+    """
     pauses = [0.01, 0.02, 0.03]
     saga, seen = sagas.Saga("soon"), list[float]()
 
@@ -325,7 +336,7 @@ def test_a_function_says_when(place: str, tmp_path: pathlib.Path) -> None:
 
 
 def test_work_of_a_worker(place: str) -> None:
-    """What an external worker reports as failed asks, too, and is offered again."""
+    """An external worker's failure also needs an operator, and is offered again."""
     saga = sagas.Saga("far")
     saga.step(name="a", external=True, undo=0, on_exhausted="ask")
     word = [("far", "a", "run")]
@@ -373,7 +384,7 @@ def test_from_elsewhere(url: str, tmp_path: pathlib.Path) -> None:
 
 
 def test_the_command(tmp_path: pathlib.Path, capsys: pytest.CaptureFixture[str]) -> None:
-    """What waits is listed, and retried one by one or all of a name."""
+    """Waiting attempts are listed, and retried one by one or all of a name."""
     notes, place = Notes(tmp_path), str(tmp_path / "store.db")
     kind = alone(notes, on_exhausted="ask")
 
@@ -422,7 +433,7 @@ def test_the_command(tmp_path: pathlib.Path, capsys: pytest.CaptureFixture[str])
 
 
 def all_asked(place: str, count: int) -> None:
-    """Wait, in the thread of the program, until so many commands are in the store."""
+    """Wait, in the thread of the program, until this many commands are in the store."""
     end = time.monotonic() + 60
     with contextlib.closing(admin.connect(place)) as link:
         while link.ask("SELECT count(*) FROM operator_commands WHERE answer IS NULL") != [(count,)]:
@@ -433,7 +444,7 @@ def all_asked(place: str, count: int) -> None:
 def test_the_command_reports_all(
     place: str, tmp_path: pathlib.Path, capsys: pytest.CaptureFixture[str]
 ) -> None:
-    """A count first; then each of the filter alone has the result, or has failed."""
+    """A count comes first; then each attempt of the filter has the result, or has failed."""
     notes = Notes(tmp_path)
     kind, lots = alone(notes, on_exhausted="ask"), {"x": "done", "y": "failed", "z": "left"}
 
@@ -461,9 +472,8 @@ def test_the_command_reports_all(
             words = [*done, "--yes", "--note", "seen", "--timeout", "60"]
             job = asyncio.create_task(asyncio.to_thread(said, *words))
             await asyncio.sleep(0)
-            all_asked(
-                place, 2
-            )  # while nothing here can answer: no step waits for another one's answer
+            # while no command here can be answered: no step waits for another one's answer
+            all_asked(place, 2)
             assert sorted((await job).splitlines()) == ["x-0: a succeeded", "x-1: a succeeded"]
             told = json.loads(await asyncio.to_thread(said, *failed, "--yes", "--json"))
             entry = {"step": "a", "kind": "run", "asked": "fail", "answer": True}
@@ -492,7 +502,7 @@ def test_the_command_reports_all(
 
 
 def test_in_a_simulation() -> None:
-    """A test says what a person answers; without an answer it is told what to say."""
+    """A test gives the operator's answer; without one, the error says what to give."""
     saga = sagas.Saga("order")
 
     @saga.step(keep=sagas.NEVER)

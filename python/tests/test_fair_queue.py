@@ -1,4 +1,4 @@
-"""The threads of a service are shared by who asks, by what the work of each costs."""
+"""Callers share the threads of a service by the cost of their work."""
 
 from __future__ import annotations
 
@@ -18,7 +18,9 @@ def done(queue: FairQueue[str], name: str, seconds: float, computed: float = 0.0
 
 
 def test_each_has_the_same_time() -> None:
-    """A maker with much work that takes long, and one with little: whoever has had least is next."""
+    """One caller has much slow work, and one has little: the caller that has had the least time is
+    next.
+    """
     queue: FairQueue[str] = FairQueue(1, set())
     for number in range(100):
         queue.put("evil", f"e{number}")
@@ -35,7 +37,10 @@ def test_each_has_the_same_time() -> None:
 
 
 def test_who_takes_long_leaves_a_thread() -> None:
-    """To the others, also where it came first; where each piece is short, it may have all."""
+    """The others get it, even if the slow one came first.
+
+    If each piece is short, one caller may have all threads.
+    """
     queue: FairQueue[str] = FairQueue(3, set())
     for _ in range(10):
         queue.put("evil", "e")
@@ -45,14 +50,14 @@ def test_who_takes_long_leaves_a_thread() -> None:
         done(queue, name, 1.0 if name == "evil" else LONG / 100)
     while (found := queue.take()) and found[0] == "quick":
         done(queue, "quick", LONG / 100)
-    assert found and found[0] == "evil"  # nobody else is left
+    assert found and found[0] == "evil"  # no other caller is left
     assert queue.take() and queue.take() is None
     queue.put("other", "o")
     assert queue.take() == ("other", "o")
 
 
 def test_who_computes_has_one_thread_of_all() -> None:
-    """Of two kinds of threads, until that is over."""
+    """It is one of two kinds of threads, until the computation is over."""
     computing: set[str] = set()
     reads: FairQueue[str] = FairQueue(2, computing)
     answers: FairQueue[str] = FairQueue(2, computing)
@@ -74,8 +79,9 @@ MAKERS = st.sampled_from("abcd")
 
 @given(st.lists(st.tuples(MAKERS, st.floats(0.0, 1.0)), max_size=60), st.integers(1, 3))
 def test_all_is_done_in_order(jobs: list[tuple[str, float]], threads: int) -> None:
-    """Whatever there is, all of it is taken once, that of each maker in its order, and never by more
-    threads than there are."""
+    """All work is taken once, that of each caller in its order, and never by more threads than
+    there are.
+    """
     queue: FairQueue[tuple[int, float]] = FairQueue(threads, set())
     for number, (name, seconds) in enumerate(jobs):
         queue.put(name, (number, seconds))
@@ -96,8 +102,10 @@ def test_all_is_done_in_order(jobs: list[tuple[str, float]], threads: int) -> No
 
 
 def test_a_pool() -> None:
-    """Many pieces of one maker hold up one of another for no more than one of them; what raises, or
-    is not waited for any more, holds up nothing."""
+    """Many pieces of one caller delay one of another for at most one piece.
+
+    A piece that raises, or has no caller any more, delays nothing.
+    """
 
     async def main() -> None:
         pool = Pool("trial", [], set(), count=1)

@@ -1,4 +1,4 @@
-"""What can go wrong, and what it does: one case for each, with real processes where there are some."""
+"""One test for each possible error, with real processes if there are some."""
 
 from __future__ import annotations
 
@@ -52,7 +52,7 @@ HERE = pathlib.Path(__file__).resolve().parent
 
 
 def script(path: pathlib.Path, text: str, *words: str) -> subprocess.Popen[str]:
-    """Starts a Python program, with the package and the tests in its path."""
+    """Start a Python program, with the package and the tests in its path."""
     path.write_text(textwrap.dedent(text))
     environment = os.environ | {
         "PYTHONPATH": f"{HERE.parent / 'src'}{os.pathsep}{HERE}",
@@ -67,7 +67,9 @@ def script(path: pathlib.Path, text: str, *words: str) -> subprocess.Popen[str]:
 
 
 def test_is_killed_with_the_program(tmp_path: pathlib.Path, place: str) -> None:
-    """What ran runs again with the same token; what had ended does not; what was told is there."""
+    """Running attempts run again with the same token, finished ones do not, and acknowledged ones
+    exist.
+    """
     program = f"""
         import asyncio, os, sagas, signal, sys
         saga = sagas.Saga("killed")
@@ -99,7 +101,7 @@ def test_is_killed_with_the_program(tmp_path: pathlib.Path, place: str) -> None:
 
 
 def test_serves_without_async_until_it_is_told_to_end(tmp_path: pathlib.Path) -> None:
-    """Then the store is closed, and what ran has ended before."""
+    """Then the store is closed, and running functions have ended before."""
     program = f"""
         import os, sagas, signal, time
         saga = sagas.Saga("served")
@@ -124,12 +126,14 @@ def test_serves_without_async_until_it_is_told_to_end(tmp_path: pathlib.Path) ->
     )
 
 
-# -- two programs, forks, the child --------------------------------------------------------------------------------
+# -- two programs, forks, the child
 
 
 @pytest.mark.parametrize("is_link", [False, True], ids=["by its path", "by a link"])
 def test_two_programs_open_one_store(tmp_path: pathlib.Path, is_link: bool) -> None:
-    """The second gets StoreLocked, from the same process and from another; when the first is killed, it gets the store."""
+    """The second one gets StoreLocked, from the same process and from another; when the first is
+    killed, it gets the store.
+    """
     path = tmp_path / "store.db"
     if is_link:
         path = tmp_path / "link.db"
@@ -173,7 +177,7 @@ def test_two_programs_open_one_store(tmp_path: pathlib.Path, is_link: bool) -> N
 
 
 def test_a_store_of_two_names(tmp_path: pathlib.Path) -> None:
-    """It is not opened: SQLite would have a WAL for each. A copy is."""
+    """It is not opened: SQLite would have a WAL for each name. A copy is."""
     saga = simple(lambda task: 1)
 
     async def main() -> None:
@@ -192,7 +196,9 @@ def test_a_store_of_two_names(tmp_path: pathlib.Path) -> None:
 
 
 def test_a_look_is_no_program(tmp_path: pathlib.Path, monkeypatch: pytest.MonkeyPatch) -> None:
-    """A command that looks whether a program has the store open is not taken for one by another command, and a program that opens waits for it."""
+    """A command that checks whether a program has the store open is not taken for a program by
+    another command, and a program that opens waits for it.
+    """
     saga = simple(lambda task: 1)
 
     async def main() -> None:
@@ -239,7 +245,7 @@ def test_a_database_of_another_program(
 
 
 def test_a_store_that_is_cut(tmp_path: pathlib.Path, capsys: pytest.CaptureFixture[str]) -> None:
-    """`migrate` says that it is no store any more, and leaves no lock."""
+    """`migrate` says that it is not a store any more, and leaves no lock."""
     saga, path = simple(lambda task: 1), tmp_path / "store.db"
 
     async def main() -> None:
@@ -255,10 +261,10 @@ def test_a_store_that_is_cut(tmp_path: pathlib.Path, capsys: pytest.CaptureFixtu
 
 
 def test_a_log_handler_raises(place: str, capsys: pytest.CaptureFixture[str]) -> None:
-    """It stops no saga: each is told of, and what was raised goes to standard error."""
+    """It stops no saga: each is reported, and the exception goes to standard error."""
 
     class Raising(logging.Handler):
-        """A filter that looks for what is there within a request alone, say."""
+        """A filter that needs something that exists only within a request, for example."""
 
         def emit(self, record: logging.LogRecord) -> None:
             raise LookupError("no request here")
@@ -291,7 +297,7 @@ exec {program} "$@"
 def test_an_audit_is_killed(
     tmp_path: pathlib.Path, place: str, monkeypatch: pytest.MonkeyPatch
 ) -> None:
-    """It has said nothing of the log, which is audited again, and is closed as a good one."""
+    """It has reported nothing about the log, which is audited again, and is closed as a valid one."""
     monkeypatch.setattr("sagas.definition.shelf.SHARD_CAPACITY", 2)
     killed, once, told = tmp_path / "killed", tmp_path / "once", list[str]()
     killed.write_text(KILLED_ONCE.format(once=once, program=program()))
@@ -319,7 +325,9 @@ def test_an_audit_is_killed(
 def test_a_file_that_is_deleted_under_the_program(
     tmp_path: pathlib.Path, name: str, caplog: pytest.LogCaptureFixture
 ) -> None:
-    """Nothing is told any more that nobody would find: who starts a saga hears why, and the log says it once."""
+    """No call succeeds any more whose result would be lost: a caller that starts a saga gets the
+    reason, and the log has it once.
+    """
     saga = simple(lambda task: 1)
 
     async def main() -> None:
@@ -338,7 +346,9 @@ def test_a_file_that_is_deleted_under_the_program(
 def test_a_file_that_is_replaced_under_the_program(
     tmp_path: pathlib.Path, monkeypatch: pytest.MonkeyPatch, large: bool
 ) -> None:
-    """The next commit is refused, in the loop and in the writer's thread: nobody had the time to look for the file."""
+    """The next commit is refused, in the loop and in the writer's thread: there was no time to look
+    for the file.
+    """
     monkeypatch.setattr("sagas.storage.sqlite.storage.LOOK", 3600)
     if large:
         monkeypatch.setattr("sagas.storage.sqlite.writer.AT_ONCE", 0.0)
@@ -364,7 +374,9 @@ def test_a_file_that_is_replaced_under_the_program(
 
 
 def test_the_lock_is_deleted(tmp_path: pathlib.Path, caplog: pytest.LogCaptureFixture) -> None:
-    """It is made again, and the store goes on; where another program was faster, nothing is written any more."""
+    """It is made again, and the store continues; if another program was faster, nothing is written
+    any more.
+    """
     saga, lock = simple(lambda task: 1), tmp_path / "store.db.lock"
 
     async def main() -> None:
@@ -390,7 +402,7 @@ def test_the_lock_is_deleted(tmp_path: pathlib.Path, caplog: pytest.LogCaptureFi
 def test_the_program_goes_elsewhere(
     tmp_path: pathlib.Path, monkeypatch: pytest.MonkeyPatch
 ) -> None:
-    """A store of a relative path stays where it was opened, also what it opens later."""
+    """A store of a relative path stays where it was opened, also for later files."""
     saga = sagas.Saga("row")
     saga.step(name="a", rate_limit=(100, 1))(lambda task: 1)
     (tmp_path / "there").mkdir()
@@ -407,7 +419,7 @@ def test_the_program_goes_elsewhere(
 
 
 def test_an_older_copy_in_place_of_the_store(tmp_path: pathlib.Path) -> None:
-    """What was open goes on under its tokens; those of sagas that are lost are given to no other."""
+    """Its open sagas continue under their tokens; no other saga gets the tokens of lost ones."""
     saga, whose, waits = sagas.Saga("row"), defaultdict[str, set[str]](set), ["open"]
 
     @saga.step
@@ -443,7 +455,10 @@ def test_an_older_copy_in_place_of_the_store(tmp_path: pathlib.Path) -> None:
 
 @pytest.mark.parametrize("times", [1, 2])
 def test_ctrl_c(tmp_path: pathlib.Path, times: int) -> None:
-    """One closes the store behind what runs, which is kept; a second one ends the program, and what ran runs again under its token."""
+    """One closes the store after the running functions, whose results are kept.
+
+    A second one ends the program, and these functions run again under their tokens.
+    """
     path, go = tmp_path / "store.db", tmp_path / "go"
     text = f"""
         import asyncio, os, sagas, signal
@@ -480,9 +495,8 @@ def test_ctrl_c(tmp_path: pathlib.Path, times: int) -> None:
         if times == 1:
             go.touch()
             process.wait(60)
-        for _ in range(
-            60 if times == 2 else 0
-        ):  # one that comes while the function has its turn is raised there
+        # one that comes while the function has its turn is raised there
+        for _ in range(60 if times == 2 else 0):
             process.send_signal(signal.SIGINT)
             with contextlib.suppress(subprocess.TimeoutExpired):
                 process.wait(1)
@@ -496,7 +510,9 @@ MONTH = datetime.timedelta(days=30)
 
 
 def test_what_is_no_file(tmp_path: pathlib.Path) -> None:
-    """What users of other programs give as a store, folders, and numbers that are none: told before anything is made."""
+    """These are names that users of other programs give as a store, folders, and invalid numbers:
+    the error comes before anything is made.
+    """
     saga = simple(lambda task: 1)
     (tmp_path / "folder").mkdir()
     names = {
@@ -589,7 +605,7 @@ async def heard(event: sagas.Event) -> None:
 def test_what_a_store_is_not_opened_with(
     tmp_path: pathlib.Path, words: dict[str, Any], kind: type[Exception], text: str
 ) -> None:
-    """Each is refused at once, by its word, and nothing is made or locked."""
+    """Each is refused at once, by its name, and nothing is made or locked."""
     for way in (sagas.open, sagas.open_sync):
         with pytest.raises(kind, match=f"^{text}"):
             way(tmp_path / "store.db", [simple(lambda task: 1)], **words)
@@ -619,7 +635,7 @@ def test_times_of_a_store(tmp_path: pathlib.Path) -> None:
 
 
 def test_the_other_kind_of_with(tmp_path: pathlib.Path) -> None:
-    """`with` and `async with` each say what is meant, and nothing is locked by it."""
+    """`with` and `async with` each say which one is meant, and neither locks anything."""
     saga = simple(lambda task: 1)
     path = tmp_path / "store.db"
     for name in (path, "postgresql://a@127.0.0.1/b"):
@@ -676,7 +692,10 @@ def test_a_function_forks(place: str) -> None:
 
 
 def test_a_store_in_a_forked_child(place: str) -> None:
-    """With async and without it says at once that it is another process's, and its closing there does nothing to that one's."""
+    """With async and without it, it raises at once that it is another process's.
+
+    Closing it there does not affect that one.
+    """
     saga = simple(lambda task: 1)
     text = "was opened in another process, before a fork. Create and open one in this process"
 
@@ -714,7 +733,7 @@ def test_a_store_in_a_forked_child(place: str) -> None:
 
 
 def test_a_program_that_forks_under_an_open_store(tmp_path: pathlib.Path, place: str) -> None:
-    """The child ends as a program does, and frees what it has of the store: the parent goes on."""
+    """The child ends as a program does, and frees its part of the store: the parent continues."""
     program = f"""
         import os, sagas, sys
         saga = sagas.Saga("simple")
@@ -741,7 +760,9 @@ def test_a_program_that_forks_under_an_open_store(tmp_path: pathlib.Path, place:
 
 
 def test_a_store_that_is_entered_twice(place: str) -> None:
-    """The second entry is an error that says so, and the first goes on; one that was closed is opened again."""
+    """The second entry is an error that says so, and the first one continues; a closed store is
+    opened again.
+    """
     saga = simple(lambda task: 1)
 
     async def main() -> None:
@@ -767,7 +788,9 @@ def test_a_store_that_is_entered_twice(place: str) -> None:
 
 @pytest.mark.parametrize("in_thread", [False, True])
 def test_a_fork_that_comes_back(place: str, in_thread: bool) -> None:
-    """A function forks, and its child returns from it too: the child ends there, and does nothing to the saga."""
+    """A function forks, and its child returns from it too: the child ends there, and does nothing
+    to the saga.
+    """
     children_of_functions: list[int] = []
 
     def fork(task: Task) -> str:
@@ -795,7 +818,9 @@ def test_a_fork_that_comes_back(place: str, in_thread: bool) -> None:
 
 
 def test_a_fork_that_comes_back_calls_nothing_else(place: str, tmp_path: pathlib.Path) -> None:
-    """Of functions that are called in a row one forks: its child ends before the next one is called, and nothing that it did counts."""
+    """One of the functions that are called in a row forks: its child ends before the next one is
+    called, and none of its work counts.
+    """
     called = tmp_path / "called"
     ends_of_children: list[int] = []
 
@@ -819,7 +844,7 @@ def test_a_fork_that_comes_back_calls_nothing_else(place: str, tmp_path: pathlib
 
 
 def test_the_child_is_killed_again_and_again(place: str) -> None:
-    """It is started again from the database; what was asked and not committed never was."""
+    """It is started again from the database; uncommitted requests never happened."""
     tokens: Counter[str] = Counter()
 
     async def main() -> None:
@@ -837,7 +862,10 @@ def test_the_child_is_killed_again_and_again(place: str) -> None:
             return task.result_of(a) + 1
 
         async def surely_new(store: sagas.Store, key: str) -> sagas.SagaResult:
-            """One that is refused, as its shard is killed while it is read, has started nothing."""
+            """Start a saga until it succeeds.
+
+            A start that is refused, as its shard is killed while it is read, has started nothing.
+            """
             while True:
                 try:
                     run = await store.start(saga, key)
@@ -858,14 +886,13 @@ def test_the_child_is_killed_again_and_again(place: str) -> None:
             assert {end.results["b"] for end in await asyncio.gather(*work)} == {2}
 
     run(main())
-    assert len(tokens) == 120 and set(tokens.values()) == {
-        1
-    }  # this program lived: each function was called once
+    # this program was not killed: each function was called once
+    assert len(tokens) == 120 and set(tokens.values()) == {1}
 
 
 @contextlib.contextmanager
 def no_descriptors() -> Iterator[None]:
-    """This process can open no further file, until the block ends."""
+    """Prevent this process from opening files until the block ends."""
     limits = resource.getrlimit(resource.RLIMIT_NOFILE)
     resource.setrlimit(resource.RLIMIT_NOFILE, (3, limits[1]))
     try:
@@ -876,7 +903,7 @@ def no_descriptors() -> Iterator[None]:
 
 @pytest.mark.parametrize("idle", [0.01, 60], ids=["let go", "killed"])
 def test_the_child_cannot_be_started_for_a_while(place: str, idle: float) -> None:
-    """Who starts a saga meanwhile is told; once it can be started, its log goes on."""
+    """Callers that start a saga get the error; once it can be started, its log continues."""
 
     async def main() -> None:
         saga, others = simple(lambda task: task.key), set(children(os.getpid()))
@@ -902,7 +929,7 @@ def test_the_child_cannot_be_started_for_a_while(place: str, idle: float) -> Non
 
 
 def test_the_child_hangs(place: str, monkeypatch: pytest.MonkeyPatch) -> None:
-    """One that does not answer for long is ended, and another one goes on with its log."""
+    """An engine that does not reply for long is ended, and another one continues with its log."""
     monkeypatch.setattr("sagas.engine.process.HUNG", 0.5)
     saga, others = simple(lambda task: 1), set(children(os.getpid()))
 
@@ -943,7 +970,7 @@ for line in sys.stdin.buffer:
 def test_the_child_dies_between_log_and_reply(
     tmp_path: pathlib.Path, place: str, event: str
 ) -> None:
-    """It has decided, and dies before it says so: the outcome is reported again, for the attempt that it is of."""
+    """It has decided, and dies before it replies: the outcome is reported again, for its attempt."""
     between, once = tmp_path / "between", tmp_path / "once"
     between.write_text(BETWEEN.format(program=program(), event=event, once=str(once)))
     between.chmod(0o755)
@@ -987,14 +1014,16 @@ def test_the_child_dies_between_log_and_reply(
     assert max(Counter(calls).values()) == 1
 
 
-# -- functions -------------------------------------------------------------------------------------------------------
+# -- functions
 
 
 @pytest.mark.parametrize("refused", ["other-attempt", "no-such-step"])
 def test_a_report_that_the_child_does_not_know(
     place: str, monkeypatch: pytest.MonkeyPatch, caplog: pytest.LogCaptureFixture, refused: str
 ) -> None:
-    """The log is begun again from the store; what the function returned is reported then, and it is not called again."""
+    """The log is recovered from the store; then the function's result is reported, and it is not
+    called again.
+    """
     right, spoilt = protocol.report_line, 0
 
     def report_line(saga: int, step: int, task: str, attempt: int, ok: bool) -> str:
@@ -1020,7 +1049,9 @@ def test_a_report_that_the_child_does_not_know(
 
 
 def test_a_function_hangs(place: str) -> None:
-    """Nobody knows what it did: the same attempt again, with the same token; nobody else waits for it."""
+    """Its outcome is unknown: the same attempt runs again, with the same token; no other saga waits
+    for it.
+    """
     tokens: list[str] = []
 
     async def main() -> None:
@@ -1042,7 +1073,7 @@ def test_a_function_hangs(place: str) -> None:
 
 
 def test_a_thread_ends_after_its_time(place: str) -> None:
-    """A thread that ends well after its time is done, and is not called again."""
+    """A thread that ends well after its time has succeeded, and is not called again."""
     calls: list[int] = []
 
     def late(task: Task) -> int:
@@ -1060,7 +1091,7 @@ def test_a_thread_ends_after_its_time(place: str) -> None:
 
 
 def test_a_function_blocks_the_loop(place: str) -> None:
-    """All else is late, and nothing is lost."""
+    """Everything else is late, and nothing is lost."""
 
     async def block(task: Task) -> int:
         time.sleep(0.2)
@@ -1084,7 +1115,9 @@ ODD = (SystemExit, KeyboardInterrupt, GeneratorExit, asyncio.CancelledError, Sto
 def test_a_function_raises_what_it_should_not(
     place: str, kind: type[BaseException], in_thread: bool
 ) -> None:
-    """The program goes on; the attempt is made again with its token, or fails where that was an exception as others are."""
+    """The program continues; the attempt is made again with its token, or fails if the exception is
+    an ordinary one.
+    """
     tokens: list[str] = []
 
     def odd(task: Task) -> int:
@@ -1105,11 +1138,11 @@ def test_a_function_raises_what_it_should_not(
     assert len(tokens) == 2 and len(set(tokens)) == 1
 
 
-# -- clocks, disks, closing ------------------------------------------------------------------------------------------
+# -- clocks, disks, closing
 
 
 class Jumping:
-    """A clock that can be put forward and back."""
+    """A clock that can be set forward and back."""
 
     def __init__(self) -> None:
         self.by = 0.0
@@ -1120,7 +1153,9 @@ class Jumping:
 
 @pytest.mark.parametrize("jump", [-7 * 86400.0, 7 * 86400.0])
 def test_a_clock_that_jumps(place: str, jump: float) -> None:
-    """It is put forward or back by a week between tries and programs: nothing waits a week, and nothing is made again."""
+    """It is set forward or back by a week between tries and programs: no attempt waits a week, and
+    none is repeated.
+    """
     clock, calls = Jumping(), Counter[str]()
 
     async def fails(task: Task) -> int:
@@ -1165,7 +1200,7 @@ def test_a_wait_is_over_while_nothing_runs(place: str) -> None:
 
 @contextlib.contextmanager
 def full(size: int = 1) -> Iterator[None]:
-    """No file of this program is written behind so many bytes."""
+    """Limit the files of this program to this many bytes."""
     least, most = resource.getrlimit(resource.RLIMIT_FSIZE)
     resource.setrlimit(resource.RLIMIT_FSIZE, (size, most))
     try:
@@ -1175,7 +1210,9 @@ def full(size: int = 1) -> Iterator[None]:
 
 
 def test_the_disk_is_full(tmp_path: pathlib.Path) -> None:
-    """`start` raises StoreUnavailable and nothing was begun; results wait for room; nothing is called twice by this program."""
+    """`start` raises StoreUnavailable and nothing was started; results wait for space; this program
+    calls no function twice.
+    """
     calls: Counter[str] = Counter()
     gate = asyncio.Event()
 
@@ -1204,7 +1241,7 @@ def test_the_disk_is_full(tmp_path: pathlib.Path) -> None:
 def test_the_command_on_a_full_disk(
     tmp_path: pathlib.Path, capsys: pytest.CaptureFixture[str], words: tuple[str, ...]
 ) -> None:
-    """It says what the disk says, and not that the file is no store."""
+    """It reports the disk's error, and not that the file is not a store."""
     saga, place = simple(lambda task: 1), tmp_path / "store.db"
 
     async def main() -> None:
@@ -1223,8 +1260,10 @@ def test_the_command_on_a_full_disk(
 
 @pytest.mark.parametrize("size", [None, 1 << 20])
 def test_the_wal_is_as_long_as_it_becomes(tmp_path: pathlib.Path, size: int | None) -> None:
-    """From the opening on, so that no commit has to lengthen it; where there is no room for that, it grows with what is written. A store that is opened
-    again behind a kill finds what was written before the zeros."""
+    """It has its size from the opening on, so that no commit has to lengthen it; if there is no
+    space for that, it grows with the data. A store that is opened again after a kill finds the data
+    before the zeros.
+    """
     saga, wal = simple(lambda task: 1), tmp_path / "store.db-wal"
 
     async def main() -> None:
@@ -1241,9 +1280,8 @@ def test_the_wal_is_as_long_as_it_becomes(tmp_path: pathlib.Path, size: int | No
                     assert (await ended(store, saga, f"k{number}")).ok
                 assert size or wal.stat().st_size == length
                 (tmp_path / "copy").mkdir()
-                subprocess.run(
-                    ["cp", tmp_path / "store.db", wal, tmp_path / "copy"], check=True
-                )  # as a machine that fails leaves them
+                # as a machine that fails leaves them
+                subprocess.run(["cp", tmp_path / "store.db", wal, tmp_path / "copy"], check=True)
         async with sagas.open(tmp_path / "copy" / "store.db", [saga]) as store:
             assert len(await store.list(phase="completed")) == 21
             assert not (await store.start(saga, "k7")).new
@@ -1271,16 +1309,15 @@ def test_a_commit_fails_again_and_again(
             going = await store.start(saga, "k")
             with full():
                 gate.set()
-                await until(
-                    lambda: tries["commit_failed"] + tries["engine_died"] > 12, 30
-                )  # with pauses that went on growing, minutes
+                # with growing pauses, minutes
+                await until(lambda: tries["commit_failed"] + tries["engine_died"] > 12, 30)
             assert (await going.wait()).ok
 
     run(main())
 
 
 def test_a_failure_for_good_is_not_kept_at_first(tmp_path: pathlib.Path) -> None:
-    """The commit that has it fails: it is reported again, and the step is not called again."""
+    """Its commit fails: the failure is reported again, and the step is not called again."""
     gate, told, calls = asyncio.Event(), Counter[str](), list[int]()
     saga = sagas.Saga("one")
 
@@ -1306,7 +1343,9 @@ def test_a_failure_for_good_is_not_kept_at_first(tmp_path: pathlib.Path) -> None
 
 
 def test_closing(place: str) -> None:
-    """Nothing new begins, what runs ends and is kept, who still waits gets Closed; the next program goes on."""
+    """No attempt starts, running functions end and their results are stored, waiting callers get
+    Closed; the next program continues.
+    """
     begun, gate = asyncio.Event(), asyncio.Event()
     calls: list[str] = []
     saga = sagas.Saga("row")
@@ -1346,7 +1385,9 @@ def test_closing(place: str) -> None:
 def test_closing_writes_what_waits_for_a_commit(
     place: str, monkeypatch: pytest.MonkeyPatch
 ) -> None:
-    """Also if nobody waits for it any more: no commit fails because the database is closed."""
+    """This holds also if no caller waits for it any more: no commit fails because the database is
+    closed.
+    """
     told: list[sagas.Event] = []
     monkeypatch.setattr("sagas.storage.sqlite.writer.AT_ONCE", 0.0)
 
@@ -1365,7 +1406,7 @@ def test_closing_writes_what_waits_for_a_commit(
 def test_an_abort_of_a_saga_that_ends_is_answered(
     place: str, monkeypatch: pytest.MonkeyPatch
 ) -> None:
-    """Also if its shard is closed meanwhile."""
+    """This holds also if its shard is closed in the meantime."""
     monkeypatch.setattr("sagas.definition.shelf.SHARD_CAPACITY", 1)
     jobs: list[asyncio.Task[bool]] = []
 
@@ -1385,7 +1426,9 @@ def test_an_abort_of_a_saga_that_ends_is_answered(
 
 
 def test_closing_while_starts_wait(place: str, monkeypatch: pytest.MonkeyPatch) -> None:
-    """Sagas that wait for a log, and logs that wait for a child, keep nobody: who was not told of a start gets Closed."""
+    """Sagas that wait for a log, and logs that wait for an engine, do not delay it: callers whose
+    start was not acknowledged get Closed.
+    """
     monkeypatch.setattr("sagas.definition.shelf.SHARD_CAPACITY", 4)
     saga = sagas.Saga("pair")
     begun, gate = asyncio.Event(), asyncio.Event()
@@ -1422,7 +1465,7 @@ def test_closing_while_starts_wait(place: str, monkeypatch: pytest.MonkeyPatch) 
 def test_closing_says_what_it_waits_for(
     tmp_path: pathlib.Path, caplog: pytest.LogCaptureFixture, monkeypatch: pytest.MonkeyPatch
 ) -> None:
-    """A function that runs for long: closing waits for its end, and says so."""
+    """A function runs for long: closing waits for its end, and logs that."""
     monkeypatch.setattr(coordinator, "QUIET", 0.01)
 
     async def main() -> None:
@@ -1449,7 +1492,9 @@ def test_closing_says_what_it_waits_for(
 
 @pytest.mark.parametrize("seconds", [None, 0])
 def test_closing_goes_on_where_its_caller_is_cancelled(place: str, seconds: int | None) -> None:
-    """A further call waits for that, or cancels what runs; then the store is free for others. Who waits until no saga is open hears that it is closed."""
+    """A further call waits for that, or cancels the running functions; then the store is free for
+    other programs. A caller that waits until no saga is open is notified that it is closed.
+    """
     begun, gate, calls = asyncio.Event(), asyncio.Event(), list[str]()
 
     async def slow(task: Task) -> int:
@@ -1491,7 +1536,9 @@ def test_closing_goes_on_where_its_caller_is_cancelled(place: str, seconds: int 
 def test_a_retry_that_cannot_be_stored_hears_that_the_store_is_closed(
     tmp_path: pathlib.Path, monkeypatch: pytest.MonkeyPatch
 ) -> None:
-    """Another program holds the file: nothing is written until the store is closed, and who asked is not left alone."""
+    """Another program holds the file: nothing is written until the store is closed, and the caller
+    gets an error.
+    """
     monkeypatch.setattr(writer, "BUSY", 20)
     failed = asyncio.Event()
 
@@ -1522,7 +1569,9 @@ def test_a_retry_that_cannot_be_stored_hears_that_the_store_is_closed(
 
 
 def test_a_closing_that_is_refused_closes_nothing(tmp_path: pathlib.Path) -> None:
-    """Without async: with a time that is none, or in the store's own thread, which would wait for itself."""
+    """Without async: with an invalid time, or in the store's own thread, which would wait for
+    itself.
+    """
     said: list[str] = []
 
     async def closes(task: Task) -> int:
@@ -1542,7 +1591,7 @@ def test_a_closing_that_is_refused_closes_nothing(tmp_path: pathlib.Path) -> Non
 
 
 def test_closing_cancels_after_its_grace(place: str) -> None:
-    """What was cancelled runs again, with its token, when the store is opened again."""
+    """A cancelled function runs again, with its token, when the store is opened again."""
     tokens: list[str] = []
 
     async def hang(task: Task) -> int:
@@ -1565,7 +1614,9 @@ def test_closing_cancels_after_its_grace(place: str) -> None:
 
 @pytest.mark.parametrize("must", [False, True])
 def test_a_compensation_fails_for_good(place: str, must: bool) -> None:
-    """The plan goes on with the step fixed; or no plan is left, and the saga is stuck with its chain until a person resolves it."""
+    """The plan continues with the step kept; or no plan is left, and the saga is stuck with its
+    chain until an operator resolves it.
+    """
     saga = sagas.Saga("row")
 
     @saga.step(keep=sagas.NEVER if must else 5)

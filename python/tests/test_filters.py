@@ -1,4 +1,4 @@
-"""Filters select the same over both databases, and say what may be misspelt in them."""
+"""Filters select the same over both databases, and errors name misspelt parts of them."""
 
 from __future__ import annotations
 
@@ -76,7 +76,7 @@ def ask(task: Task) -> None:
 
 
 async def ask_people(store: sagas.Store, count: int) -> None:
-    """Wait until so many attempts are used up."""
+    """Wait until this many attempts are used up."""
 
     async def is_there() -> bool:
         return len(await store.attention()) == count
@@ -85,7 +85,7 @@ async def ask_people(store: sagas.Store, count: int) -> None:
 
 
 def definitions() -> dict[str, sagas.Saga]:
-    """One fails for good, one asks a person, and one goes on."""
+    """Return sagas: one fails permanently, one needs an operator, and one continues."""
     fails, asks, waits = sagas.Saga("fails"), sagas.Saga("asks"), sagas.Saga("waits")
     fails.step(ask, name="a", undo=0)
     asks.step(ask, name="a", undo=0, on_exhausted="ask")
@@ -94,7 +94,7 @@ def definitions() -> dict[str, sagas.Saga]:
 
 
 def drawn(draw: random.Random) -> Filter:
-    """A filter."""
+    """Draw a filter."""
     words: dict[str, Any] = {}
     if draw.random() < 0.4:
         words["labels"] = {draw.choice("cr"): draw.choice((*VALUES, "x", "y"))}
@@ -108,7 +108,7 @@ def drawn(draw: random.Random) -> Filter:
 
 
 def is_selected(of: Filter, key: str, told: dict[str, Any]) -> bool:
-    """What a filter means."""
+    """Return whether a filter selects an item."""
     has_labels = all(told["labels"].get(name) == value for name, value in of.labels.items())
     has_error = of.error is None or (told["saga"] != "waits" and of.error in told["error"])
     is_of = of.saga in (None, told["saga"])
@@ -144,7 +144,7 @@ def test_filters_mean_the_same_over_both_databases(place: str) -> None:
 
 
 def shop() -> tuple[sagas.Saga, list[bool]]:
-    """A saga whose items ask a person, and so does a step of an included saga."""
+    """Return a saga whose items need an operator, and so does a step of an included saga."""
     works = list[bool]()
 
     def work(task: Task) -> None:
@@ -161,7 +161,9 @@ def shop() -> tuple[sagas.Saga, list[bool]]:
 def test_a_filter_that_selects_nothing_by_mistake(
     place: str, caplog: pytest.LogCaptureFixture, capsys: pytest.CaptureFixture[str]
 ) -> None:
-    """An empty one is refused; a step with items means all of them; what nothing has is said."""
+    """An empty one is refused; a step with items means all of them; names that nothing has are
+    reported.
+    """
     saga, works = shop()
     shell = Shell(place, capsys)
 

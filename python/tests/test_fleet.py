@@ -1,4 +1,7 @@
-"""Limits and rates of a step over all nodes: never exceeded, given back by whoever is gone, and nobody else is kept back."""
+"""Limits and rates of a step over all nodes.
+
+They are never exceeded, dead nodes release their slots, and no other step waits.
+"""
 
 from __future__ import annotations
 
@@ -30,16 +33,16 @@ HERE = pathlib.Path(__file__).resolve().parent
 
 
 class Count:
-    """How many are inside at once, and in all."""
+    """How many calls are inside at once, and in all."""
 
     def __init__(self) -> None:
         self.now = self.most = 0
-        self.least = 0  # who is inside stays until so many are at once
+        self.least = 0  # a call inside stays until this many are at once
         self.by: Counter[str] = Counter()
         self.at: list[float] = []
 
     async def inside(self, name: str, seconds: float = 0.005) -> None:
-        """Is inside for so long."""
+        """Stay inside for this time."""
         self.at.append(time.monotonic())
         self.now += 1
         self.by[name] += 1
@@ -51,7 +54,7 @@ class Count:
 
 
 def counted(count: Count, name: str = "here", seconds: float = 0.005, **words: Any) -> sagas.Saga:
-    """A step that is counted while it runs."""
+    """Return a step that is counted while it runs."""
 
     async def step(task: Task) -> None:
         await count.inside(name, seconds)
@@ -60,7 +63,9 @@ def counted(count: Count, name: str = "here", seconds: float = 0.005, **words: A
 
 
 def test_no_more_than_its_limit_at_once(place: str) -> None:
-    """Of one program, in a file and in a database; all places are used, and each call gets one in the end."""
+    """Of one program, in a file and in a database; all slots are used, and each call gets one in
+    the end.
+    """
     count = Count()
     kind = counted(count, fleet_concurrency=3)
 
@@ -74,7 +79,9 @@ def test_no_more_than_its_limit_at_once(place: str) -> None:
 
 
 def test_a_limit_holds_over_all_nodes(url: str) -> None:
-    """Three nodes with more work than places: together no more than the limit, all places are used, and each node has its turns."""
+    """Three nodes have more work than slots: together no more than the limit run, all slots are
+    used, and each node has its turns.
+    """
     count = Count()
     count.least = 4
     kinds = [counted(count, f"n{number}", fleet_concurrency=4) for number in range(3)]
@@ -98,7 +105,9 @@ def test_a_limit_holds_over_all_nodes(url: str) -> None:
 
 
 def test_a_held_step_keeps_nobody_back(place: str) -> None:
-    """All that wait for a place take no slot: another step runs past them with the only other one."""
+    """Attempts that wait for a slot of the limit take no slot of the program: another step runs
+    past them with the only other one.
+    """
     gate = asyncio.Event()
 
     async def wait(task: Task) -> None:
@@ -134,7 +143,7 @@ NODE = """
 
 
 def test_a_killed_nodes_places_are_free_after_its_lease(url: str, tmp_path: pathlib.Path) -> None:
-    """While it lives its place is its own; when it is killed, another node's step has it."""
+    """While the node lives its slot is its own; when it is killed, another node's step has it."""
     script = tmp_path / "node.py"
     script.write_text(textwrap.dedent(NODE.format(url=url)))
     environment = os.environ | {"PYTHONPATH": str(HERE.parent / "src"), "SAGAS_PROGRAM": program()}
@@ -165,7 +174,9 @@ PERIOD = 0.6
 
 
 def test_no_more_than_its_rate(place: str) -> None:
-    """In any period no more calls begin than its rate says, tries too, also where the program is started again in between."""
+    """In any period no more calls start than its rate, including retries and a restart of the
+    program.
+    """
     count = Count()
 
     async def step(task: Task) -> None:
@@ -185,15 +196,15 @@ def test_no_more_than_its_rate(place: str) -> None:
     run(main())
     assert len(count.at) == 12 and time.monotonic() - began >= 2 * PERIOD
     for first, fifth in zip(count.at, count.at[4:]):
-        assert (
-            fifth - first > PERIOD / 2
-        ), (
+        assert fifth - first > PERIOD / 2, (
             count.at
-        )  # counted when the place is given, which is before the call by as much as this machine is busy
+            # counted when the slot is granted, before the call; the delay depends on the load of this
+            # machine
+        )
 
 
 def test_a_rate_holds_over_all_nodes(url: str) -> None:
-    """Two nodes, and a limit beside it."""
+    """Two nodes, and a limit with it."""
     count = Count()
     kinds = [
         counted(count, f"n{number}", seconds=0.05, rate_limit=(6, PERIOD), fleet_concurrency=2)
@@ -215,13 +226,12 @@ def test_a_rate_holds_over_all_nodes(url: str) -> None:
     began = time.monotonic()
     run(main())
     assert sum(count.by.values()) == 20 and count.most <= 2
-    assert (
-        time.monotonic() - began >= 2.75 * PERIOD
-    )  # three of them by the server's clock, which may be set a little meanwhile
+    # three of them by the server's clock, which may be adjusted a little in the meantime
+    assert time.monotonic() - began >= 2.75 * PERIOD
 
 
 def test_a_clock_that_jumped_back_stops_no_rate(place: str) -> None:
-    """Places that are taken until a time past any period are free."""
+    """Slots that are taken until a time beyond any period are free."""
     kind = counted(Count(), rate_limit=(2, 3.0))
 
     async def main() -> None:
@@ -242,7 +252,9 @@ def test_a_clock_that_jumped_back_stops_no_rate(place: str) -> None:
 
 
 def test_places_are_not_lost_with_their_answers(url: str, monkeypatch: pytest.MonkeyPatch) -> None:
-    """Statements are done and their answers lost: the limit holds, all sagas end, and each place is free again."""
+    """Statements are done and their replies lost: the limit holds, all sagas end, and each slot is
+    free again.
+    """
     count, turns = Count(), iter(range(1000))
     kind = counted(count, fleet_concurrency=2)
     right = Places.take
@@ -274,7 +286,9 @@ def test_places_are_not_lost_with_their_answers(url: str, monkeypatch: pytest.Mo
 def test_what_is_in_doubt_is_told_by_its_own_gate(
     url: str, monkeypatch: pytest.MonkeyPatch
 ) -> None:
-    """An answer for a key is lost, and other keys come meanwhile: what is told of that later gives back no place of the key's next call."""
+    """The reply for a key is lost, and other keys come in the meantime: a later report of it
+    releases no slot of the key's next call.
+    """
     monkeypatch.setattr(fleet_limits, "MOST_GATES", 1)
     monkeypatch.setattr(fleet_limits, "LOOK", 0.05)
     monkeypatch.setattr(fleet_limits, "DOUBT", 1.0)
@@ -315,7 +329,7 @@ def test_what_is_in_doubt_is_told_by_its_own_gate(
 
 
 def test_what_is_no_limit_is_refused() -> None:
-    """Told by step, with what is allowed."""
+    """The error has the step, and the allowed values."""
     for words, said in (
         ({"fleet_concurrency": 0}, "fleet_concurrency=0"),
         ({"fleet_concurrency": True}, "fleet_concurrency=True"),

@@ -31,18 +31,18 @@ async def done(task: Task) -> str:
 
 
 def words_of(path: pathlib.Path) -> list[list[str]]:
-    """The lines of a record, each as its words."""
+    """Return the lines of a record, each split into its fields."""
     return [line.split(" ") for line in path.read_text().splitlines()]
 
 
 def told(path: pathlib.Path) -> set[str]:
-    """The edges at which something was acknowledged."""
+    """Return the edges at which something was acknowledged."""
     return {words[-1] for words in words_of(path) if words[0] in ("told", "seen")}
 
 
 @pytest.fixture
 def store(url: str, tmp_path: pathlib.Path) -> str:
-    """A store in which two sagas are over; its node's record is `node`."""
+    """Return a store in which two sagas are over; its node's record is `node`."""
 
     async def main() -> None:
         kind = simple(done)
@@ -58,7 +58,7 @@ def store(url: str, tmp_path: pathlib.Path) -> str:
 def judge(
     store: str, tmp_path: pathlib.Path, capsys: pytest.CaptureFixture[str]
 ) -> Callable[..., list[Json]]:
-    """The command over that store, with what it prints for programs."""
+    """Return the command over that store, with its output for programs."""
 
     def call(*words: str, status: int = 0) -> list[Json]:
         capsys.readouterr()
@@ -70,7 +70,7 @@ def judge(
 
 
 def test_the_program_judges_records() -> None:
-    """So that every record of these tests is judged by it, and not by the model alone."""
+    """So that every record of these tests is judged by the program, and not only by the model."""
     assert fleet.has_program()
 
 
@@ -147,7 +147,7 @@ def test_a_log_with_a_gap(
     text: str,
     gap: str,
 ) -> None:
-    """Without files, too: each commit says how many events are before it."""
+    """This holds without files, too: each commit has the number of events before it."""
     assert judge()[0]["gaps"] == []
     change(store, text)
     (one,) = judge(status=1)
@@ -165,7 +165,7 @@ def test_an_end_that_was_told_and_is_not_there(
     tmp_path: pathlib.Path,
     capsys: pytest.CaptureFixture[str],
 ) -> None:
-    """A client was told it, whose record has the number of the saga."""
+    """A client got it, whose record has the number of the saga."""
 
     async def main() -> None:
         async with sagas.Client(store, record=tmp_path / "client") as client:
@@ -182,7 +182,7 @@ def test_an_end_that_was_told_and_is_not_there(
 
 
 def test_what_a_service_acknowledges(url: str, tmp_path: pathlib.Path, receiver: Receiver) -> None:
-    """Starts by its replies, ends by its webhooks, and to those who wait."""
+    """Starts by its replies, ends by its webhooks, and to waiting callers."""
     words = [
         "--local-webhooks",
         "--webhooks",
@@ -217,7 +217,7 @@ def test_a_shard_that_was_deleted_is_not_judged(url: str, tmp_path: pathlib.Path
 
 
 def test_a_record_that_cannot_be_written(url: str, caplog: pytest.LogCaptureFixture) -> None:
-    """Is told once, and holds up no saga."""
+    """The error is logged once, and blocks no saga."""
 
     async def main() -> None:
         kind = simple(done)
@@ -231,7 +231,7 @@ def test_a_record_that_cannot_be_written(url: str, caplog: pytest.LogCaptureFixt
 def test_records_that_cannot_be(
     url: str, tmp_path: pathlib.Path, monkeypatch: pytest.MonkeyPatch
 ) -> None:
-    """Each is refused with what to do. The environment is for stores over PostgreSQL alone."""
+    """Each error says what to do. The environment is only for stores over PostgreSQL."""
     kind, file, missing = simple(done), tmp_path / "store.db", tmp_path / "missing" / "record"
 
     async def opens(path: str | pathlib.Path, record: Any) -> None:
@@ -305,7 +305,7 @@ def test_a_folder_that_cannot_be_written(
 
 
 def test_a_node_that_takes_up_what_another_left(url: str, tmp_path: pathlib.Path) -> None:
-    """And that goes on behind it, so that the epochs of one record are in the other's."""
+    """The node continues after it, so that the epochs of one record are in the other one."""
     gate, calls = asyncio.Event(), list[str]()
 
     async def waits(task: Task) -> None:
@@ -331,7 +331,10 @@ def test_a_node_that_takes_up_what_another_left(url: str, tmp_path: pathlib.Path
 def test_an_abort_is_answered_behind_what_it_rests_on(
     url: str, tmp_path: pathlib.Path, ends: bool
 ) -> None:
-    """An abort that comes too late writes nothing. It is answered once the store has its reason."""
+    """An abort that comes too late writes nothing.
+
+    Its reply comes once the store has its reason.
+    """
     gate, calls = asyncio.Event(), list[str]()
 
     async def waits(task: Task) -> None:
@@ -373,7 +376,7 @@ def test_an_abort_is_answered_behind_what_it_rests_on(
 
 
 def test_an_answer_of_an_older_epoch_that_comes_late(tmp_path: pathlib.Path) -> None:
-    """It is no takeover, and what is read again after it is none either."""
+    """It is not a takeover, and neither is a later read."""
     record = RecordFile(str(tmp_path / "record"), "run")
     record.open()
     line = "00000001"

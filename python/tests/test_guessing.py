@@ -1,4 +1,7 @@
-"""Starts that begin without a look for their keys: a key that is taken is answered as if it had been looked for."""
+"""Starts that begin without a look for their keys.
+
+A start of an existing key gets the same reply as if the key had been looked for.
+"""
 
 from __future__ import annotations
 
@@ -26,7 +29,7 @@ from sagas.storage.sqlite.storage import Sqlite
 
 @pytest.fixture
 def looks(monkeypatch: pytest.MonkeyPatch) -> list[str]:
-    """The keys that were looked for. No commit may be refused for its keys."""
+    """Return the keys that were looked for. No commit may be refused for its keys."""
     keys: list[str] = []
     find = PostgreSQL.find
 
@@ -55,7 +58,7 @@ def looks(monkeypatch: pytest.MonkeyPatch) -> list[str]:
 
 
 def step(gate: asyncio.Event | None = None) -> sagas.Saga:
-    """A saga of one step, which waits for a gate where one is given."""
+    """Return a saga of one step, which waits for a gate if there is one."""
 
     async def a(task: Task) -> Any:
         if gate:
@@ -66,7 +69,7 @@ def step(gate: asyncio.Event | None = None) -> sagas.Saga:
 
 
 def count(place: str) -> int:
-    """How many sagas there are."""
+    """Return how many sagas there are."""
     return len(records.read(place).sagas)
 
 
@@ -90,7 +93,11 @@ def test_a_new_key_is_not_looked_for(place: str, looks: list[str]) -> None:
 
 @pytest.mark.parametrize("old", [1, 20])
 def test_keys_that_are_there_among_new_ones(place: str, looks: list[str], old: int) -> None:
-    """They are given their sagas; the others are begun, and what was open beside them goes on: nothing is called twice, and no key is refused."""
+    """They return their sagas.
+
+    The others are started, and open sagas next to them continue: no function is called twice, and
+    no key is refused.
+    """
     gate, calls = asyncio.Event(), Counter[str]()
 
     async def a(task: Task) -> Any:
@@ -126,7 +133,9 @@ def test_keys_that_are_there_among_new_ones(place: str, looks: list[str], old: i
 
 
 def test_a_key_that_is_over(place: str, looks: list[str], monkeypatch: pytest.MonkeyPatch) -> None:
-    """It is in the same log: its saga is given, the next keys are looked for, and after enough new ones no more. A store that is opened again the same."""
+    """It is in the same log: its saga is returned, the next keys are looked for, and after enough
+    new ones no more. It is the same after a restart.
+    """
     monkeypatch.setattr(key_lookup, "AGAIN", 3)
     kind = step()
 
@@ -152,7 +161,10 @@ def test_a_key_that_is_over(place: str, looks: list[str], monkeypatch: pytest.Mo
 
 
 def test_a_key_of_another_node(url: str, looks: list[str]) -> None:
-    """It is open there: who starts it here hears of its end. Another saga with that key is a conflict."""
+    """It is open there: a caller that starts it here gets its end.
+
+    Another saga with that key is a conflict.
+    """
     gate = asyncio.Event()
     kinds, other = [step(gate), step()], sagas.Saga("other")
 
@@ -178,7 +190,7 @@ def test_a_key_of_another_node(url: str, looks: list[str]) -> None:
 
 
 def test_what_a_refused_commit_offered(url: str, looks: list[str]) -> None:
-    """Its sagas are opened again, in other places: what is offered then is theirs, and nothing else is."""
+    """Its sagas are opened again, in other slots: only what is offered then is theirs."""
     kinds = [outside(), outside()]
 
     async def main() -> None:
@@ -194,14 +206,14 @@ def test_what_a_refused_commit_offered(url: str, looks: list[str]) -> None:
 
 
 def outside() -> sagas.Saga:
-    """A saga whose step others do."""
+    """Return a saga with an external step."""
     saga = sagas.Saga("outside")
     saga.step(name="a", external=True)
     return saga
 
 
 def offered(url: str) -> list[tuple[str, str]]:
-    """The attempts that are offered, each with its saga's own id."""
+    """Return the attempts that are offered, each with its saga's own id."""
     text = (
         "SELECT attempt, coalesce(name || '-' || s.id % 1000, '') FROM external_attempts e LEFT"
         " JOIN (sagas s JOIN shards l ON l.shard = s.id / 1000) ON s.id = e.id"
@@ -230,7 +242,9 @@ def test_a_key_that_a_client_started(url: str, looks: list[str]) -> None:
 
 
 def test_who_asks_meanwhile(url: str, looks: list[str]) -> None:
-    """While a guess is on its way to the store, who aborts, waits for or starts its key waits, and hears of the saga that has it."""
+    """While a guess is being stored, a caller that aborts, waits for or starts its key waits, and
+    gets the saga that has it.
+    """
     kind = step()
 
     async def main() -> None:
@@ -238,7 +252,7 @@ def test_who_asks_meanwhile(url: str, looks: list[str]) -> None:
             await ended(store, kind, "k", 1)
         async with sagas.open(url, [kind]) as store:
             starting = asyncio.create_task(store.start(kind, "k", 1))
-            await asyncio.sleep(0)  # it has begun
+            await asyncio.sleep(0)  # it has started
             assert store._inside and "k" in store._inside.sagas.by_key
             told = await asyncio.gather(
                 store.abort("k"),
@@ -269,7 +283,9 @@ def test_who_asks_meanwhile(url: str, looks: list[str]) -> None:
 def test_an_answer_that_is_lost(
     url: str, looks: list[str], monkeypatch: pytest.MonkeyPatch
 ) -> None:
-    """The commit of each start is done, and the answer to it lost: the saga is there once, and its start is answered."""
+    """The commit of each start is done, and its reply lost: the saga exists once, and its start has
+    its reply.
+    """
     kind, lost, read = step(), list[str](), Writer._read
 
     def loses(self: Writer, commit: Commit, rows: Any, fault: Any, began: float) -> Any:
@@ -294,7 +310,9 @@ def test_an_answer_that_is_lost(
 def test_a_wrong_guess_in_a_file(
     tmp_path: pathlib.Path, looks: list[str], monkeypatch: pytest.MonkeyPatch, fast: bool
 ) -> None:
-    """Of its log nothing is written, by the loop as by the thread, and the other logs of that commit are; then all its sagas are begun."""
+    """Nothing of its log is written, by the loop as by the thread, and the other logs of that
+    commit are; then all its sagas are started.
+    """
     monkeypatch.setattr("sagas.definition.shelf.SHARD_CAPACITY", 10)
     monkeypatch.setattr(writer, "AT_ONCE", 60.0 if fast else 0.0)
     path, kind, lost = str(tmp_path / "store.db"), step(), set[int]()
@@ -325,7 +343,7 @@ def test_a_wrong_guess_in_a_file(
 
 
 def test_a_store_that_takes_nothing(url: str, looks: list[str]) -> None:
-    """A key that is there is answered, and a new one is not begun."""
+    """A start of an existing key gets its reply, and a new one is not started."""
     kind = step()
 
     async def main() -> None:

@@ -1,5 +1,7 @@
-"""Large values of open sagas: they are held only while a function may read them, and are read from
-the store when one needs them."""
+"""Large values of open sagas are held only while a function may read them.
+
+They are read from the store when a function needs them.
+"""
 
 from __future__ import annotations
 
@@ -20,7 +22,7 @@ GIVEN = {"who": "ann", "big": BIG, "parcels": {"x": BIG, "y": "small"}}
 
 
 def kinds() -> list[sagas.Saga]:
-    """Sagas whose functions read large values after others of them have waited."""
+    """Return sagas whose functions read large values after others of them have waited."""
     inner, shaped = sagas.Saga("inner"), sagas.Saga("shaped")
     inner.step(lambda task: task.input, name="echo", undo=0)
 
@@ -48,7 +50,7 @@ def kinds() -> list[sagas.Saga]:
 
 
 def held(store: sagas.Store) -> list[str]:
-    """What the program holds of its sagas."""
+    """Return the values that the program holds of its sagas."""
     found = []
     for saga in store._access.inside.sagas.by_key.values():
         found += [saga.text, saga.options.shape or "", *saga.results.values()]
@@ -62,7 +64,7 @@ def held(store: sagas.Store) -> list[str]:
 def test_values_are_read_when_they_are_needed(
     place: str, codec: Any, has_blobs: bool, tmp_path: pathlib.Path
 ) -> None:
-    """Also by the next program, which loads none of them."""
+    """This holds also for the next program, which loads none of them."""
     inner, made, shaped = kinds()
     blobs = sagas.FolderBlobStore(tmp_path / "blobs") if has_blobs else None
     words: dict[str, Any] = {"codec": codec, "blobs": blobs, "blob_threshold": 1000}
@@ -114,7 +116,9 @@ def test_values_are_read_when_they_are_needed(
 
 
 def test_a_queue_holds_nothing(tmp_path: pathlib.Path) -> None:
-    """What waits for a slot has its values read when it has one; an abort in between is as ever."""
+    """An attempt that waits for a slot has its values read when it has one; an abort in between
+    works as usual.
+    """
     made, gate = sagas.Saga("made"), asyncio.Event()
 
     @made.step(undo=0)

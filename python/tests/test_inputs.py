@@ -1,5 +1,7 @@
-"""What `start` says of an input: whether it is of its type, and whether it is the one that the key
-has. No value is in any text."""
+"""The checks of an input by `start`: whether it has its type, and whether it is that of the key.
+
+No value is in any text.
+"""
 
 from __future__ import annotations
 
@@ -57,7 +59,7 @@ class Order:
 
 
 def reads(hint: Any) -> sagas.Saga:
-    """A saga whose first step reads its input as this."""
+    """Return a saga whose first step reads its input as this type."""
 
     async def a(task: Task) -> None:
         assert task.input is not None
@@ -106,8 +108,9 @@ WELL: list[Any] = [
 
 
 def test_the_types_of_fields(place: str, caplog: pytest.LogCaptureFixture) -> None:
-    """Nested, optional, in lists and dicts, of unions, enums and times: each fault by its place,
-    and nothing is begun."""
+    """Nested, optional, in lists and dicts, of unions, enums and times: each error has its
+    location, and no saga is started.
+    """
     saga = reads(Order)
 
     async def main() -> None:
@@ -132,14 +135,14 @@ def test_the_types_of_fields(place: str, caplog: pytest.LogCaptureFixture) -> No
 
 @dataclasses.dataclass
 class Other:
-    """It looks as an order, and an order cannot be made of it."""
+    """An input that looks like an order, and cannot become one."""
 
     amount: int
     color: str
 
 
 class Pair(NamedTuple):
-    """No object, in JSON."""
+    """A value that is not an object in JSON."""
 
     amount: int
 
@@ -158,7 +161,9 @@ class Pair(NamedTuple):
     ids=lambda given: type(given).__name__,
 )
 def test_an_input_of_another_type(place: str, given: Any) -> None:
-    """Whatever it is in Python: what the first step would not read is refused, and not begun."""
+    """Whatever it is in Python: an input that the first step could not read is refused, and no saga
+    is started.
+    """
     saga = reads(Order)
 
     async def main() -> None:
@@ -188,8 +193,10 @@ class Newer:
     indirect=["place"],
 )
 def test_an_optional_field_that_was_added(place: str, client: bool) -> None:
-    """The same start again is the same saga; another value is another input, in what the type knows
-    and in what it does not."""
+    """The same start again is the same saga.
+
+    Another value is another input, in fields that the type knows and in others.
+    """
     before, after = reads(Item), reads(Newer)
     raw = sagas.Saga("simple")
     raw.step(name="a")(after.steps[0].run.function)  # type: ignore[arg-type]
@@ -224,7 +231,7 @@ def test_an_optional_field_that_was_added(place: str, client: bool) -> None:
 
 
 def test_what_a_reader_without_a_type_sees_counts(place: str) -> None:
-    """Where a step reads the input as it is, a field that no type knows is a part of it."""
+    """If a step reads the input without a type, a field that no type knows is a part of it."""
     saga = sagas.Saga("both")
 
     @saga.step
@@ -255,7 +262,7 @@ def test_what_a_reader_without_a_type_sees_counts(place: str) -> None:
 
 
 def test_conflicts_show_no_values(place: str) -> None:
-    """The whole, one of many parts, and names that are no words."""
+    """The whole input, one of many parts, and names that are not words."""
     saga = simple(lambda task: None)
     for_many = {f"f{number}": number for number in range(9)}
     conflicts: list[tuple[Any, Any, str]] = [
@@ -289,7 +296,7 @@ def test_how_long_a_value_is_said_to_be() -> None:
 
 
 def test_what_a_wait_gives_is_not_told(place: str, caplog: pytest.LogCaptureFixture) -> None:
-    """`until` may give what it read of the input."""
+    """`until` may return what it read of the input."""
     saga = sagas.Saga("waits")
     saga.wait(name="w", until=lambda task: task.input, tries=1)(lambda task: None)
 

@@ -131,7 +131,9 @@ def test_all_that_are_wanted_go_together(url: str, logs: list[int]) -> None:
 def test_a_commit_behind_a_chunk_that_is_not_there(
     url: str, logs: list[int], together: bool, has_lines: bool
 ) -> None:
-    """Nothing is written of a log whose last chunk the database lacks, or has otherwise; of the others all is written, alone and in one commit."""
+    """Nothing is written of a log whose last chunk is missing or different in the database; of the
+    others all is written, alone and in one commit.
+    """
     lacks, differs, *_ = logs
     last = "first_seq = (SELECT max(first_seq) FROM sagas.event_log WHERE shard = e.shard)"
 

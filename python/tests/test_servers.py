@@ -838,8 +838,10 @@ POOLERS = {
 
 @pytest.mark.parametrize("words", POOLERS.values(), ids=POOLERS)
 def test_a_pooler(postgresql: Server, url: str, words: tuple[str, ...]) -> None:
-    """One that pools sessions serves a node and a client. Any other is refused by name, and
-    strangers who have its sessions find no setting of ours in them."""
+    """One that pools sessions serves a node and a client.
+
+    Any other is refused by name, and other users of its sessions find no setting of ours in them.
+    """
     kind = simple(lambda task: "done")
     with sagas.open_sync(url, [kind]):
         pass

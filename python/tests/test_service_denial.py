@@ -73,7 +73,7 @@ HEADS = [
 def limited(
     request: pytest.FixtureRequest, tmp_path_factory: pytest.TempPathFactory
 ) -> Iterator[Served]:
-    """A service that takes few connections."""
+    """Return a service that takes few connections."""
     folder = tmp_path_factory.mktemp("limited")
     words = ["--most-connections", str(MOST)]
     if request.param:

@@ -124,7 +124,7 @@ def is_closed(kept: set[str], needs: dict[str, list[str]]) -> bool:
 
 
 def least_of_all(plan: Plan) -> int:
-    """The least cost of all plans, each of which is tried."""
+    """Return the least cost of all plans, each of which is tried."""
     needs = {one["name"]: one.get("needs", []) for one in shape_text.steps(plan.definition)}
     costs = {one.step: (one.cost_to_keep, one.cost_to_drop) for one in plan.choices}
     found = []

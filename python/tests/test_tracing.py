@@ -182,7 +182,7 @@ def test_a_client_s_start_has_it(url: str, without: None) -> None:
 
 
 def test_a_message_has_it() -> None:
-    """An order goes to a worker of a queue as JSON, and comes there as it was."""
+    """An order goes to a worker of a queue as JSON, and arrives unchanged."""
     order = Order("one", 1, "k", "log", 0, "a", "run", 1, 1, "null", {}, None, None, GIVEN)
     assert Order.read(order.written()) == order and order.written()["traceparent"] == GIVEN
 

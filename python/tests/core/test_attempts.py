@@ -1,4 +1,5 @@
-"""What becomes of an attempt: each decision of the machine, without a clock, a loop or a database."""
+"""The states of an attempt: each decision of the state machine, without a clock, loop or database.
+"""
 
 from __future__ import annotations
 
@@ -39,7 +40,7 @@ MACHINE = AttemptMachine()
 
 
 class Where:
-    """A queue of workers that nobody has."""
+    """A queue of workers that does not exist."""
 
     timeout = 60.0
 
@@ -48,7 +49,7 @@ class Where:
 
 
 def due(task: sagas.Task[Any]) -> Any:
-    """When the wait `later` is over, as its input says."""
+    """Return the time at which the wait `later` is over, as its input says."""
     if task.input == "raises":
         raise ValueError("no idea")
     if task.input == "fails":
@@ -59,7 +60,7 @@ def due(task: sagas.Task[Any]) -> Any:
 
 
 def trip() -> sagas.Saga:
-    """A saga with a step of each kind."""
+    """Return a saga with a step of each kind."""
     saga = sagas.Saga("trip")
 
     @saga.step(undo=0, tries=3, backoff=WAIT)
@@ -96,7 +97,7 @@ KIND = Shelf([trip()]).kinds[0]
 
 @pytest.fixture(autouse=True)
 def checked() -> Iterator[None]:
-    """Each transition is looked up."""
+    """Check each transition."""
     before, states.Check.is_on = states.Check.is_on, True
     yield
     states.Check.is_on = before
@@ -105,7 +106,7 @@ def checked() -> Iterator[None]:
 def attempt_of(
     step: str, number: int = 1, kind: str = "run", text: str = "null", fresh: bool = True
 ) -> Attempt:
-    """An attempt that was claimed, alone in its saga."""
+    """Return an attempt that was claimed, alone in its saga."""
     instance = SagaInstance("k", text, KIND, 0)
     instance.token = "test-0"
     attempt = Attempt(instance, KIND.names.index(step), kind, number, fresh)
@@ -114,14 +115,14 @@ def attempt_of(
 
 
 def running(step: str, number: int = 1, kind: str = "run") -> Attempt:
-    """One whose function is called."""
+    """Return an attempt whose function is being called."""
     attempt = attempt_of(step, number, kind)
     attempt.start()
     return attempt
 
 
 def error_of(attempt: Attempt) -> str:
-    """What a finished one is said to have raised."""
+    """Return the error of a finished attempt."""
     assert attempt.outcome
     return attempt.outcome.value
 
@@ -181,7 +182,7 @@ def test_behind_a_permanent_failure_nothing_is_called() -> None:
             True,
             "run",
             False,
-        ),  # the last attempt: to give it up would be a failure that was none
+        ),  # the last attempt: to give it up would count as a failure
         (3, True, True, "run", True),
         (1, False, False, "run", False),  # it may have been called
         (1, True, True, "undo", False),
@@ -202,7 +203,7 @@ def test_an_external_step_is_offered(leased: bool) -> None:
     assert will_be_asked(attempt) and not is_asked(attempt)
     assert AttemptMachine(leased).begin(attempt, NOW) is OFFER
     assert attempt.reason is Suspension.EXTERNAL and attempt.until is None and is_asked(attempt)
-    assert attempt.fresh is leased  # else whoever does it may have begun
+    assert attempt.fresh is leased  # else a worker may have started it
 
 
 # -- waits
@@ -243,7 +244,9 @@ def test_the_next_attempt_of_a_wait_does_not_wait_again() -> None:
 
 
 def answered(attempt: Attempt) -> Decision:
-    """What becomes of one that begins with a question to its definition, whose functions are called."""
+    """Return the next state of an attempt whose definition is asked first, with its functions
+    called.
+    """
     decision = MACHINE.begin(attempt, NOW)
     assert decision.do is Do.ASK and decision.question and attempt.state is AttemptState.CLAIMED
     assert decision.question.words == "until="
@@ -276,7 +279,7 @@ def test_a_wait_that_cannot_say_its_time_has_failed(
 
 
 def test_a_wait_of_a_saga_that_drains_while_its_definition_is_asked() -> None:
-    """What its function returned is not used: it is given up."""
+    """The result of its function is not used: the attempt is given up."""
     attempt = attempt_of("later", 1)
     decision = MACHINE.begin(attempt, NOW)
     assert decision.question
@@ -286,7 +289,7 @@ def test_a_wait_of_a_saga_that_drains_while_its_definition_is_asked() -> None:
 
 
 def test_a_wait_of_a_saga_that_drains_is_given_up_before_it_waits() -> None:
-    attempt = attempt_of("pause", fresh=False)  # an earlier program had begun it
+    attempt = attempt_of("pause", fresh=False)  # an earlier program had started it
     attempt.instance.draining = True
     assert MACHINE.begin(attempt, NOW) is REPORT and attempt.has_row
     last = attempt_of("pause", 2)
@@ -346,9 +349,8 @@ def test_a_wait_that_was_given_up_leaves_its_place_to_others() -> None:
     attempt.rare.gave_way = True
     attempt.rare.count = 6
     MACHINE.ended(attempt, outcomes.unknown("all places are taken"), NOW)
-    assert (
-        attempt.until == NOW + 100 and not attempt.rare.gave_way
-    )  # its back-off is longer than the 60 s
+    # its back-off is longer than the 60 s
+    assert attempt.until == NOW + 100 and not attempt.rare.gave_way
 
 
 def test_what_cannot_be_decoded_is_parked() -> None:
@@ -512,8 +514,8 @@ def test_what_an_earlier_program_had_begun_without_a_row_begins_again() -> None:
 
 
 def test_resumes_one_with_a_child() -> None:
-    """Its child may be there, also where it was given up before its row was stored: it is followed,
-    and not given up again.
+    """Its child may exist, also if the attempt was given up before its row was stored: it is
+    followed, and not given up again.
     """
     attempt = attempt_of("plain", fresh=True)
     attempt.reason, attempt.has_row = Suspension.CHILD, True
@@ -546,7 +548,7 @@ def test_a_saga_that_drains_gives_up_what_waits_and_was_not_called() -> None:
     made["sign"].start()
     MACHINE.begin(made["pause"], NOW)
     made["later"].queue()
-    assert MACHINE.drain(instance, NOW) == []  # it was planned meanwhile
+    assert MACHINE.drain(instance, NOW) == []  # it was planned in the meantime
     instance.draining = True
     found = dict(MACHINE.drain(instance, NOW))
     assert found == {
@@ -556,11 +558,11 @@ def test_a_saga_that_drains_gives_up_what_waits_and_was_not_called() -> None:
         made["pause"]: REPORT,
         made["later"]: REPORT,
     }
-    assert made["sign"].state is AttemptState.RUNNING  # its function goes on
+    assert made["sign"].state is AttemptState.RUNNING  # its function continues
 
 
 def test_an_attempt_is_named_by_the_shard_that_its_saga_comes_into() -> None:
-    """A commit may be refused: what it offered is not what is offered from another shard."""
+    """A commit may be refused: what it offered is then not offered from another shard."""
     attempt: Any = attempt_of("outside")
     instance: Any = attempt.instance
     instance.token, instance.committed = None, False
@@ -599,7 +601,7 @@ CHOICES = {
 
 
 def decide(what: str, attempt: Attempt, outcome: Outcome, now: float) -> Decision:
-    """One thing that may happen to an attempt, as the runtime does it."""
+    """Apply one event to an attempt, as the runtime does."""
     if what == "ended":
         return MACHINE.ended(attempt, outcome, now)
     if what == "report":
@@ -626,7 +628,9 @@ def decide(what: str, attempt: Attempt, outcome: Outcome, now: float) -> Decisio
 def test_whatever_happens_each_decision_fits_the_state(
     step: str, number: int, data: st.DataObject
 ) -> None:
-    """No transition is missing from the table, what is finished stays so, and nothing is called that waits for its row."""
+    """No transition is missing from the table, finished attempts stay finished, and no attempt is
+    called that waits for its row.
+    """
     attempt, now = attempt_of(step, number), NOW
     attempt.instance.rare.missed_at[attempt.word] = NOW
     for _ in range(12):
@@ -650,8 +654,10 @@ def test_whatever_happens_each_decision_fits_the_state(
 
 
 def test_what_was_reported_early() -> None:
-    """It is the attempt's outcome, also of one whose saga drains; a compensation takes none, nor
-    one whose step failed for good."""
+    """It is the attempt's outcome, also if its saga drains.
+
+    A compensation takes none, and neither does an attempt whose step failed permanently.
+    """
     for step in ("sign", "outside"):
         for aborted in (False, True):
             attempt = attempt_of(step)
@@ -672,7 +678,7 @@ def test_what_was_reported_early() -> None:
 
 
 def test_which_reports_are_taken_early() -> None:
-    """Of approvals and of what is done elsewhere, while the saga goes on."""
+    """Those of approvals and of external steps, while the saga continues."""
     for step, kind in (("simple", "run"), ("pause", "run"), ("sent", "run"), ("outside", "undo")):
         instance = attempt_of(step).instance
         assert early_reports.refusal(instance, KIND.names.index(step), kind)

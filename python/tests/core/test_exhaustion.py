@@ -1,4 +1,4 @@
-"""What becomes of an attempt that failed: another one, the same one again, a person, or none."""
+"""The state of an attempt that failed: another one, the same one again, attention, or none."""
 
 from __future__ import annotations
 
@@ -22,7 +22,7 @@ SOON = outcomes.failure("soon", retry_after=3.0)
 
 
 def attempt_of(kind: str = "run", number: int = 1, **words: Any) -> Attempt:
-    """One that runs, of two tries."""
+    """Return a running attempt, of two tries."""
     saga = sagas.Saga("s")
     forward = words if kind == "run" else {}
     step = saga.step(name="a", tries=2, backoff=WAIT, **forward)(lambda task: None)
@@ -37,7 +37,7 @@ def attempt_of(kind: str = "run", number: int = 1, **words: Any) -> Attempt:
 
 
 def again(attempt: Attempt) -> None:
-    """It is called again."""
+    """Call the attempt again."""
     attempt.queue()
     attempt.start()
 
@@ -78,8 +78,9 @@ def test_what_a_failure_leads_to(
 
 
 def test_so_many_attempts_as_are_wanted() -> None:
-    """The pauses grow up to the longest; then a person is asked, and may begin anew: from the first
-    attempt on.
+    """The pauses grow up to the longest one.
+
+    Then the attempt needs an operator, who may retry it: attempts count from the first one again.
     """
     attempt, now = attempt_of(number=2, max_attempts=5, on_exhausted="ask"), NOW
     for pauses in ((20.0, 40.0, 60.0), (10.0, 20.0, 40.0, 60.0)):
@@ -102,7 +103,10 @@ def test_so_many_attempts_as_are_wanted() -> None:
 
 
 def test_an_unknown_one_stays_unknown_where_it_is_retried() -> None:
-    """Nothing is known of it by that: it may have had its effect. Its time begins anew."""
+    """A retry does not make the outcome known: the attempt may have had its effect.
+
+    Its time restarts.
+    """
     attempt = attempt_of(number=2, max_unknown=0)
     MACHINE.ended(attempt, outcomes.unknown("lost"), NOW)
     assert attempt.since == NOW
@@ -117,7 +121,10 @@ def test_an_unknown_one_stays_unknown_where_it_is_retried() -> None:
 
 @pytest.mark.parametrize("words", [{"on_exhausted": "ask"}, {"on_exhausted": "retry"}])
 def test_a_saga_that_drains_waits_for_no_failure(words: dict[str, Any]) -> None:
-    """What failed has failed, unless a person was asked and the saga is not aborted; a compensation goes on waiting."""
+    """An attempt that failed has failed, unless an operator was asked and the saga is not aborted.
+
+    A compensation continues to wait.
+    """
     attempt, undo = attempt_of(number=2, **words), attempt_of("undo", 2, **words)
     for one in (attempt, undo):
         MACHINE.ended(one, NO, NOW)
@@ -134,7 +141,7 @@ def test_a_saga_that_drains_waits_for_no_failure(words: dict[str, Any]) -> None:
 
 @pytest.mark.parametrize("number", [1, 2])
 def test_the_pause_that_a_function_wants(number: int) -> None:
-    """Behind an attempt of the definition, and behind the last one."""
+    """It counts after an attempt of the definition, and after the last one."""
     attempt = attempt_of(number=number, max_attempts=9)
     decision = MACHINE.ended(attempt, SOON, NOW)
     if number == 2:
@@ -150,7 +157,7 @@ def test_the_pause_that_a_function_wants(number: int) -> None:
 
 @pytest.mark.parametrize("reason", [Suspension.RETRY, Suspension.EXHAUSTED, Suspension.UNKNOWN])
 def test_a_restart_goes_on_waiting(reason: Suspension) -> None:
-    """Nothing is called because of it."""
+    """No function is called because of a restart."""
     asks = reason is Suspension.EXHAUSTED
     attempt = Attempt(attempt_of(number=2).instance, 0, "run", 2, False)
     until = attempt.until = None if asks else NOW + 30

@@ -1,4 +1,4 @@
-"""What a database has of a shard, and what programs recorded, as one record."""
+"""A shard in the database, and the notes of programs, as one record."""
 
 from __future__ import annotations
 
@@ -29,7 +29,7 @@ def merged(
     sync: bool = False,
     ends: list[tuple[str, int]] | None = None,
 ) -> ShardRecord:
-    """The record of shard 7."""
+    """Return the record of shard 7."""
     records = Records()
     for line in filter(None, notes.splitlines()):
         records.add(line)
@@ -39,7 +39,7 @@ def merged(
 
 
 def said(record: ShardRecord) -> str:
-    """Its events, and why one is not allowed."""
+    """Return the events of a record, and why one is not allowed."""
     head, *events = record.text().splitlines()
     assert head.startswith("fleet 1 ") and record.events == len(events)
     fault = fleet_model.judge(record.text())
@@ -47,7 +47,9 @@ def said(record: ShardRecord) -> str:
 
 
 def test_what_the_database_has_alone() -> None:
-    """Each commit was heard before the next one; nobody knows of the last one."""
+    """Each commit was acknowledged before the next one; the acknowledgement of the last one is
+    unknown.
+    """
     assert (
         said(merged("", [BORN], CHUNKS))
         == "took 1 0 0, heard 0, sent 0 11, wrote 0 0 11, heard 0, sent 0 12, wrote 0 1 12"
@@ -65,7 +67,9 @@ def test_a_synchronous_standby_has_what_was_answered() -> None:
 
 
 def test_a_takeover_reads_what_is_before_it() -> None:
-    """Two of them, one of which nobody noted, between the commits; and the first node writes on."""
+    """There are two takeovers between the commits, one of them without a note; and the first node
+    continues to write.
+    """
     takeovers = [BORN, Takeover(2, "b", 0, "1"), Takeover(3, "b", 0, "1")]
     notes = f"{NODE}\ntook b 7 3 1 2 11"
     assert said(merged(notes, takeovers, CHUNKS)).endswith(
@@ -75,7 +79,7 @@ def test_a_takeover_reads_what_is_before_it() -> None:
 
 @pytest.mark.parametrize("read", ["3 11", "2 10", "0 0"])
 def test_a_takeover_that_read_something_else(read: str) -> None:
-    """More than there is, otherwise, or nothing."""
+    """More lines than exist, other lines, or none."""
     takeovers = [BORN, Takeover(2, "b", 0, "1")]
     why = {"3 11": "OtherLength", "2 10": "OtherContent", "0 0": "OtherLength"}[read]
     assert said(merged(f"took b 7 2 1 {read}", takeovers, CHUNKS[:1])).endswith(why)
@@ -93,11 +97,14 @@ def test_sent_again_without_an_answer() -> None:
 
 
 def test_refused_and_failed() -> None:
-    """A commit that failed may be sent again; a refused session takes the shard up again."""
+    """A commit that failed may be sent again; a session that was refused takes over the shard
+    again.
+    """
     lines = NODE.splitlines()
     lines[1:1] = [lines[1], "failed a 7 1 1"]
     assert said(merged("\n".join(lines), [BORN], CHUNKS)) == TWO
-    lines[6:6] = [lines[6], lines[5], "failed a 7 1 1"]  # something known is told meanwhile
+    # an acknowledgement of known lines comes in between
+    lines[6:6] = [lines[6], lines[5], "failed a 7 1 1"]
     assert said(merged("\n".join(lines), [BORN], CHUNKS)) == TWO.replace(
         "told 0 1,", "told 0 1, told 0 1,"
     )
@@ -106,7 +113,7 @@ def test_refused_and_failed() -> None:
 
 
 def test_a_chunk_that_its_session_did_not_send() -> None:
-    """Its node noted what it sent, and this was something else; or there is no such epoch."""
+    """Its node noted other lines than these, or no such epoch exists."""
     other = [Chunk(1, 0, 2, 99)]
     assert said(merged("\n".join(NODE.splitlines()[:3]), [BORN], other)).endswith(
         "wrote 0 0 99, heard 0: OtherContent"
@@ -115,7 +122,10 @@ def test_a_chunk_that_its_session_did_not_send() -> None:
 
 
 def test_a_birth_that_never_happened() -> None:
-    """Its commit was refused. What it was answered and what it acknowledged stay in the record."""
+    """Its commit was refused.
+
+    The replies and acknowledgements of the session stay in the record.
+    """
     lines = NODE.splitlines()
     assert said(merged("\n".join([*lines[:2], "stale a 7 1 1"]), [], [])) == ""
     assert said(merged("\n".join(lines[:3]), [], [])) == "heard 999999999: NoSuchSession"
@@ -126,7 +136,7 @@ def test_a_birth_that_never_happened() -> None:
 
 
 def test_an_epoch_that_is_another_nodes() -> None:
-    """On this server, and on the one before it."""
+    """The epoch is another node's on this server, or on the one before it."""
     takeovers = [BORN, Takeover(2, "c", 2, "1")]
     notes = f"{NODE}\ntook b 7 2 1 3 12\ntold b 7 2 1 3 call"
     for now in "12":
@@ -136,7 +146,10 @@ def test_an_epoch_that_is_another_nodes() -> None:
 @pytest.mark.parametrize("sync", [False, True])
 @pytest.mark.parametrize("notes", ["", "\n".join(NODE.splitlines()[:5])])
 def test_a_shard_that_was_taken_and_closed_before_a_promotion(notes: str, sync: bool) -> None:
-    """Its first node was killed before it heard of the last commit; the second one took it, wrote nothing of it but its close, and a client was told of an end."""
+    """Its first node was killed before the reply to the last commit.
+
+    The second one took the shard over and only closed it; a client got a result.
+    """
     takeovers = [BORN, Takeover(2, "b", 2, "1")]
     found = said(merged(f"{notes}\nclosed b 7 2 1", takeovers, CHUNKS, "2", sync, [("client", 3)]))
     assert ":" not in found and ", moved 2 2, " in found
@@ -158,7 +171,7 @@ def test_a_shard_that_was_taken_and_closed_before_a_promotion(notes: str, sync: 
     ],
 )
 def test_a_takeover_that_did_not_look(epochs: tuple[int, int], notes: str, events: str) -> None:
-    """It is where its node read; else as late as the epochs of the chunks allow."""
+    """The takeover is placed where its node read; else as late as the epochs of the chunks allow."""
     chunks = [chunk._replace(epoch=epoch) for chunk, epoch in zip(CHUNKS, epochs)]
     last = -1 if epochs == (3, 3) else 2
     takeovers = [BORN, Takeover(2, "b", None, "1"), Takeover(3, "c", last, "1")]
@@ -166,7 +179,9 @@ def test_a_takeover_that_did_not_look(epochs: tuple[int, int], notes: str, event
 
 
 def test_another_server_lacks_the_last_commit() -> None:
-    """The second commit was heard and told, and is not there: it stands before the takeover."""
+    """The second commit was confirmed and acknowledged, and is missing: it is placed before the
+    takeover.
+    """
     takeovers = [BORN, Takeover(2, "a", 0, "2")]
     found = merged(f"{NODE}\ntook a 7 2 2 2 11", takeovers, CHUNKS[:1], "2")
     assert said(found) == f"{TWO}, moved 1 1, took 2 1 11, heard 1"
@@ -175,7 +190,7 @@ def test_another_server_lacks_the_last_commit() -> None:
 
 
 def test_another_server_lacks_takeovers() -> None:
-    """The shard went to another node, as that noted; the epoch between nobody noted."""
+    """The shard went to another node, as that one noted; no node noted the epoch between."""
     notes = f"{NODE}\ntook b 7 3 1 3 12\nsent b 7 3 1 3 13\nheard b 7 3 1 4"
     found = merged(notes, [BORN, Takeover(2, "a", 2, "2")], CHUNKS, "2")
     assert (
@@ -222,7 +237,7 @@ def test_a_line_that_is_none(line: str) -> None:
 
 
 def test_what_records_are_of() -> None:
-    """Shards, those that are closed, and the ends that were told."""
+    """A record has shards, closed shards, and the results that clients got."""
     records = Records()
     for line in (
         *NODE.splitlines(),

@@ -1,4 +1,6 @@
-"""One shard without an engine, a loop or a database: what it asks, and what comes of scripted answers."""
+"""One shard without an engine, a loop or a database: its questions, and its effects after scripted
+replies.
+"""
 
 from __future__ import annotations
 
@@ -26,7 +28,7 @@ TRACE = "00-0af7651916cd43dd8448eb211c80319c-b7ad6b7169203331-01"
 
 
 def two() -> Shelf:
-    """A saga of two steps in a row; the first can be undone."""
+    """Return a saga of two steps in a row; the first can be undone."""
     saga = sagas.Saga("two")
 
     @saga.step(tries=2)
@@ -45,7 +47,7 @@ SHELF = two()
 
 
 def driver() -> ShardDriver:
-    """A new shard with an engine."""
+    """Return a new shard with an engine."""
     found = ShardDriver.created(
         ShardIdentity(NUMBER, "name", ShardDefinitions(SHELF.kinds)), "line"
     )
@@ -55,22 +57,22 @@ def driver() -> ShardDriver:
 
 
 def instance(key: str) -> SagaInstance:
-    """A saga that is to be opened."""
+    """Return a saga that is to be opened."""
     return SagaInstance(key, '{"n":1}', SHELF.kinds[0], 0)
 
 
 def opened(number: int) -> str:
-    """The reply to an open."""
+    """Return the reply to an open."""
     return f'{{"event":{{"def":0,"event":"open","saga":{number}}}}}'
 
 
 def event(word: str, phase: str = "going", number: int = 0) -> str:
-    """The reply to a report."""
+    """Return the reply to a report."""
     return f'{{"event":{{"event":"{word}","saga":{number},"step":0}},"phase":"{phase}"}}'
 
 
 def tasks(*found: tuple[int, int, str, int], settled: bool = False) -> str:
-    """The reply to a claim: saga, step, action and number of each."""
+    """Return the reply to a claim: saga, step, action and number of each."""
     each = ",".join(
         f'{{"attempt":{count},"name":"x","saga":{saga},"step":{step},"task":"{word}"}}'
         for saga, step, word, count in found
@@ -83,21 +85,21 @@ def tasks(*found: tuple[int, int, str, int], settled: bool = False) -> str:
 
 
 def come(shard: ShardDriver, *replies: str, text: str = "line\n") -> Effects:
-    """The effects of an answer."""
+    """Return the effects of a reply."""
     found = shard.replies(replies, text, NOW)
     assert isinstance(found, Effects)
     return found
 
 
 def kept(shard: ShardDriver, effects: Effects) -> Effects:
-    """The same, once its batch is durable."""
+    """Return the effects of a reply once its batch is durable."""
     shard.writes(effects)
     shard.committed(effects)
     return effects
 
 
 def begun(shard: ShardDriver, key: str = "k") -> Attempt:
-    """The first attempt of a saga that is opened."""
+    """Return the first attempt of a saga that is opened."""
     shard.open(instance(key))
     shard.requests(8)
     (attempt,) = kept(
@@ -107,7 +109,9 @@ def begun(shard: ShardDriver, key: str = "k") -> Attempt:
 
 
 def test_a_saga_from_its_start_to_its_end() -> None:
-    """It is asked for, and nothing of it is so before its commit; its end is in the batch of its last report."""
+    """The shard asks for it, and nothing of it counts before its commit; its end is in the batch of
+    its last report.
+    """
     shard, saga = driver(), instance("k")
     shard.open(saga)
     assert shard.requests(8) == ['{"def":0,"do":"open","saga":0}', '{"do":"next","most":2}']
@@ -153,7 +157,7 @@ def test_a_saga_from_its_start_to_its_end() -> None:
 
 
 def test_no_more_tasks_are_claimed_than_there_are_slots() -> None:
-    """Without one none is asked for; a question has a bounded lot of reports and opens."""
+    """Without a free slot it claims none; a question has a bounded number of reports and opens."""
     shard = driver()
     for number in range(MOST_REPORTS + 10):
         shard.open(instance(f"k{number}"))
@@ -173,7 +177,10 @@ def test_no_more_tasks_are_claimed_than_there_are_slots() -> None:
 
 
 def test_a_shard_that_is_full_takes_no_more() -> None:
-    """Others take those that it was asked for. An empty one has room for any saga: an engine that says otherwise is not the one of this package."""
+    """Other shards take the sagas that it was asked for.
+
+    An empty shard has room for any saga: an engine that reports otherwise is of another package.
+    """
     shard, lives = driver(), [instance(f"k{number}") for number in range(3)]
     for saga in lives:
         shard.open(saga)
@@ -193,7 +200,10 @@ def test_a_shard_that_is_full_takes_no_more() -> None:
 
 
 def test_a_saga_whose_deadline_has_passed_is_aborted_as_it_is_opened() -> None:
-    """No task of it is claimed: it is planned, and over in the batch that opens it. Where there is no room, it is opened elsewhere."""
+    """No task of it is claimed: it is planned, and over in the batch that opens it.
+
+    If the shard is full, it is opened elsewhere.
+    """
     shard, soon = driver(), instance("soon")
     late, later = (
         SagaInstance(key, '{"n":1}', SHELF.kinds[0], 0, StartOptions(deadline=NOW)) for key in "ab"
@@ -228,7 +238,9 @@ def test_a_saga_whose_deadline_has_passed_is_aborted_as_it_is_opened() -> None:
 
 
 def test_an_engine_that_knows_something_else() -> None:
-    """Another number of replies, a report of what is not on its way, an open with another number: the shard is recovered."""
+    """The reply has another number of lines, a report of an attempt that is not in progress, or an
+    open with another number: the shard is recovered.
+    """
     shard = driver()
     attempt = begun(shard)
     attempt.finish(outcomes.Outcome(outcomes.SUCCEEDED, "1"), NOW)
@@ -245,7 +257,7 @@ def test_an_engine_that_knows_something_else() -> None:
 
 
 def test_a_refused_commit_makes_it_stale() -> None:
-    """What was asked meanwhile is not answered any more; a stale shard is asked nothing."""
+    """Questions that were asked in the meantime get no reply any more; a stale shard asks nothing."""
     shard = driver()
     attempt = begun(shard)
     attempt.finish(outcomes.Outcome(outcomes.SUCCEEDED, "1"), NOW)
@@ -264,7 +276,7 @@ def test_a_refused_commit_makes_it_stale() -> None:
 
 
 def shown(phase: str, answer: object, states: list[str]) -> str:
-    """A reply to `show`."""
+    """Return a reply to `show`."""
     told = {
         "aborted": False,
         "kept": [],
@@ -279,8 +291,11 @@ def shown(phase: str, answer: object, states: list[str]) -> str:
 
 
 def test_a_saga_that_fails_drains_and_its_end_is_asked() -> None:
-    """Once it is over, how it ended goes into the batch of the answer that ends it. It is asked along with what is expected to end it; where
-    that does not, behind the reply that does."""
+    """Once it is over, its result goes into the batch of the reply that ends it.
+
+    The question is sent along with the report that should end it; if another report ends it, after
+    that reply.
+    """
     shard = driver()
     attempt = begun(shard)
     saga = attempt.instance
@@ -319,7 +334,7 @@ def test_a_saga_that_fails_drains_and_its_end_is_asked() -> None:
 
 
 def test_an_abort_is_answered() -> None:
-    """With the command that it is of, in the batch."""
+    """The reply comes with the command of the abort, in the batch."""
     shard = driver()
     saga = begun(shard).instance
     for reply, done in (('{"refused":"over"}', False), (event("abort", "draining"), True)):
@@ -341,7 +356,7 @@ def test_an_abort_is_answered() -> None:
 
 
 def test_a_suspension_is_kept_by_itself() -> None:
-    """Its batch has the row alone, behind what was answered."""
+    """Its batch has only the row, after the replies before it."""
     shard = driver()
     attempt = begun(shard)
     effects = shard.suspended(attempt, SuspensionRow(Suspension.UNKNOWN, 60.0, "lost"), NOW)
@@ -356,7 +371,7 @@ def test_a_suspension_is_kept_by_itself() -> None:
 
 
 def test_a_state_that_may_not_follow(monkeypatch: pytest.MonkeyPatch) -> None:
-    """By the table."""
+    """The table forbids it."""
     monkeypatch.setattr(Check, "is_on", True)
     shard = driver()
     shard.to(ShardState.CLOSED)
@@ -365,7 +380,7 @@ def test_a_state_that_may_not_follow(monkeypatch: pytest.MonkeyPatch) -> None:
 
 
 def rows(*, results: list[Any] = [], held: list[Any] = [], open: bool = True) -> Loaded:
-    """What the store has of a shard with one saga."""
+    """Return the rows of the store for a shard with one saga."""
     there = [(7000, "k", 0, '{"n":1}', 9.0, TRACE, None)] if open else []
     return Loaded("x\n", 1, 1, there, results, held, epoch=3, line="other")
 
@@ -373,7 +388,7 @@ def rows(*, results: list[Any] = [], held: list[Any] = [], open: bool = True) ->
 def recovered(
     shard: ShardDriver, loaded: Loaded, busy: list[tuple[int, str, int]]
 ) -> recovery.Recovery:
-    """A shard that was taken up from them."""
+    """Return a shard that was recovered from them."""
     shard.fail()
     shard.to(ShardState.LOADING)
     shard.loaded(loaded)
@@ -385,7 +400,9 @@ def recovered(
 
 
 def test_what_runs_stays_and_what_had_not_begun_is_forgotten() -> None:
-    """An attempt that the engine knows as begun is the same one; another, of which the store knows nothing, is none."""
+    """An attempt that the engine knows as started stays the same one; another one, which the store
+    does not know, is dropped.
+    """
     shard = driver()
     attempt = begun(shard)
     attempt.start()
@@ -404,7 +421,7 @@ def test_what_runs_stays_and_what_had_not_begun_is_forgotten() -> None:
 
 
 def test_a_finished_attempt_is_reported_again_or_replaced() -> None:
-    """It stays finished. Where its transaction is not there, a new one takes its place."""
+    """It stays finished. If its transaction is missing, a new attempt replaces it."""
     shard = driver()
     attempt = begun(shard)
     attempt.finish(outcomes.Outcome(outcomes.SUCCEEDED, "1"), NOW)
@@ -431,7 +448,9 @@ def test_a_finished_attempt_is_reported_again_or_replaced() -> None:
     [(1, "line", True), (2, "line", True), (3, "line", False), (2, "other", False)],
 )
 def test_what_was_given_up_is_decided_again(epoch: int, line: str, is_ours: bool) -> None:
-    """And what waits is made anew from its row, where another node may have had the shard, or another server took over: it may have been called there."""
+    """A waiting attempt is made again from its row if another node may have had the shard, or
+    another server took over: it may have been called there.
+    """
     shard = driver()
     attempt = begun(shard)
     attempt.finish(outcomes.failure("not called", called=False), NOW)
@@ -455,7 +474,7 @@ def test_what_was_given_up_is_decided_again(epoch: int, line: str, is_ours: bool
 
 
 def test_rows_of_an_earlier_program() -> None:
-    """A result whose report is not there is reported; a suspension goes on; a saga that is over is gone."""
+    """A result without its report is reported; a suspension continues; a saga that is over is gone."""
     row = (7000, 0, "run", 1)
     begun_before = recovered(
         begun_shard := driver(), rows(results=[(*row, "ok", '"r"', 9.0)]), [(0, "run", 1)]
@@ -483,7 +502,9 @@ def test_rows_of_an_earlier_program() -> None:
 
 
 def test_aborts_are_asked_again_or_answered() -> None:
-    """Of a saga that is open once more; of one that is gone it did nothing."""
+    """An abort of a saga that is open again is repeated; the abort of a saga that is gone did
+    nothing.
+    """
     shard = driver()
     saga = begun(shard).instance
     abort = Abort(saga)
@@ -499,7 +520,7 @@ def test_aborts_are_asked_again_or_answered() -> None:
 
 
 def aborted_by_the_log(shard: ShardDriver) -> recovery.Recovery:
-    """A shard that was taken up after its engine ended, and of which the log has an abort."""
+    """Return a shard that was recovered after its engine ended, with an abort in its log."""
     loaded = rows()
     loaded.text = event("abort", "draining")
     shard.fail()
@@ -513,8 +534,8 @@ def aborted_by_the_log(shard: ShardDriver) -> recovery.Recovery:
 
 @pytest.mark.parametrize("is_answered", [False, True])
 def test_a_saga_is_aborted_by_one_abort(is_answered: bool) -> None:
-    """Of two that were asked when the engine ended, by the first: by neither if another one was
-    answered before.
+    """Two aborts were requested when the engine ended: the first one counts, or neither if another
+    one had its reply before.
     """
     shard = driver()
     saga = begun(shard).instance
@@ -544,7 +565,7 @@ def test_a_saga_that_comes_from_the_store_has_its_options() -> None:
 
 
 def test_labels_go_with_the_row_of_their_saga() -> None:
-    """A saga that is displaced takes them into the next shard; others have no row of them."""
+    """A saga that is displaced takes them into the next shard; other sagas have no row of them."""
     saga = SagaInstance(
         "k",
         "1",
@@ -570,7 +591,9 @@ def test_labels_go_with_the_row_of_their_saga() -> None:
 
 
 def test_a_plan_and_what_it_begins_come_by_one_question() -> None:
-    """Of each saga that is expected to be planned, a task more is asked for, also beyond the slots: a plan comes before what it undoes."""
+    """For each saga that is expected to be planned, one more task is claimed, also beyond the
+    slots: a plan comes before the compensations.
+    """
     shard = driver()
     one, two = begun(shard, "one"), begun(shard, "two")
     for attempt in (one, two):

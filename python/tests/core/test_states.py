@@ -1,4 +1,4 @@
-"""The states, what may follow what, and the words for each."""
+"""The states, their transitions, and the words for each."""
 
 from __future__ import annotations
 
@@ -41,14 +41,14 @@ WRITERS: dict[AttemptState, Callable[[Attempt], object]] = {
 
 @pytest.fixture(autouse=True)
 def checked() -> Iterator[None]:
-    """Each transition is looked up."""
+    """Check each transition."""
     before, states.Check.is_on = states.Check.is_on, True
     yield
     states.Check.is_on = before
 
 
 def attempt_in(state: AttemptState) -> Attempt:
-    """An attempt that stands there."""
+    """Return an attempt in that state."""
     saga = sagas.Saga("one")
 
     @saga.step(undo=0)
