@@ -1,4 +1,6 @@
-"""Child sagas: started once each, aborted with their parents, and undone by their own compensations."""
+"""Child sagas: started once each, aborted with their parents, and undone by their own
+compensations.
+"""
 
 from __future__ import annotations
 

@@ -241,7 +241,9 @@ def command(store: str, word: str, *words: str) -> int:
 
 
 def test_a_service_shows_damaged_shards(place: str, tmp_path: pathlib.Path) -> None:
-    """It answers, lists the sagas of the shard in the inbox, the API and the metrics, and logs the shard once as an error."""
+    """It answers, lists the sagas of the shard in the inbox, the API and the metrics, and logs the
+    shard once as an error.
+    """
     with served(tmp_path, store=place) as service:
         with service.client() as client:
             for key in ("k0", "k1"):

@@ -308,7 +308,10 @@ def test_in_a_simulation() -> None:
 
 @pytest.mark.parametrize("way", ["abort", "failure"])
 def test_one_whose_needs_are_committed_is_committed_before_a_recovery(place: str, way: str) -> None:
-    """No slot is free for it, and its saga is aborted, or a step fails: it is undone as any other. So is one that needs it."""
+    """No slot is free for it, and its saga is aborted, or a step fails: it is undone as any other.
+
+    So is one that needs it.
+    """
     saga, calls, gate = sagas.Saga("order"), list[Any](), asyncio.Event()
 
     @saga.step(keep=9)

@@ -198,8 +198,8 @@ def test_no_more_than_its_rate(place: str) -> None:
     for first, fifth in zip(count.at, count.at[4:]):
         assert fifth - first > PERIOD / 2, (
             count.at
-            # counted when the slot is granted, before the call; the delay depends on the load of this
-            # machine
+            # counted when the slot is granted, before the call; the delay depends on the load of
+            # this machine
         )
 
 

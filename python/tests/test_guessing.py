@@ -223,7 +223,9 @@ def offered(url: str) -> list[tuple[str, str]]:
 
 
 def test_a_key_that_a_client_started(url: str, looks: list[str]) -> None:
-    """No node has its saga: it waits, and a node's start of the key is one of that saga's, or a conflict."""
+    """No node has its saga: it waits, and a node's start of the key is one of that saga's, or a
+    conflict.
+    """
     kind, other = step(), sagas.Saga("other")
 
     @other.step
