@@ -418,7 +418,9 @@ class FeatureJudge(stores.Judge):
         self.verdict.figures["overdue"] += bool(one.end and one.end["aborted"])
 
     def _limits(self) -> None:
-        """Check the calls that ran at once: in a program, and over all nodes if the limit is exact."""
+        """Check the calls that ran at once: in a program, and over all nodes if the limit
+        is exact.
+        """
         if "concurrency_by" not in self.options:
             return
         inside: dict[tuple[Any, ...], set[str]] = defaultdict(set)

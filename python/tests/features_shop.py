@@ -231,7 +231,9 @@ class Shop:
         return result_of(task.key, task.step)
 
     def _fails_at_first(self, task: Any, kind: str) -> None:
-        """Return whether this call fails; calls fail only before the first one that has an effect."""
+        """Return whether this call fails; calls fail only before the first one that has
+        an effect.
+        """
         path = pathlib.Path(self.settings.folder, "fails", task.idempotency_key)
         calls = path.stat().st_size if path.exists() else 0
         if calls < int(chance(f"{task.key}/{kind}/calls") * 6):

@@ -1,6 +1,7 @@
 """Strike two nodes over one database at random moments, and judge the store at the end.
 
-    python3 tests/kills_nodes.py [--rounds N] [--kinds nodes,children,closing] [--sagas N] [--seed S]
+    python3 tests/kills_nodes.py [--rounds N] [--kinds nodes,children,closing]
+        [--sagas N] [--seed S]
 
 Both nodes start the same sagas, and each is started again until it has the results of all. They
 reach their server through a relay. The kinds are:
@@ -200,7 +201,10 @@ def play(
                 )
             )
         troubles: list[str | None] = []
-        threads = [threading.Thread(target=lambda one=one: troubles.append(one.until_over())) for one in strikers]  # type: ignore[misc]
+        threads = [
+            threading.Thread(target=lambda striker=striker: troubles.append(striker.until_over()))  # type: ignore[misc]
+            for striker in strikers
+        ]
         for thread in threads:
             thread.start()
         for thread in threads:

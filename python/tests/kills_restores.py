@@ -137,7 +137,9 @@ class Program:
 
 @dataclass
 class Restored:
-    """The times at which the restored backup was started, and its restore was finished (wall time)."""
+    """The times at which the restored backup was started, and its restore was finished
+    (wall time).
+    """
 
     backup: float
     done: float

@@ -361,7 +361,9 @@ async def a_refused_start_comes_late(stage: Stage) -> int:
 async def the_answer_to_a_commit_is_lost(
     stage: Stage, mark: bytes = COMMIT, inside: bool = False
 ) -> int:
-    """The statement that stores a step's end is done, and its connection is cut before the reply."""
+    """The statement that stores a step's end is done, and its connection is cut before
+    the reply.
+    """
     with relaying(stage.server.port) as relay:
         async with stage.node("one", url=through(stage, relay), inside=inside) as (node, store):
             work = asyncio.create_task(node.one(store, 0))

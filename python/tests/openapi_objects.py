@@ -172,7 +172,9 @@ class Checker:
 
 
 def schema_faults(schema: Any, where: str) -> Iterator[str]:
-    """Return the errors by the meta-schema of JSON Schema 2020-12, which must define each keyword."""
+    """Return the errors by the meta-schema of JSON Schema 2020-12, which must define each
+    keyword.
+    """
     try:
         jsonschema.Draft202012Validator.check_schema(schema)
     except jsonschema.SchemaError as error:

@@ -44,7 +44,9 @@ def free_port() -> int:
 
 @functools.cache
 def made() -> pathlib.Path:
-    """Return the files of a new server, made once by this process: each server has a copy of them."""
+    """Return the files of a new server, made once by this process: each server has a copy
+    of them.
+    """
     folder = pathlib.Path(tempfile.mkdtemp(prefix="sagas-pg-", dir="/tmp"))
     atexit.register(shutil.rmtree, folder, ignore_errors=True)
     folder.chmod(0o755)
@@ -248,7 +250,8 @@ class Pair:
 
     def url(self, database: str) -> str:
         """Return the address of a database, with both hosts."""
-        return f"postgresql://owner@127.0.0.1:{self.primary.port},127.0.0.1:{self.standby.port}/{database}?target_session_attrs=read-write"
+        hosts = f"127.0.0.1:{self.primary.port},127.0.0.1:{self.standby.port}"
+        return f"postgresql://owner@{hosts}/{database}?target_session_attrs=read-write"
 
     def hold_back(self) -> None:
         """Let the standby have everything up to now, and nothing that comes later."""

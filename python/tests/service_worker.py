@@ -83,10 +83,8 @@ class Twice(sagas.Worker):
                     path, {name: value for name, value in body.items() if name != "next"}
                 )
                 assert again and again["repeated"], (path, body, again)
-            except (
-                ServiceRefused
+            except ServiceRefused as refusal:
                 # a service that was restarted has forgotten an unknown outcome and its lease
-            ) as refusal:
                 assert refusal.status == 409 and path.endswith("/unknown"), (path, body, refusal)
         return told
 

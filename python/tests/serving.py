@@ -108,7 +108,9 @@ def environment() -> dict[str, str]:
 
 
 class Served:
-    """A service over `folder/store.db`, or another store, with definitions in `folder/definitions`."""
+    """A service over `folder/store.db`, or another store, with definitions in
+    `folder/definitions`.
+    """
 
     def __init__(
         self,

@@ -63,7 +63,9 @@ class Reverse:
 
 
 def copy(undone: list[Any] | None = None) -> sagas.Saga:
-    """Return a saga with large results, each step of which reads the one before; and a waiting one."""
+    """Return a saga with large results, each step of which reads the one before; and a
+    waiting one.
+    """
     saga = sagas.Saga("copy")
 
     @saga.step(undo=1, keep=9, backoff=QUICK)

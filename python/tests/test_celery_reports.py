@@ -133,7 +133,9 @@ def inside(broker: Broker, url: str, monkeypatch: pytest.MonkeyPatch) -> Late:
 
 @pytest.mark.parametrize("commits", [True, False])
 def test_its_transaction_is_open(inside: Late, commits: bool) -> None:
-    """The operator's report waits for the worker's transaction, and counts if that is rolled back."""
+    """The operator's report waits for the worker's transaction, and counts if that is
+    rolled back.
+    """
 
     async def main() -> None:
         link = await psycopg.AsyncConnection.connect(inside.place)

@@ -325,7 +325,9 @@ def test_definitions_that_cannot_be() -> None:
 
 
 def test_keys_and_inputs_that_cannot_be(place: str) -> None:
-    """A key that is too long for a child's key is refused at the start; the others fail the step."""
+    """A key that is too long for a child's key is refused at the start; the others fail
+    the step.
+    """
     world = Trip()
 
     @world.trip.child(world.hotel, keep=0)

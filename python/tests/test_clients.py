@@ -24,7 +24,9 @@ from sagas.storage.postgresql import notifications
 
 
 def shop() -> sagas.Saga:
-    """Return a saga with a step, an approval if the input requests one, and a step that may fail."""
+    """Return a saga with a step, an approval if the input requests one, and a step that
+    may fail.
+    """
     shop = sagas.Saga("shop")
 
     @shop.step
@@ -380,7 +382,9 @@ def test_an_abort_whose_start_goes_away_hears_of_it(url: str) -> None:
 
 
 def test_a_finish_of_a_start_that_is_withdrawn_hears_of_it(url: str) -> None:
-    """It waits for a node; the abort of another client removes the start, and the request with it."""
+    """It waits for a node; the abort of another client removes the start, and the request
+    with it.
+    """
     kind = shop()
     made(url, kind)
 

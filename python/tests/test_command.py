@@ -534,11 +534,9 @@ def test_a_compensation_that_failed_is_seen(place: str, capsys: pytest.CaptureFi
     async def main() -> None:
         async with sagas.open(place, [row]) as store:
             end = await (await store.start(row, "bad", "gone")).wait()
-            assert end.states[
-                "take"
-            ] == "undo_failed" and "\n  undo failed take: sagas.Fail: it is gone\n  failed      send:" in str(
-                end
-            )
+            assert end.states["take"] == "undo_failed"
+            lines = "\n  undo failed take: sagas.Fail: it is gone\n  failed      send:"
+            assert lines in str(end)
             assert re.search(r"take  undo failed +5 +never  stands", str(await store.plan("bad")))
             await (await store.start(row, "undone")).wait()
             listed = [(one.key, one.phase, one.undo_failed) for one in await store.list()]
@@ -884,13 +882,14 @@ def test_words_for_people() -> None:
     )
 
 
-# as of a transaction that no program has reported
 FORGED = {
-    "UPDATE sagas SET phase = CASE key WHEN 'good' THEN 'stuck' ELSE 'ended' END WHERE key IN ('good', 'bad')": [
+    "UPDATE sagas SET phase = CASE key WHEN 'good' THEN 'stuck' ELSE 'ended' END"
+    " WHERE key IN ('good', 'bad')": [
         "good: the row says stuck, the events say completed",
         "bad: the row says completed, the events say stuck",
     ],
-    "UPDATE sagas SET phase = 'ended', outcome = (SELECT outcome FROM sagas WHERE key = 'good') WHERE key = 'bad'": [
+    "UPDATE sagas SET phase = 'ended',"
+    " outcome = (SELECT outcome FROM sagas WHERE key = 'good') WHERE key = 'bad'": [
         "bad: the row says completed, the events say stuck"
     ],
     "UPDATE sagas SET outcome = replace(outcome, 'committed', 'undone') WHERE key = 'good'": [
@@ -905,21 +904,22 @@ FORGED = {
     "UPDATE sagas SET definition_index = 7 WHERE key = 'odd'": [
         "odd: the row has definition 7, the events 0"
     ],
-    "UPDATE attempts SET event = 'missed' WHERE id = (SELECT id FROM sagas WHERE key = 'bad') AND event = 'fail'": [
+    "UPDATE attempts SET event = 'missed'"
+    " WHERE id = (SELECT id FROM sagas WHERE key = 'bad') AND event = 'fail'": [
         "bad: charge, run 2: the row says missed, the events fail"
     ],
     "DELETE FROM attempts WHERE id = (SELECT id FROM sagas WHERE key = 'good')": [
         "good: reserve, run 1: the row says nothing, the events commit",
         "good: charge, run 1: the row says nothing, the events commit",
     ],
-    "INSERT INTO attempts SELECT id, 1, 'undo', 1, 'undone', NULL, 0 FROM sagas WHERE key = 'good'": [
-        "good: charge, undo 1: the row says undone, the events nothing"
-    ],
+    "INSERT INTO attempts SELECT id, 1, 'undo', 1, 'undone', NULL, 0 FROM sagas"
+    " WHERE key = 'good'": ["good: charge, undo 1: the row says undone, the events nothing"],
     "DELETE FROM sagas WHERE key = 'letter-1'": ["saga 3: events, and no row"],
     "INSERT INTO attempts SELECT id, 1, 'undo', 1, 'ok', NULL, 0 FROM sagas WHERE key = 'good'": [
         "good: charge, undo 1: the row says ok, the events nothing"
     ],
-    "INSERT INTO attempts SELECT id, 1, 'run', 1, 'ok', NULL, 0 FROM sagas WHERE key = 'odd'": ([]),
+    # as of a transaction that no program has reported
+    "INSERT INTO attempts SELECT id, 1, 'run', 1, 'ok', NULL, 0 FROM sagas WHERE key = 'odd'": [],
     "UPDATE attempts SET value = 'null'": [],
 }
 """Changes of the rows of a store, and the audit's report of each."""

@@ -102,7 +102,9 @@ def factories(clients: Clients) -> dict[str, Any]:
 
 @pytest.mark.parametrize("form", ["object", "async", "plain", "class"])
 def test_each_function_gets_it_and_it_is_left_behind_the_last(place: str, form: str) -> None:
-    """However it is called: plain, in a thread, in its time, in a transaction, as a compensation."""
+    """However it is called: plain, in a thread, in its time, in a transaction, as a
+    compensation.
+    """
     clients = Clients()
     saga, context = shop(inside=place.startswith("postgresql")), factories(clients)[form]
 
@@ -131,7 +133,9 @@ def test_a_store_without_async_opens_and_closes_it_in_one_task(place: str) -> No
 
 
 def test_it_is_made_anew_for_what_goes_on(place: str) -> None:
-    """It exists before the first function of a recovered saga is called, and while functions end."""
+    """It exists before the first function of a recovered saga is called, and while
+    functions end.
+    """
     saga, told = sagas.Saga("again"), list[str]()
 
     @contextlib.asynccontextmanager

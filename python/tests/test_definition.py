@@ -594,7 +594,8 @@ def test_why_a_step_stands() -> None:
         format = 2
         name = "s"
         step = [
-            {name = "a", keep = 1}, {name = "b", needs = ["a"], undo = 5, keep = 3}, {name = "c", needs = ["a"], skip = 9},
+            {name = "a", keep = 1}, {name = "b", needs = ["a"], undo = 5, keep = 3},
+            {name = "c", needs = ["a"], skip = 9},
             {name = "d", undo = "never", needs = ["b"]}, {name = "e", needs = ["a"]},
         ]
     """
@@ -629,7 +630,9 @@ def test_hints_that_are_not_read() -> None:
 
 
 def test_decorators_with_and_without_words() -> None:
-    """`@saga.approval` works as `@saga.step`; a function is decorated, and not passed as `handler`."""
+    """`@saga.approval` works as `@saga.step`; a function is decorated, and not passed as
+    `handler`.
+    """
     saga = sagas.Saga("s")
 
     @saga.approval

@@ -108,7 +108,9 @@ async def asked(store: sagas.Store) -> list[sagas.Attention]:
 def opened(
     place: str, kind: sagas.Saga, hook: Callable[[sagas.Event], object] | None = None
 ) -> Any:
-    """Open the next program: by its name it has its shards at once, and a case may block its loop."""
+    """Open the next program: by its name it has its shards at once, and a case may block
+    its loop.
+    """
     return sagas.open(place, [kind], node="one", lease=60, on_event=hook)
 
 

@@ -221,7 +221,9 @@ def test_a_look_is_no_program(tmp_path: pathlib.Path, monkeypatch: pytest.Monkey
 def test_a_database_of_another_program(
     tmp_path: pathlib.Path, capsys: pytest.CaptureFixture[str], mode: str, version: int
 ) -> None:
-    """It is neither opened nor migrated, and nothing of it changes; an empty one becomes a store."""
+    """It is neither opened nor migrated, and nothing of it changes; an empty one becomes
+    a store.
+    """
     saga, path = simple(lambda task: 1), tmp_path / "other.db"
 
     async def main() -> None:
@@ -297,7 +299,9 @@ exec {program} "$@"
 def test_an_audit_is_killed(
     tmp_path: pathlib.Path, place: str, monkeypatch: pytest.MonkeyPatch
 ) -> None:
-    """It has reported nothing about the log, which is audited again, and is closed as a valid one."""
+    """It has reported nothing about the log, which is audited again, and is closed as a
+    valid one.
+    """
     monkeypatch.setattr("sagas.definition.shelf.SHARD_CAPACITY", 2)
     killed, once, told = tmp_path / "killed", tmp_path / "once", list[str]()
     killed.write_text(KILLED_ONCE.format(once=once, program=program()))
@@ -462,7 +466,8 @@ def test_ctrl_c(tmp_path: pathlib.Path, times: int) -> None:
     path, go = tmp_path / "store.db", tmp_path / "go"
     text = f"""
         import asyncio, os, sagas, signal
-        signal.signal(signal.SIGINT, signal.default_int_handler)  # which a job in the background ignores
+        # a job in the background ignores SIGINT
+        signal.signal(signal.SIGINT, signal.default_int_handler)
         saga = sagas.Saga("simple")
         @saga.step
         async def a(task):
@@ -948,7 +953,8 @@ import json, os, subprocess, sys
 if sys.argv[1] != "drive":
     os.execv({program!r}, [{program!r}, *sys.argv[1:]])
 fds = [int(word.rsplit("/", 1)[1]) for word in sys.argv if word.startswith("/proc/self/fd/")]
-drive = subprocess.Popen([{program!r}, *sys.argv[1:]], stdin=subprocess.PIPE, stdout=subprocess.PIPE, pass_fds=fds)
+pipes = {{"stdin": subprocess.PIPE, "stdout": subprocess.PIPE}}
+drive = subprocess.Popen([{program!r}, *sys.argv[1:]], pass_fds=fds, **pipes)
 for line in sys.stdin.buffer:
     drive.stdin.write(line)
     drive.stdin.flush()
@@ -959,7 +965,7 @@ for line in sys.stdin.buffer:
         try:
             os.unlink({once!r})
             os.write(1, b"".join(lines[:-1]))
-            os._exit(9)  # it is decided, and nobody is told
+            os._exit(9)  # the event is written, and the reply is not
         except FileNotFoundError:
             pass
     os.write(1, b"".join(lines))
@@ -970,7 +976,9 @@ for line in sys.stdin.buffer:
 def test_the_child_dies_between_log_and_reply(
     tmp_path: pathlib.Path, place: str, event: str
 ) -> None:
-    """It has decided, and dies before it replies: the outcome is reported again, for its attempt."""
+    """It has decided, and dies before it replies: the outcome is reported again, for its
+    attempt.
+    """
     between, once = tmp_path / "between", tmp_path / "once"
     between.write_text(BETWEEN.format(program=program(), event=event, once=str(once)))
     between.chmod(0o755)

@@ -196,11 +196,8 @@ def test_no_more_than_its_rate(place: str) -> None:
     run(main())
     assert len(count.at) == 12 and time.monotonic() - began >= 2 * PERIOD
     for first, fifth in zip(count.at, count.at[4:]):
-        assert fifth - first > PERIOD / 2, (
-            count.at
-            # counted when the slot is granted, before the call; the delay depends on the load of
-            # this machine
-        )
+        # counted when the slot is granted, before the call; the delay depends on the machine's load
+        assert fifth - first > PERIOD / 2, count.at
 
 
 def test_a_rate_holds_over_all_nodes(url: str) -> None:

@@ -117,7 +117,9 @@ def import_faults(module: str, tree: ast.AST) -> Iterator[str]:
 
 
 def attributes(node: ast.ClassDef) -> set[str]:
-    """Return the attributes that a class declares, and those of `self` that its own functions set."""
+    """Return the attributes that a class declares, and those of `self` that its own
+    functions set.
+    """
     found = {
         one.target.id
         for one in node.body

@@ -21,8 +21,10 @@ from sagas.storage.postgresql.writer import Writer
 LOGS, ROOM = 6, 3
 BORN = "another", [(0, "digest", "text")]
 REFUSES = """
-CREATE FUNCTION refuses() RETURNS trigger LANGUAGE plpgsql AS $$ BEGIN RAISE 'it is not read'; END $$;
-CREATE TRIGGER refuses BEFORE UPDATE ON sagas.shards FOR EACH ROW WHEN (NEW.shard = {}) EXECUTE FUNCTION refuses();
+CREATE FUNCTION refuses() RETURNS trigger LANGUAGE plpgsql AS
+    $$ BEGIN RAISE 'it is not read'; END $$;
+CREATE TRIGGER refuses BEFORE UPDATE ON sagas.shards
+    FOR EACH ROW WHEN (NEW.shard = {}) EXECUTE FUNCTION refuses();
 """
 
 
@@ -157,7 +159,8 @@ def test_a_commit_behind_a_chunk_that_is_not_there(
         with psycopg.connect(url, autocommit=True) as link:
             link.execute(f"DELETE FROM sagas.event_log e WHERE shard = {lacks} AND {last}".encode())
             link.execute(
-                f"UPDATE sagas.event_log e SET committed_at = 0 WHERE shard = {differs} AND {last}".encode()
+                "UPDATE sagas.event_log e SET committed_at = 0"
+                f" WHERE shard = {differs} AND {last}".encode()
             )
         lost = set[int]()
         for lot in [batches] if together else [[one] for one in batches]:

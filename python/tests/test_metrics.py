@@ -18,7 +18,9 @@ def seconds(figures: metrics.Metrics) -> str:
 
 
 def test_times_are_counted_whatever_else_began(monkeypatch: pytest.MonkeyPatch) -> None:
-    """The ends of attempts at other nodes are never reported here: the oldest attempts are dropped."""
+    """The ends of attempts at other nodes are never reported here: the oldest attempts
+    are dropped.
+    """
     monkeypatch.setattr(metrics, "MOST_BEGUN", 3)
     figures = metrics.Metrics(cast(Any, None))
 

@@ -268,7 +268,9 @@ def test_sigterm_hands_over_at_once(tmp_path: pathlib.Path, url: str) -> None:
 
 
 def test_an_old_name_has_its_logs_at_once(url: str, tmp_path: pathlib.Path) -> None:
-    """A node that is started again under its name does not wait for the lease of its earlier run."""
+    """A node that is started again under its name does not wait for the lease of its
+    earlier run.
+    """
 
     async def main() -> None:
         with node(tmp_path, url, "web", 3, lease=600) as process:
@@ -287,7 +289,9 @@ def test_an_old_name_has_its_logs_at_once(url: str, tmp_path: pathlib.Path) -> N
 
 
 def test_a_node_that_opens_keeps_its_lease(url: str, tmp_path: pathlib.Path) -> None:
-    """Its context takes longer than a lease: no other node takes the shards that it has just taken."""
+    """Its context takes longer than a lease: no other node takes the shards that it has
+    just taken.
+    """
     told, tell = list[str](), lambda event: told.append(event.name)
 
     async def main() -> None:
@@ -367,7 +371,9 @@ def test_a_log_that_another_wrote_while_its_child_was_let_go(
 
 
 def test_a_log_that_a_node_has_no_functions_for_is_left(url: str) -> None:
-    """It is listed by name, and driven by the node that has the functions, as in a rolling deploy."""
+    """It is listed by name, and driven by the node that has the functions, as in a
+    rolling deploy.
+    """
     gate = asyncio.Event()
     calls: list[str] = []
     old, new = pair(gate, calls), simple(lambda task: 1)
@@ -835,7 +841,8 @@ def test_a_node_says_between_two_lots_that_it_lives(
 
 
 WAITS = """
-CREATE FUNCTION sagas.waits() RETURNS boolean LANGUAGE plpgsql AS 'BEGIN PERFORM pg_advisory_xact_lock(1); RETURN true; END'
+CREATE FUNCTION sagas.waits() RETURNS boolean LANGUAGE plpgsql AS
+    'BEGIN PERFORM pg_advisory_xact_lock(1); RETURN true; END'
 """
 
 
@@ -1288,7 +1295,9 @@ def starved() -> float:
 
 
 class Turns:
-    """The longest turn of the event loop, without the time that other processes had the processors."""
+    """The longest turn of the event loop, without the time that other processes had the
+    processors.
+    """
 
     def __init__(self) -> None:
         self.longest = 0.0

@@ -174,7 +174,9 @@ def test_a_result_that_could_not_be_stored(place: str) -> None:
 
 
 def test_a_set_crosses(place: str) -> None:
-    """A set is stored as a list, which the hint makes a set again; `of` takes a step's name, too."""
+    """A set is stored as a list, which the hint makes a set again; `of` takes a step's
+    name, too.
+    """
     saga = sagas.Saga("sets")
 
     @saga.step

@@ -67,7 +67,9 @@ def asked(link: psycopg.Connection[Any]) -> int:
 
 
 async def waits_for_a_person(url: str, store: sagas.Store, key: str) -> None:
-    """Check that the saga waits for its approval, and that no earlier request is executed for it."""
+    """Check that the saga waits for its approval, and that no earlier request is executed
+    for it.
+    """
     await until(lambda: [held.waits for held in store.active_attempts(key)] == ["approval"], 30)
     await store.complete(key, "sign", "by hand")
     end = await store.wait(key)

@@ -458,7 +458,9 @@ def test_a_clock_that_is_put_forward_lets_nothing_go(place: str) -> None:
 
 
 def test_an_open_store_lets_them_go(place: str, tmp_path: pathlib.Path) -> None:
-    """`retention` and `archive_dir` work while sagas are started: a node reports what was deleted."""
+    """`retention` and `archive_dir` work while sagas are started: a node reports what was
+    deleted.
+    """
     kind = shop()
     told: list[sagas.Event] = []
 

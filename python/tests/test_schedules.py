@@ -162,7 +162,9 @@ def test_schedules_that_are_none(tmp_path: pathlib.Path) -> None:
 
 
 def test_a_schedule_starts_sagas(place: str) -> None:
-    """In real time: each time's saga has its input and labels; a removed schedule starts no more."""
+    """In real time: each time's saga has its input and labels; a removed schedule starts
+    no more.
+    """
 
     async def main() -> None:
         async with sagas.open(place, [kind := nightly()]) as store:

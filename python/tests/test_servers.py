@@ -482,7 +482,9 @@ class Lacking:
         return bool("lacking" in self.booked() or self.lost or over)
 
     async def part(self, store: sagas.Store) -> None:
-        """Start both, and let the standby take over, which has the log and the first one of them."""
+        """Start both, and let the standby take over, which has the log and the first one
+        of them.
+        """
         self.loop = asyncio.get_running_loop()
         await store.start(self.kind, "there")
         await until(lambda: self.calls == ["there"], 60)

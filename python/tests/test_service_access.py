@@ -671,7 +671,9 @@ def test_headers(guarded: Guarded) -> None:
 
 
 def test_without_tokens_only_the_loopback_s_names(tmp_path: pathlib.Path) -> None:
-    """A request for a name that another page made point here gets no answer; and rates are limited."""
+    """A request for a name that another page made point here gets no answer; and rates
+    are limited.
+    """
     with served(tmp_path, DEFINITIONS, "--rate", "0.4") as service, service.client() as client:
         assert (
             error_of(client.get("/v1/sagas", headers={"Host": "elsewhere.example"}))

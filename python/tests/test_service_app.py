@@ -169,7 +169,9 @@ class Later:
 
 
 def test_values_of_a_service() -> None:
-    """Blobs of coroutines are read also if a loop runs; missing ones are reported without values."""
+    """Blobs of coroutines are read also if a loop runs; missing ones are reported without
+    values.
+    """
     blob = {"$blob": "ab/1/c", "bytes": 3, "digest": "0" * 64}
     values = ServiceValues(None, Later({"ab/1/c": b"[1]"}))
 

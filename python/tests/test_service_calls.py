@@ -676,7 +676,9 @@ def test_the_list(client: httpx.Client) -> None:
 
 
 def test_events_are_streamed(service: Served, client: httpx.Client) -> None:
-    """The stream has those of one saga, from now on; again after the last one that the client saw."""
+    """The stream has those of one saga, from now on; again after the last one that the
+    client saw.
+    """
     with service.client() as other, other.stream("GET", "/v1/events?key=streamed") as stream:
         lines = stream.iter_lines()
         assert next(lines).startswith("retry")
@@ -792,7 +794,7 @@ def test_the_log_is_lines_of_json(service: Served, client: httpx.Client) -> None
     while '"/v1/sagas/logged/wait"' not in service.told():
         assert time.monotonic() < deadline
         time.sleep(0.05)
-    # what it says before
+    # the lines before are the service's start
     told = [
         json.loads(line)
         for line in service.told().splitlines()

@@ -197,7 +197,9 @@ def test_a_fault_has_its_line(tmp_path: pathlib.Path, text: str, beside: str, sa
 
 
 def test_what_is_good(tmp_path: pathlib.Path) -> None:
-    """It is read; its warnings have their lines as well, and two of one name and version name both."""
+    """It is read; its warnings have their lines as well, and two of one name and version
+    name both.
+    """
     (tmp_path / "a.toml").write_text(GOOD.replace("undo = 5", "undo = 5\nkeep = 1"))
     (tmp_path / "a.service.toml").write_text(BESIDE)
     (saga,) = definition_files.read(tmp_path)

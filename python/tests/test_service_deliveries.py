@@ -84,7 +84,9 @@ def csrf_of(text: str) -> str:
 
 
 def test_the_page_lists_them(world: World, receiver: Receiver) -> None:
-    """The newest comes first, by state and by webhook; texts are escaped, and no secret is shown."""
+    """The newest comes first, by state and by webhook; texts are escaped, and no secret
+    is shown.
+    """
     page = world.page("operator")
     text = page.get("/ui/webhooks").text
     assert [row[:4] for row in rows(text)] == [

@@ -89,7 +89,9 @@ def limited(
     ids=["a length", "chunks", "the login", "an answer that has come", "a head alone"],
 )
 def test_bodies_that_trickle(limited: Served, head: str, part: bytes) -> None:
-    """There are more of them than connections: each request of another client is answered at once."""
+    """There are more of them than connections: each request of another client is answered
+    at once.
+    """
     with trickling(limited, MOST + 1, head, part):
         for _ in range(25):
             with limited.client() as client:
@@ -318,7 +320,8 @@ def test_idle_ones_give_way_before_those_at_work(tmp_path: pathlib.Path) -> None
             start(client, "trip", "slow")
         works = stack.enter_context(raw(service))
         works.sendall(
-            f"GET /v1/sagas/slow/wait?seconds=5 HTTP/1.1\r\nHost: {service.address}\r\n\r\n".encode()
+            "GET /v1/sagas/slow/wait?seconds=5 HTTP/1.1\r\n"
+            f"Host: {service.address}\r\n\r\n".encode()
         )
         idle = [stack.enter_context(raw(service)) for _ in range(15)]
         for one in idle:

@@ -95,7 +95,9 @@ def test_each_path_is_described() -> None:
 
 
 def test_each_command_is_described() -> None:
-    """The pages have each command of `sagas store`, and each option of these, `serve` and `token`."""
+    """The pages have each command of `sagas store`, and each option of these, `serve` and
+    `token`.
+    """
     from sagas.cli.store_command import parser as store
     from sagas.server.command import parser as serve
     from sagas.server.command import token_parser
@@ -120,7 +122,9 @@ def test_each_command_is_described() -> None:
 
 
 def test_metrics_are_described(tmp_path: pathlib.Path) -> None:
-    """The reference has each metric of a service, and each one that an alert names is among them."""
+    """The reference has each metric of a service, and each one that an alert names is
+    among them.
+    """
     alerts = " ".join(
         re.findall(r"expr: (.*)", (TOP / "examples" / "service" / "alerts.yml").read_text())
     )

@@ -164,7 +164,9 @@ def requests(draw: st.DrawFn, schema: dict[str, Any]) -> tuple[str, str, bytes, 
 
 
 def send_any_json(service: Served, most: settings) -> None:
-    """Each request, by the schema or nearly, gets a response in JSON that is not an internal error."""
+    """Each request, by the schema or nearly, gets a response in JSON that is not an
+    internal error.
+    """
     with service.client() as client:
         schema = client.get("/openapi.json").json()
 

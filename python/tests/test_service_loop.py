@@ -45,7 +45,9 @@ def service(tmp_path_factory: pytest.TempPathFactory) -> Iterator[Served]:
 
 
 def slowest(service: Served, path: str) -> float:
-    """Return the time of the slowest response that only the event loop makes, during this request."""
+    """Return the time of the slowest response that only the event loop makes, during this
+    request.
+    """
     times, has_begun, is_over = list[float](), threading.Event(), threading.Event()
 
     def asks() -> None:

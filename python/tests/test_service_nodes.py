@@ -334,7 +334,9 @@ def test_whatever_is_asked(both: Pair) -> None:
 
 
 def test_one_is_killed(tmp_path: pathlib.Path, url: str) -> None:
-    """Its sagas are the other's after its lease; its tasks are claimed and reported there at once."""
+    """Its sagas are the other's after its lease; its tasks are claimed and reported there
+    at once.
+    """
     with pair(tmp_path, url) as two:
         start(two.one, "trip", "k")
         (flight,) = take(two.two, "trip/flight")

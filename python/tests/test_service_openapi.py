@@ -121,7 +121,9 @@ def test_each_problem_is_described() -> None:
 
 
 def test_heads_and_methods(client: httpx.Client) -> None:
-    """HEAD responds as GET, without a body; for another method the response lists those that exist."""
+    """HEAD responds as GET, without a body; for another method the response lists those
+    that exist.
+    """
     for path in (
         "/v1/sagas",
         "/health/live",

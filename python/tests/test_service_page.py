@@ -27,16 +27,29 @@ from serving import DEFINITIONS, LONG, Served, all_done, report, served, start, 
 MANY = 100_000
 CONTRAST = """
 const parse = (text) => text.match(/[\\d.]+/g).map(Number);
-const light = ([r, g, b]) => { const f = (v) => (v /= 255) <= .04045 ? v / 12.92 : ((v + .055) / 1.055) ** 2.4; return .2126 * f(r) + .7152 * f(g) + .0722 * f(b); };
-const ground = (one) => { for (; one; one = one.parentElement) { const c = parse(getComputedStyle(one).backgroundColor); if (c.length < 4 || c[3] > .9) return c; } return [255, 255, 255]; };
-const found = [];
-for (const one of document.querySelectorAll("body *")) {
-  if (one.closest("svg, .skip, .sr") || ![...one.childNodes].some((n) => n.nodeType === 3 && n.textContent.trim())) continue;
-  const a = light(parse(getComputedStyle(one).color)), b = light(ground(one));
+const light = ([r, g, b]) => {
+  const f = (v) => (v /= 255) <= .04045 ? v / 12.92 : ((v + .055) / 1.055) ** 2.4;
+  return .2126 * f(r) + .7152 * f(g) + .0722 * f(b);
+};
+const ground = (element) => {
+  for (; element; element = element.parentElement) {
+    const c = parse(getComputedStyle(element).backgroundColor);
+    if (c.length < 4 || c[3] > .9) return c;
+  }
+  return [255, 255, 255];
+};
+const hasText = (node) => node.nodeType === 3 && node.textContent.trim();
+const faults = [];
+for (const element of document.querySelectorAll("body *")) {
+  if (element.closest("svg, .skip, .sr") || ![...element.childNodes].some(hasText)) continue;
+  const a = light(parse(getComputedStyle(element).color)), b = light(ground(element));
   const ratio = (Math.max(a, b) + .05) / (Math.min(a, b) + .05);
-  if (ratio < 4.5) found.push(`${one.tagName}.${one.className} "${one.textContent.trim().slice(0, 30)}" ${ratio.toFixed(2)}`);
+  const text = element.textContent.trim().slice(0, 30);
+  if (ratio < 4.5) {
+    faults.push(`${element.tagName}.${element.className} "${text}" ${ratio.toFixed(2)}`);
+  }
 }
-return found;
+return faults;
 """
 FOCUSABLE = (
     "return [...document.querySelectorAll('a[href], button, input:not([type=hidden]), select,"
@@ -207,7 +220,9 @@ def test_a_failed_saga_says_what_stands(browser: Browser) -> None:
 
 
 def test_a_stuck_one_is_found_in_two_clicks_and_resolved(browser: Browser) -> None:
-    """From the first page: look, mark as resolved; then a confirmation, with a note that is stored."""
+    """From the first page: look, mark as resolved; then a confirmation, with a note that
+    is stored.
+    """
     browser.go("/ui")
     browser.shot("inbox")
     browser.click("summary", "stuck-1")
@@ -558,7 +573,9 @@ def fill(store: pathlib.Path, count: int) -> None:
 
 
 def test_a_hundred_thousand_sagas(tmp_path: pathlib.Path, shots: pathlib.Path) -> None:
-    """The list, its pages, filters and search stay usable; a stuck one is still on the first page."""
+    """The list, its pages, filters and search stay usable; a stuck one is still on the
+    first page.
+    """
     with served(tmp_path) as service:
         with service.client() as client:
             start(client, "licence", "newest")
@@ -806,7 +823,9 @@ Promise.all(paths.map(main)).then((pages) => done(pages.flatMap((from, a) => pag
 
 
 def test_a_renewed_page_is_the_new_page(browser: Browser) -> None:
-    """Whatever was there before: elements that stay are never ones that the service does not send."""
+    """Whatever was there before: elements that stay are never ones that the service does
+    not send.
+    """
     browser.go("/ui")
     shown = ("/ui?kind=unknown", "/ui?kind=approval", "/ui?order=newest", "/ui/sagas?phase=open")
     paths = [*shown, *(path for path in PATHS if "nobody" not in path)]

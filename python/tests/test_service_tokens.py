@@ -548,7 +548,9 @@ def test_a_stream_ends_with_its_token(tmp_path: pathlib.Path) -> None:
 def test_a_file_that_was_unreadable_once(
     tmp_path: pathlib.Path, monkeypatch: pytest.MonkeyPatch
 ) -> None:
-    """A later look reads it though it has not changed, as after a `chown`; the log reports it once."""
+    """A later look reads it though it has not changed, as after a `chown`; the log
+    reports it once.
+    """
     gone, stays = (token(tmp_path, name, "operator") for name in ("gone", "stays"))
     file, said = tmp_path / "tokens.toml", list[str]()
     tokens = auth.Tokens(file, said.append)

@@ -33,7 +33,9 @@ SECRET = base64.b64encode(b"k" * 32).decode()
 
 
 class Receiver:
-    """A server outside of the package, which answers with these statuses first, and then with 204."""
+    """A server outside of the package, which answers with these statuses first, and then
+    with 204.
+    """
 
     def __init__(self, *statuses: int) -> None:
         self.got: list[tuple[dict[str, str], bytes]] = []
@@ -342,13 +344,9 @@ async def trickling(
             await asyncio.sleep(0.05 if len(part) < 1000 else 0)
 
 
-# its head never ends, and its status exists
 ANSWERS: list[tuple[bytes, bytes, Any]] = [
-    (
-        b"HTTP/1.1 204 No Content\r\n",
-        b"X: y\r\n",
-        204,
-    ),
+    # its head never ends, and its status is complete
+    (b"HTTP/1.1 204 No Content\r\n", b"X: y\r\n", 204),
     (b"HTTP/1.1 ", b"2", TimeoutError),
     (b"", b"", TimeoutError),
     (b"HTTP/1.1 100 Continue\r\n", b"X: y\r\n", TimeoutError),

@@ -165,14 +165,10 @@ def test_a_traceback_is_set_in() -> None:
 
 
 PROXIES = tuple(ipaddress.ip_network(text) for text in ("10.0.0.0/8", "2001:db8::/32"))
-# the entries before the last are the client's own
 CHAINS = [
     ("10.0.0.1", ["192.0.2.7"], "192.0.2.7"),
-    (
-        "10.0.0.1",
-        ["198.51.100.1, 192.0.2.7"],
-        "192.0.2.7",
-    ),
+    # the entries before the last are the client's own
+    ("10.0.0.1", ["198.51.100.1, 192.0.2.7"], "192.0.2.7"),
     ("10.0.0.1", ["192.0.2.7, 10.9.9.9"], "192.0.2.7"),
     ("10.0.0.1", ["192.0.2.7", "10.9.9.9,10.8.8.8"], "192.0.2.7"),
     ("10.0.0.1", ["10.9.9.9"], "10.9.9.9"),
@@ -189,7 +185,9 @@ CHAINS = [
 
 @pytest.mark.parametrize("peer, told, client", CHAINS)
 def test_whose_request_it_is(peer: str, told: list[str], client: str) -> None:
-    """The last address that is not a trusted proxy's; the header of any other address is ignored."""
+    """The last address that is not a trusted proxy's; the header of any other address is
+    ignored.
+    """
     headers = [(b"x-forwarded-for", one.encode()) for one in told] + [
         (b"x-forwarded-proto", b"https")
     ]

@@ -79,7 +79,9 @@ def test_many_shapes_among_fixed_sagas(place: str) -> None:
 
 
 def test_no_shard_is_without_a_definition(place: str) -> None:
-    """This holds also if its first saga has a key that another one has, as a wrong guess finds out."""
+    """This holds also if its first saga has a key that another one has, as a wrong guess
+    finds out.
+    """
 
     async def main() -> None:
         async with sagas.open(place, [order, plain]) as store:

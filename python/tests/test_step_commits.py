@@ -312,7 +312,9 @@ def test_a_lock_is_not_waited_for_by_all(url: str) -> None:
 
 
 def test_a_record_needs_no_setting(url: str) -> None:
-    """It names its tables in full: the commit sees the function's settings, and its triggers too."""
+    """It names its tables in full: the commit sees the function's settings, and its
+    triggers too.
+    """
     look = (
         "CREATE FUNCTION look() RETURNS trigger LANGUAGE plpgsql AS $$ BEGIN INSERT INTO mine.saw"
         " VALUES (current_setting('search_path')); RETURN NULL; END $$"
@@ -593,12 +595,14 @@ KILLED = """
     saga = sagas.Saga("two")
     @saga.step(transaction=True)
     async def one(task):
-        await task.connection.execute("INSERT INTO book(key, step, token) VALUES(%s, 'one', %s)", (task.key, task.attempt_id))
+        row = task.key, "one", task.attempt_id
+        await task.connection.execute("INSERT INTO book(key, step, token) VALUES(%s, %s, %s)", row)
         return "booked"
     @saga.step(transaction=True, needs=[one])
     async def two(task):
         {owner}.{method} = lambda self, *words: os._exit(9)
-        await task.connection.execute("INSERT INTO book(key, step, token) VALUES(%s, 'two', %s)", (task.key, task.attempt_id))
+        row = task.key, "two", task.attempt_id
+        await task.connection.execute("INSERT INTO book(key, step, token) VALUES(%s, %s, %s)", row)
         return "booked"
     async def main():
         async with sagas.open({url!r}, [saga], node="killed") as store:

@@ -166,7 +166,9 @@ def test_a_child_is_in_the_trace_of_its_parent(place: str, without: None) -> Non
 
 
 def test_a_client_s_start_has_it(url: str, without: None) -> None:
-    """It is written with the start, also in the transaction of the caller, and a node passes it on."""
+    """It is written with the start, also in the transaction of the caller, and a node
+    passes it on.
+    """
     heard: list[str | None] = []
     saga = hearing(heard)
 
@@ -298,19 +300,16 @@ def test_each_attempt_has_a_span(place: str, api: Any) -> None:
     )
 
 
+def header_of(context: Any) -> str:
+    return f"00-{context.trace_id:032x}-{context.span_id:016x}-{int(context.trace_flags):02x}"
+
+
 def context_of_parent(span: Any) -> str | None:
-    return (
-        None
-        if span.parent is None
-        else f"00-{span.parent.trace_id:032x}-{span.parent.span_id:016x}-{int(span.parent.trace_flags):02x}"
-    )
+    return None if span.parent is None else header_of(span.parent)
 
 
 def links_of(span: Any) -> list[str]:
-    return [
-        f"00-{one.context.trace_id:032x}-{one.context.span_id:016x}-{int(one.context.trace_flags):02x}"
-        for one in span.links
-    ]
+    return [header_of(link.context) for link in span.links]
 
 
 def test_a_saga_that_nobody_traces(place: str, api: Any) -> None:

@@ -91,7 +91,9 @@ def booked(url: str) -> Counter[tuple[str, str]]:
 
 @pytest.mark.parametrize("in_thread", [False, True])
 def test_effect_and_result_are_one(url: str, in_thread: bool) -> None:
-    """There is a row for each effect; a call that raised is rolled back; the compensation the same."""
+    """There is a row for each effect; a call that raised is rolled back; the compensation
+    the same.
+    """
     prepare(url)
     kind = bank(in_thread)
 
@@ -127,7 +129,9 @@ def test_effect_and_result_are_one(url: str, in_thread: bool) -> None:
 def test_exactly_once_while_connections_are_cut(
     postgresql: Server, url: str, in_thread: bool
 ) -> None:
-    """Statements are cut in transit, and replies, also those of commits: each effect occurs once."""
+    """Statements are cut in transit, and replies, also those of commits: each effect
+    occurs once.
+    """
     prepare(url)
     kind = bank(in_thread)
 
@@ -331,7 +335,9 @@ KILLED = """
     saga = sagas.Saga("one")
     @saga.step(transaction=True)
     async def book(task):
-        await task.connection.execute("INSERT INTO book(key, step, token) VALUES(%s, 'book', %s)", (task.key, task.attempt_id))
+        row = task.key, task.attempt_id
+        statement = "INSERT INTO book(key, step, token) VALUES(%s, 'book', %s)"
+        await task.connection.execute(statement, row)
         return "booked"
     Executor.ended = lambda self, attempt, outcome, at_once: os._exit(9)
     async def main():

@@ -250,7 +250,9 @@ def test_what_is_undone_of_a_grandchild_stays_undone(place: str) -> None:
 
 
 def test_what_others_undid_is_not_asked_again(place: str) -> None:
-    """An external compensation is reported once, and not again in the next saga; with a codec, too."""
+    """An external compensation is reported once, and not again in the next saga; with a
+    codec, too.
+    """
     broken, calls = [True], list[str]()
     child, top = sagas.Saga("child"), sagas.Saga("top")
 

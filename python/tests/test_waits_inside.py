@@ -256,7 +256,9 @@ async def small_async(task: Task) -> Any:
 
 
 def small_later(task: Task) -> Any:
-    """A plain function whose result is to be awaited: a decorator that is not async, for example."""
+    """A plain function whose result is to be awaited: a decorator that is not async, for
+    example.
+    """
     return small_async(task)
 
 

@@ -171,7 +171,9 @@ def test_a_shard_that_was_taken_and_closed_before_a_promotion(notes: str, sync: 
     ],
 )
 def test_a_takeover_that_did_not_look(epochs: tuple[int, int], notes: str, events: str) -> None:
-    """The takeover is placed where its node read; else as late as the epochs of the chunks allow."""
+    """The takeover is placed where its node read; else as late as the epochs of the
+    chunks allow.
+    """
     chunks = [chunk._replace(epoch=epoch) for chunk, epoch in zip(CHUNKS, epochs)]
     last = -1 if epochs == (3, 3) else 2
     takeovers = [BORN, Takeover(2, "b", None, "1"), Takeover(3, "c", last, "1")]

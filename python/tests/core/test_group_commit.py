@@ -37,7 +37,9 @@ def test_it_waits_for_nothing_that_it_has_not_seen() -> None:
 def test_it_waits_for_more_than_it_has_if_that_comes_soon(
     coming: int, rows: int, latency: float, waits: bool
 ) -> None:
-    """With few rows it waits up to four times the duration of a commit, with many rows half of it."""
+    """With few rows it waits up to four times the duration of a commit, with many rows
+    half of it.
+    """
     assert taught(0.001).holds(coming, rows, latency, 7.0) is waits
 
 

@@ -257,7 +257,9 @@ def test_an_engine_that_knows_something_else() -> None:
 
 
 def test_a_refused_commit_makes_it_stale() -> None:
-    """Questions that were asked in the meantime get no reply any more; a stale shard asks nothing."""
+    """Questions that were asked in the meantime get no reply any more; a stale shard asks
+    nothing.
+    """
     shard = driver()
     attempt = begun(shard)
     attempt.finish(outcomes.Outcome(outcomes.SUCCEEDED, "1"), NOW)
@@ -319,10 +321,10 @@ def test_a_saga_that_fails_drains_and_its_end_is_asked() -> None:
         and effects.ended == [saga]
         and effects.batch.text == "plan\n"
     )
-    ((phase, told, recovered, undo_failed, at, id),) = effects.batch.ended
-    assert (
-        told
-        == '{"aborted":false,"answer":{"cost":3,"kind":"plan"},"kept":[],"states":["fixed","waiting"]}'
+    ((phase, outcome, recovered, undo_failed, at, id),) = effects.batch.ended
+    assert outcome == (
+        '{"aborted":false,"answer":{"cost":3,"kind":"plan"},"kept":[],'
+        '"states":["fixed","waiting"]}'
     )
     assert (phase, recovered, undo_failed, at, id) == (
         "ended",
@@ -474,7 +476,9 @@ def test_what_was_given_up_is_decided_again(epoch: int, line: str, is_ours: bool
 
 
 def test_rows_of_an_earlier_program() -> None:
-    """A result without its report is reported; a suspension continues; a saga that is over is gone."""
+    """A result without its report is reported; a suspension continues; a saga that is
+    over is gone.
+    """
     row = (7000, 0, "run", 1)
     begun_before = recovered(
         begun_shard := driver(), rows(results=[(*row, "ok", '"r"', 9.0)]), [(0, "run", 1)]

@@ -15,6 +15,7 @@ def apply() -> None:
     """Put the number of the process into the token."""
 
     def idempotency_key(self: Task[Any]) -> str:
-        return f"{self._about.saga_token}-{self.step}-{'undo' if self.is_compensation else 'run'}{os.getpid()}"
+        word = "undo" if self.is_compensation else "run"
+        return f"{self._about.saga_token}-{self.step}-{word}{os.getpid()}"
 
     setattr(Task, "idempotency_key", property(idempotency_key))
