@@ -70,7 +70,7 @@ TOKENS = {
     "caller": ("caller", None),
 }
 COUNT = itertools.count()
-Words = dict[str, Any]
+Json = dict[str, Any]
 Make = Callable[[], Driver]
 Made = Callable[[str], list[str]]
 
@@ -106,8 +106,8 @@ def service(
             server = stack.enter_context(serving())
             url = server.create()
         (folder / "shop.py").write_text(SHOP)
-        words = ("--token-file", str(folder / "tokens.toml"), "--app", "shop:store")
-        one = Served(folder, DEFINITIONS, *words, store=url)
+        options = ("--token-file", str(folder / "tokens.toml"), "--app", "shop:store")
+        one = Served(folder, DEFINITIONS, *options, store=url)
         one.start()
         stack.callback(one.kill)
         yield one
@@ -120,8 +120,8 @@ def operator(service: Served, tokens: dict[str, str]) -> str:
 
 @pytest.fixture(scope="module", params=languages())
 def language(request: pytest.FixtureRequest) -> str:
-    found: str = request.param
-    return found
+    chosen: str = request.param
+    return chosen
 
 
 @pytest.fixture(scope="module")
@@ -150,30 +150,32 @@ def driven(
     return one
 
 
-def work(driver: Driver, url: str | list[str], token: str | None, name: str, **words: Any) -> None:
-    words = {"steps": STEPS, "concurrency": 4, "lease": 30, "wait": 5, **words}
-    assert driver.ask("worker", worker=name, url=url, token=token, **words) == {}
+def work(
+    driver: Driver, url: str | list[str], token: str | None, name: str, **options: Any
+) -> None:
+    options = {"steps": STEPS, "concurrency": 4, "lease": 30, "wait": 5, **options}
+    assert driver.ask("worker", worker=name, url=url, token=token, **options) == {}
 
 
 def fresh(word: str = "k") -> str:
     return f"{word}-{next(COUNT)}"
 
 
-def script(*words: str, **more: list[str]) -> Words:
+def script(*outcomes: str, **more: list[str]) -> Json:
     """Return an input: the behavior of `a`, and that of the other steps."""
     return {
         "script": {
-            "a": list(words),
+            "a": list(outcomes),
             **{name.replace("_", "/"): done for name, done in more.items()},
         }
     }
 
 
-def played(driver: Driver, given: Any, key: str | None = None) -> Words:
+def played(driver: Driver, given: Any, key: str | None = None) -> Json:
     """Run a saga of `pair` from its start to its end."""
     key = key or fresh()
     assert driver.ask("start", definition="pair", key=key, input=given) == {"key": key, "new": True}
-    end: Words = driver.ask("wait", key=key, timeout=LONG)
+    end: Json = driver.ask("wait", key=key, timeout=LONG)
     assert end["over"] and end["key"] == key and end["input"] == given
     return end
 
@@ -186,7 +188,7 @@ def test_outcomes(driver: Driver, language: str) -> None:
     and the end of the saga.
     """
     unknowns = ["unknown", "timeout", "refused", *(["throw"] if language != "python" else [])]
-    cases: dict[str, tuple[Words, str, int, int, int]] = {
+    cases: dict[str, tuple[Json, str, int, int, int]] = {
         "ok": (script("ok"), "completed", 1, 1, 0),
         "nothing": (script("nothing", b=["nothing"]), "completed", 1, 1, 0),
         "fail": (script("fail"), "recovered", 1, 0, 0),
@@ -207,14 +209,14 @@ def test_outcomes(driver: Driver, language: str) -> None:
         driver.ask("start", definition="pair", key=keys[name], input=given)
     for name, (_, phase, of_a, of_b, of_undo) in cases.items():
         key, end = keys[name], driver.ask("wait", key=keys[name], timeout=LONG)
-        found = [driver.calls(key, step) for step in ("pair/a", "pair/b", "pair/a/undo")]
-        assert (end["phase"], *map(len, found)) == (phase, of_a, of_b, of_undo), (name, end)
-        for calls in found:
+        called = [driver.calls(key, step) for step in ("pair/a", "pair/b", "pair/a/undo")]
+        assert (end["phase"], *map(len, called)) == (phase, of_a, of_b, of_undo), (name, end)
+        for calls in called:
             assert len({one["idempotency_key"] for one in calls}) == min(1, len(calls)), name
         if of_b:
-            assert found[1][0]["results"] == {"a": None if name == "nothing" else {"done": "a"}}
+            assert called[1][0]["results"] == {"a": None if name == "nothing" else {"done": "a"}}
         if of_undo:
-            assert all(one["undo"] and one["result"] == {"done": "a"} for one in found[2])
+            assert all(one["undo"] and one["result"] == {"done": "a"} for one in called[2])
             assert end["states"] == {"a": "undone", "b": "failed"} and end["results"] == {}
         if name == "fail":
             assert end["states"]["a"] == "failed" and "no" in end["errors"]["a"]
@@ -259,8 +261,8 @@ def test_items(driver: Driver, service: Served, operator: str) -> None:
     """
     work(driver, service.url, operator, "items", steps=ITEMS)
     listed, keyed, fair = fresh("items"), fresh("items"), fresh("items")
-    said = {"script": {"ship-0": ["ok"], "mail": ["fail"]}, "parcels": [{"to": "Rome"}, 7]}
-    assert driver.ask("start", definition="order", key=listed, input=said)["new"]
+    order = {"script": {"ship-0": ["ok"], "mail": ["fail"]}, "parcels": [{"to": "Rome"}, 7]}
+    assert driver.ask("start", definition="order", key=listed, input=order)["new"]
     assert driver.ask("wait", key=listed, timeout=LONG)["phase"] == "recovered"
     calls = {one["step"]: one for one in driver.calls(listed, "order/ship")}
     assert {(one["declared_step"], one["index"], one["item_key"]) for one in calls.values()} == {
@@ -280,13 +282,13 @@ def test_items(driver: Driver, service: Served, operator: str) -> None:
         None,
         None,
     )
-    said = {"script": {"ship-1": ["fail"]}, "parcels": {"a b": 1, "c/ü": [2]}}
-    assert driver.ask("start", definition="order", key=keyed, input=said)["new"]
+    order = {"script": {"ship-1": ["fail"]}, "parcels": {"a b": 1, "c/ü": [2]}}
+    assert driver.ask("start", definition="order", key=keyed, input=order)["new"]
     assert driver.ask("wait", key=keyed, timeout=LONG)["phase"] == "recovered"
-    found = {
+    items = {
         (one["index"], one["item_key"]): one["item"] for one in driver.calls(keyed, "order/ship")
     }
-    assert found == {(0, "a b"): 1, (1, "c/ü"): [2]}
+    assert items == {(0, "a b"): 1, (1, "c/ü"): [2]}
     assert driver.ask("start", definition="fair", key=fair, input={"script": {}, "parcels": ["x"]})[
         "new"
     ]
@@ -321,16 +323,21 @@ def test_trace_contexts(driver: Driver) -> None:
     """
     trace = "00-0af7651916cd43dd8448eb211c80319c-b7ad6b7169203331-01"
     given = script("ok", b=["fail"])
-    for told in (trace, None):
-        key, more = fresh("trace"), {} if told is None else {"traceparent": told}
+    for header in (trace, None):
+        key, more = fresh("trace"), {} if header is None else {"traceparent": header}
         driver.ask("start", definition="pair", key=key, input=given, **more)
         assert driver.ask("wait", key=key, timeout=LONG)["phase"] == "recovered"
         calls = [one for step in STEPS for one in driver.calls(key, step)]
-        assert [one["traceparent"] for one in calls] == [told] * 3
+        assert [one["traceparent"] for one in calls] == [header] * 3
     for wrong in ("00-1", trace.replace("0af7", "0AF7"), f"ff{trace[2:]}", f"{trace}\r\nx: y"):
-        words = {"definition": "pair", "key": fresh("trace"), "input": given, "traceparent": wrong}
-        assert driver.refused("start", **words) == "InvalidArgument"
-        assert driver.refused("get", key=words["key"]) == "NoSuchSaga"
+        arguments = {
+            "definition": "pair",
+            "key": fresh("trace"),
+            "input": given,
+            "traceparent": wrong,
+        }
+        assert driver.refused("start", **arguments) == "InvalidArgument"
+        assert driver.refused("get", key=arguments["key"]) == "NoSuchSaga"
 
 
 def test_big_results(driver: Driver, language: str) -> None:
@@ -535,9 +542,9 @@ def test_a_service_that_stands_still(make: Make, service: Served, operator: str)
             driver.heard("called", key=key, worker=key)
             relay.still = word
         client = stack.enter_context(service.client(operator))
-        beats = service.told().count("/heartbeat 200")
+        beats = service.log_text().count("/heartbeat 200")
         driver.ask("release", key=ends, step="a")
-        while service.told().count("/heartbeat 200") == beats:
+        while service.log_text().count("/heartbeat 200") == beats:
             assert take(client, "solo/a", wait=0.2) == []  # the task of a lease that has ended
         driver.ask("release", key=runs, step="a")
         for key in (runs, ends):
@@ -617,8 +624,8 @@ def test_an_abort_cancels_once(make: Make, service: Served, operator: str) -> No
     driver.ask("abort", key=key)
     driver.heard("canceled", key=key, why="abort")
     driver.heard("called", 2, key=key)
-    beats, until = service.told().count("/heartbeat 200"), time.monotonic() + LONG
-    while service.told().count("/heartbeat 200") < beats + 3 and time.monotonic() < until:
+    beats, until = service.log_text().count("/heartbeat 200"), time.monotonic() + LONG
+    while service.log_text().count("/heartbeat 200") < beats + 3 and time.monotonic() < until:
         time.sleep(0.1)
     driver.ask("release", key=key, step="a")
     assert driver.ask("wait", key=key, timeout=LONG)["states"]["a"] == "undone"
@@ -680,11 +687,11 @@ def test_an_idle_stop_is_quick(make: Make, service: Served, operator: str) -> No
     workers.
     """
     driver, key, claim = make(), fresh("idle"), "/v1/tasks/claim 200"
-    before = service.told().count(claim)
+    before = service.log_text().count(claim)
     work(driver, service.url, operator, "idle", steps=["solo/a"], wait=30)
     until = time.monotonic() + LONG
     # the first one, which does not wait
-    while service.told().count(claim) == before and time.monotonic() < until:
+    while service.log_text().count(claim) == before and time.monotonic() < until:
         time.sleep(0.1)
     assert driver.send("stop", worker="idle").result(20) == {}
     driver.ask("start", definition="solo", key=key, input=script("ok"))
@@ -713,11 +720,11 @@ def test_long_functions_and_a_stop(make: Make, service: Served, operator: str) -
         for key in keys[1:]:
             driver.ask("start", definition="solo", key=key, input=script("ok"))
         stopped = driver.send("stop", worker="w")
-        found: set[str] = set()
-        while found != set(keys[1:]):
+        released: set[str] = set()
+        while released != set(keys[1:]):
             for task in take(client, "solo/a", most=2):
                 assert report(client, task, result={"done": "a"}).status_code == 200
-                found.add(task["key"])
+                released.add(task["key"])
         assert not stopped.done()
         driver.ask("release", key=keys[0], step="a")
         assert stopped.result(LONG) == {}

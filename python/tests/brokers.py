@@ -31,10 +31,10 @@ class Program:
     """A running program and its output, in its own session."""
 
     def __init__(
-        self, words: Sequence[str], folder: pathlib.Path, environment: dict[str, str], log: str
+        self, command: Sequence[str], folder: pathlib.Path, environment: dict[str, str], log: str
     ) -> None:
         self.process = subprocess.Popen(
-            words,
+            command,
             cwd=folder,
             env=environment,
             stdin=subprocess.DEVNULL,
@@ -43,7 +43,7 @@ class Program:
             start_new_session=True,
         )
         self.log = folder / log
-        self._said: list[str] = []
+        self._lines: list[str] = []
         self._change = threading.Condition()
         self._over = False
         self._thread = threading.Thread(target=self._read, daemon=True)
@@ -56,7 +56,7 @@ class Program:
                 log.write(line)
                 log.flush()
                 with self._change:
-                    self._said.append(line.decode(errors="replace"))
+                    self._lines.append(line.decode(errors="replace"))
                     self._change.notify_all()
         with self._change:
             self._over = True
@@ -67,20 +67,22 @@ class Program:
 
         Raises if the program ends before, or takes too long.
         """
-        found = re.compile(pattern)
+        expression = re.compile(pattern)
 
         def is_there() -> bool:
-            return self._over or sum(bool(found.search(line)) for line in self._said) >= count
+            return self._over or sum(bool(expression.search(line)) for line in self._lines) >= count
 
         with self._change:
             in_time = self._change.wait_for(is_there, seconds)
-        if not in_time or sum(bool(found.search(line)) for line in self._said) < count:
-            raise TimeoutError(f"{self.log}: {pattern!r} is not there: {''.join(self._said[-20:])}")
+        if not in_time or sum(bool(expression.search(line)) for line in self._lines) < count:
+            raise TimeoutError(
+                f"{self.log}: {pattern!r} is not there: {''.join(self._lines[-20:])}"
+            )
 
-    def has_said(self, pattern: str) -> bool:
+    def has_printed(self, pattern: str) -> bool:
         """Return whether the output has a match."""
         with self._change:
-            return any(re.search(pattern, line) for line in self._said)
+            return any(re.search(pattern, line) for line in self._lines)
 
     @property
     def pid(self) -> int:
@@ -137,7 +139,7 @@ class Redis(Broker):
         self.url = f"redis+socket://{folder / 'socket'}"
 
     def start(self) -> None:
-        words = [
+        command = [
             "redis-server",
             "--port",
             "0",
@@ -146,12 +148,12 @@ class Redis(Broker):
             "--dir",
             str(self.folder),
         ]
-        words += [
+        command += [
             "--save",
             "",
             *(["--appendonly", "yes", "--appendfsync", "always"] if self.synced else []),
         ]
-        self.program = Program(words, self.folder, dict(os.environ), "redis.log")
+        self.program = Program(command, self.folder, dict(os.environ), "redis.log")
         self.program.wait_for("ready to accept connections")
 
     def forget(self) -> None:
@@ -225,9 +227,9 @@ class RabbitMQ(Broker):
 
 def _rabbitmq() -> str:
     """Return the server itself: the one in the path is Debian's, which changes the user."""
-    for place in ("/usr/lib/rabbitmq/bin/rabbitmq-server", shutil.which("rabbitmq-server")):
-        if place and os.path.exists(place):
-            return place
+    for program in ("/usr/lib/rabbitmq/bin/rabbitmq-server", shutil.which("rabbitmq-server")):
+        if program and os.path.exists(program):
+            return program
     raise FileNotFoundError(
         "rabbitmq-server is missing; install it by: apt-get install rabbitmq-server"
     )

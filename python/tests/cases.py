@@ -20,7 +20,7 @@ Task = sagas.Task[Any]
 QUICK = sagas.Backoff(initial=0.01, maximum=0.02)
 HOUR = sagas.Backoff(initial=3600, maximum=3600)
 PLACES = ("sqlite", "postgresql")
-"""The values of the fixture `place`."""
+"""The values of the fixture `location`."""
 
 
 def pairs(*options: Sequence[Any]) -> list[tuple[Any, ...]]:
@@ -47,10 +47,10 @@ def run(main: Coroutine[Any, Any, T]) -> T:
     return asyncio.run(asyncio.wait_for(main, 240))
 
 
-def simple(function: Callable[[Task], Any], **words: Any) -> sagas.Saga:
+def simple(function: Callable[[Task], Any], **options: Any) -> sagas.Saga:
     """Return a saga of one step, `a`."""
     saga = sagas.Saga("simple")
-    saga.step(name="a", backoff=words.pop("backoff", QUICK), **words)(function)
+    saga.step(name="a", backoff=options.pop("backoff", QUICK), **options)(function)
     return saga
 
 
@@ -72,14 +72,14 @@ async def surely_ended(
             await asyncio.sleep(0.02)
 
 
-async def until(found: Callable[[], Any], seconds: float = 120) -> Any:
+async def until(condition: Callable[[], Any], seconds: float = 120) -> Any:
     """Wait for a change that another part of the program makes.
 
     The condition may be a coroutine function.
     """
     async with asyncio.timeout(seconds):
         while True:
-            value = found()
+            value = condition()
             if inspect.isawaitable(value):
                 value = await value
             if value:
@@ -98,26 +98,26 @@ def in_child(work: Callable[[], object], seconds: float = 60) -> str:
     child = os.fork()
     if child == 0:
         try:
-            said = repr(work())
+            result = repr(work())
         except BaseException as error:
-            said = f"{type(error).__name__}: {error}"
-        os.write(to, said.encode())
+            result = f"{type(error).__name__}: {error}"
+        os.write(to, result.encode())
         os._exit(0)
     os.close(to)
     if not select.select([back], [], [], seconds)[0]:
         os.kill(child, signal.SIGKILL)
-    said = os.read(back, 1 << 16).decode() or "it hangs"
+    result = os.read(back, 1 << 16).decode() or "it hangs"
     os.close(back)
     os.waitpid(child, 0)
-    return said
+    return result
 
 
 def hears(wait: Callable[[], object], text: str, seconds: float = 120) -> None:
     """Repeat a wait that takes too long each time, until its error has this text."""
-    end, said = time.monotonic() + seconds, ""
-    while said != text and time.monotonic() < end:
+    end, message = time.monotonic() + seconds, ""
+    while message != text and time.monotonic() < end:
         try:
             wait()
         except TimeoutError as error:
-            said = str(error)
-    assert said == text
+            message = str(error)
+    assert message == text

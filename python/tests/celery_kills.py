@@ -58,9 +58,9 @@ LEASE = 1.5
 READY = r" ready\."
 
 
-def worker_words(queue: str, name: str) -> list[str]:
+def worker_command(queue: str, name: str) -> list[str]:
     """Return the arguments that start a worker, without the options that are of no use here."""
-    words = [
+    command = [
         sys.executable,
         "-m",
         "celery",
@@ -76,7 +76,7 @@ def worker_words(queue: str, name: str) -> list[str]:
         "-l",
         "INFO",
     ]
-    return [*words, "--without-gossip", "--without-mingle", "--without-heartbeat"]
+    return [*command, "--without-gossip", "--without-mingle", "--without-heartbeat"]
 
 
 @dataclass
@@ -104,14 +104,14 @@ class Strikes:
         path = f"{HERE.parent / 'src'}{os.pathsep}{HERE}"
         self.names = ("one", "two") if self.kind == NODES else ("owner",)
         self.store = self.server.create() if self.server else str(self.folder / "store.db")
-        told = {
+        variables = {
             "STORE": self.store,
             "SOCKET": self.folder / "socket",
             "BROKER": self.broker.url,
             "QUEUE": self.queue,
         }
         self.environment = os.environ | {
-            f"SAGAS_TEST_{word}": str(value) for word, value in told.items()
+            f"SAGAS_TEST_{word}": str(value) for word, value in variables.items()
         }
         self.environment |= {
             "PYTHONPATH": path,
@@ -125,21 +125,21 @@ class Strikes:
         return time.monotonic() - self.began > self.most
 
     def start_owner(self, name: str) -> Program:
-        told = {"SAGAS_TEST_NODE": name} | (
+        variables = {"SAGAS_TEST_NODE": name} | (
             {"SAGAS_TEST_LEASE": str(LEASE)} if self.kind == NODES else {}
         )
-        words = [sys.executable, str(HERE / "celery_world.py"), str(self.sagas)]
-        self.owners[name] = Program(words, self.folder, self.environment | told, "owner.log")
+        command = [sys.executable, str(HERE / "celery_world.py"), str(self.sagas)]
+        self.owners[name] = Program(command, self.folder, self.environment | variables, "owner.log")
         return self.owners[name]
 
     def start_worker(self) -> Program:
         self.workers += 1
-        words = [
-            *worker_words(self.queue, f"w{self.workers}"),
+        command = [
+            *worker_command(self.queue, f"w{self.workers}"),
             *(["-P", "solo"] if self.wrong is not None else []),
         ]
         self.worker = Program(
-            words,
+            command,
             self.folder,
             self.environment | ({"SAGAS_TEST_WRONG": self.wrong} if self.wrong else {}),
             "worker.log",
@@ -172,9 +172,9 @@ class Strikes:
                 owner.wait_for(
                     "^(done|closing)", seconds=self.draw.uniform(0.05, 0.8) if striking else 5
                 )
-            if not owner.runs or owner.has_said("^(done|closing)"):
+            if not owner.runs or owner.has_printed("^(done|closing)"):
                 owner.process.wait(60)
-                if owner.has_said("^done"):
+                if owner.has_printed("^done"):
                     del left[name]
                     if not left:
                         return None
@@ -191,10 +191,10 @@ class Strikes:
 
     def _child(self) -> None:
         assert self.worker
-        found = children(self.worker.pid)
-        if found:
+        pids = children(self.worker.pid)
+        if pids:
             with contextlib.suppress(ProcessLookupError):
-                os.kill(self.draw.choice(found), signal.SIGKILL)
+                os.kill(self.draw.choice(pids), signal.SIGKILL)
                 self.kills["a pool's child"] += 1
 
     def _worker(self) -> None:
@@ -223,7 +223,7 @@ class Strikes:
             self.kills["the program asked to close"] += 1
             with contextlib.suppress(TimeoutError):
                 owner.wait_for("^closing", seconds=self.draw.uniform(0, 1))
-            if owner.has_said("^(done|closing)"):
+            if owner.has_printed("^(done|closing)"):
                 return
         owner.kill()
         self.kills["the program"] += 1
@@ -261,9 +261,9 @@ class Strikes:
     def _older(self) -> None:
         if self.older:
             self.older.kill()
-        words = worker_words(self.queue, f"o{self.kills['an older worker']}")
+        command = worker_command(self.queue, f"o{self.kills['an older worker']}")
         self.older = Program(
-            words, self.folder, self.environment | {"SAGAS_TEST_OLD": "1"}, "older.log"
+            command, self.folder, self.environment | {"SAGAS_TEST_OLD": "1"}, "older.log"
         )
         self.older.wait_for(READY)
         self.kills["an older worker"] += 1
@@ -320,7 +320,7 @@ def _job(broker: str, store: str, kinds: list[str], seeds: list[int], sagas: int
                 print(
                     (
                         f"{broker} {store} {one.kind} {seed}:"
-                        f" {dict(one.kills)} {one.found[:5]} {one.folder or ''}"
+                        f" {dict(one.kills)} {one.problems[:5]} {one.folder or ''}"
                     ),
                     flush=True,
                 )
@@ -341,31 +341,31 @@ def main() -> int:
     parser.add_argument("--sagas", type=int, default=40)
     parser.add_argument("--seed", type=int, default=random.randrange(10**6))
     parser.add_argument("--jobs", type=int, default=1)
-    words = parser.parse_args()
-    if NODES in words.kinds and words.store != "postgresql":
+    options = parser.parse_args()
+    if NODES in options.kinds and options.store != "postgresql":
         parser.error("two nodes are over PostgreSQL: --store postgresql")
-    seeds = range(words.seed, words.seed + words.rounds)
+    seeds = range(options.seed, options.seed + options.rounds)
     began = time.monotonic()
-    with concurrent.futures.ProcessPoolExecutor(words.jobs) as pool:
+    with concurrent.futures.ProcessPoolExecutor(options.jobs) as pool:
         jobs = [
             pool.submit(
                 _job,
-                words.broker,
-                words.store,
-                words.kinds.split(","),
-                list(seeds[job :: words.jobs]),
-                words.sagas,
+                options.broker,
+                options.store,
+                options.kinds.split(","),
+                list(seeds[job :: options.jobs]),
+                options.sagas,
             )
-            for job in range(words.jobs)
+            for job in range(options.jobs)
         ]
         rounds = [one for job in jobs for one in job.result()]
     kills, figures = Counter[str](), Counter[str]()
     for one in rounds:
         kills += one.kills
         figures += one.verdict.figures
-    bad = sum(bool(one.found) for one in rounds)
+    bad = sum(bool(one.problems) for one in rounds)
     print(
-        f"{len(rounds)} rounds over {words.broker} and {words.store}, {bad} bad, seed {words.seed},"
+        f"{len(rounds)} rounds over {options.broker} and {options.store}, {bad} bad, seed {options.seed},"
         f" {time.monotonic() - began:.0f} s"
     )
     for title, counted in (("strikes", kills), ("figures", figures)):

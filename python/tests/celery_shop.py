@@ -22,7 +22,7 @@ from driving import program
 import sagas
 import sagas.celery
 
-WORDS = "SAGAS_TEST_SHOP"
+SETTINGS = "SAGAS_TEST_SHOP"
 BIG = 300_000
 """Characters of a large result."""
 
@@ -90,19 +90,19 @@ class Shop:
             *([self.bank] if self.bank else []),
         ]
 
-    def open(self, **words: Any) -> sagas.Store:
+    def open(self, **options: Any) -> sagas.Store:
         """Open the store."""
-        return sagas.open(self.words["store"], self.sagas, program=program(), **words)
+        return sagas.open(self.words["store"], self.sagas, program=program(), **options)
 
     def worker(self, folder: pathlib.Path, *more: str, name: str = "w", **other: Any) -> Program:
         """Start a worker and wait until it is ready; `other` replaces options of its command."""
         here = pathlib.Path(__file__).resolve().parent
         environment = os.environ | {
-            WORDS: json.dumps(self.words | other),
+            SETTINGS: json.dumps(self.words | other),
             "PYTHONPATH": f"{here.parent / 'src'}{os.pathsep}{here}",
             "PYTHONUNBUFFERED": "1",
         }
-        words = [
+        command = [
             "/usr/bin/python3",
             "-m",
             "celery",
@@ -118,7 +118,7 @@ class Shop:
             "-l",
             "INFO",
         ]
-        started = Program([*words, *more], folder, environment, f"{name}.log")
+        started = Program([*command, *more], folder, environment, f"{name}.log")
         try:
             started.wait_for(r" ready\.")
         except BaseException:
@@ -128,7 +128,7 @@ class Shop:
 
     def note(self, task: Any, **more: Any) -> None:
         """Append a call as a line."""
-        told = {
+        call = {
             "key": task.key,
             "step": task.step,
             "undo": task.is_compensation,
@@ -137,14 +137,14 @@ class Shop:
             "effect": task.idempotency_key,
             "pid": os.getpid(),
         }
-        told["deadline"] = task.deadline and task.deadline.timestamp()
+        call["deadline"] = task.deadline and task.deadline.timestamp()
         with open(self.notes, "a", encoding="utf-8") as notes:
-            notes.write(json.dumps(told | more) + "\n")
+            notes.write(json.dumps(call | more) + "\n")
 
     def calls(self, key: str | None = None) -> list[dict[str, Any]]:
         """Return the calls up to now."""
         lines = self.notes.read_text().splitlines() if self.notes.exists() else []
-        return [told for line in lines if key in (None, (told := json.loads(line))["key"])]
+        return [call for line in lines if key in (None, (call := json.loads(line))["key"])]
 
     def _trip(self) -> sagas.Saga:
         trip = sagas.Saga("trip", version=2)
@@ -325,8 +325,8 @@ def shop_in(broker: Broker, folder: pathlib.Path, store: str | None = None, **mo
     )
 
 
-if WORDS in os.environ:
-    words = json.loads(os.environ[WORDS])
+if SETTINGS in os.environ:
+    words = json.loads(os.environ[SETTINGS])
     if wrong := words.pop("wrong", None):
         importlib.import_module(f"wrong_workers.{wrong}").apply()
     lacks = words.pop("lacks", None)

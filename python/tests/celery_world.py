@@ -29,7 +29,7 @@ from typing import Any
 import celery
 import psycopg
 from witness import Witness
-from world import QUICK, Eye, World, chance, one
+from world import QUICK, OutsideReader, World, chance, one
 
 import sagas
 import sagas.celery
@@ -62,14 +62,14 @@ class Doubling(sagas.celery.Queue):
             pass
 
 
-class ServerEye(Eye):
+class OutsideServerReader(OutsideReader):
     """A reader of PostgreSQL outside of the program; it repeats a query until it succeeds."""
 
-    def _ask(self, text: str, *words: Any) -> list[tuple[Any, ...]]:
+    def _ask(self, text: str, *parameters: Any) -> list[tuple[Any, ...]]:
         query = text.replace("%", "%%").replace("?", "%s")
         while True:
             try:
-                return self._look(query, words)
+                return self._look(query, parameters)
             except psycopg.OperationalError:
                 time.sleep(0.1)
 
@@ -78,8 +78,8 @@ class Remote(World):
     """The sagas, over a witness to which each process of a worker has its own connection."""
 
     def __init__(self, queue: sagas.celery.Queue, store: str, socket: str, old: bool) -> None:
-        eye = ServerEye if store.startswith("postgresql:") else Eye
-        self.queue, self.eye, self._socket, self._old = queue, eye(store), socket, old
+        reader_class = OutsideServerReader if store.startswith("postgresql:") else OutsideReader
+        self.queue, self.reader, self._socket, self._old = queue, reader_class(store), socket, old
         self._line: tuple[int, Witness] | None = None
         self.sagas = [self.chain(), self.trip(), self.must(), self.mixed()]
 
@@ -90,13 +90,13 @@ class Remote(World):
             self._line = os.getpid(), Witness(self._socket)
         return self._line[1]
 
-    def is_hazy(self, said: dict[str, Any], unknown: float) -> bool:
+    def is_hazy(self, call: dict[str, Any], unknown: float) -> bool:
         """Return whether the outcome is unknown; with SAGAS_TEST_PLAIN, of each second first
         attempt.
         """
         if "SAGAS_TEST_PLAIN" not in os.environ:
-            return super().is_hazy(said, unknown)
-        name = f"hazy-{said['key']}-{said['step']}-{said['kind']}-{said['attempt']}"
+            return super().is_hazy(call, unknown)
+        name = f"hazy-{call['key']}-{call['step']}-{call['kind']}-{call['attempt']}"
         if not unknown or chance(name) < 0.5 or os.path.exists(name):
             return False
         with open(name, "x", encoding="ascii"):
@@ -206,13 +206,13 @@ class Remote(World):
 
 def make() -> tuple[Any, Remote]:
     """Make the app and the sagas from the environment."""
-    words = {
+    settings = {
         word: os.environ[f"SAGAS_TEST_{word.upper()}"]
         for word in ("store", "socket", "broker", "queue")
     }
-    app = celery.Celery("world", broker=words["broker"])
+    app = celery.Celery("world", broker=settings["broker"])
     app.conf.update(
-        sagas_store=words["store"],
+        sagas_store=settings["store"],
         worker_prefetch_multiplier=4,
         broker_connection_retry_on_startup=True,
         broker_connection_max_retries=None,
@@ -220,9 +220,9 @@ def make() -> tuple[Any, Remote]:
     if name := os.environ.get("SAGAS_TEST_WRONG"):
         importlib.import_module(f"wrong_workers.{name}").apply()
     kind = sagas.celery.Queue if "SAGAS_TEST_PLAIN" in os.environ else Doubling
-    queue = kind(app, words["queue"], patience=1.0)
+    queue = kind(app, settings["queue"], patience=1.0)
     return app, Remote(
-        queue, words["store"], words["socket"], bool(os.environ.get("SAGAS_TEST_OLD"))
+        queue, settings["store"], settings["socket"], bool(os.environ.get("SAGAS_TEST_OLD"))
     )
 
 

@@ -50,7 +50,7 @@ def prepared(postgresql: Server) -> str:
 
 
 @pytest.fixture(params=["sqlite", "postgresql"])
-def place(request: pytest.FixtureRequest, tmp_path: pathlib.Path) -> Iterator[str]:
+def location(request: pytest.FixtureRequest, tmp_path: pathlib.Path) -> Iterator[str]:
     """Return the address of a new store, over each kind of database in turn.
 
     Over PostgreSQL its user has the least rights.

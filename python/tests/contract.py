@@ -46,30 +46,32 @@ def is_time(text: Any) -> bool:
 @functools.cache
 def patterns() -> list[tuple[re.Pattern[str], dict[str, Any]]]:
     """Return the paths, those without parameters first."""
-    found = []
+    expressions = []
     for path in sorted(DOCUMENT["paths"], key=lambda path: ("{" in path, path)):
         text = re.sub(r"\\{\w+\\}", "[^/]+", re.escape(path))
-        found.append((re.compile(text), DOCUMENT["paths"][path]))
-    return found
+        expressions.append((re.compile(text), DOCUMENT["paths"][path]))
+    return expressions
 
 
 def operation(method: str, path: str) -> dict[str, Any] | None:
     """Return the operation of a request; HEAD has that of GET."""
     for pattern, methods in patterns():
         if pattern.fullmatch(path):
-            found: dict[str, Any] | None = methods.get({"HEAD": "get"}.get(method, method.lower()))
-            return found
+            matched: dict[str, Any] | None = methods.get(
+                {"HEAD": "get"}.get(method, method.lower())
+            )
+            return matched
     return None
 
 
-def resolved(told: dict[str, Any]) -> dict[str, Any]:
+def resolved(reference: dict[str, Any]) -> dict[str, Any]:
     """Return the object that a reference leads to."""
-    while "$ref" in told:
-        found: Any = DOCUMENT
-        for part in told["$ref"].removeprefix("#/").split("/"):
-            found = found[part]
-        told = found
-    return told
+    while "$ref" in reference:
+        target: Any = DOCUMENT
+        for part in reference["$ref"].removeprefix("#/").split("/"):
+            target = target[part]
+        reference = target
+    return reference
 
 
 @functools.cache
@@ -88,23 +90,25 @@ def check(answer: httpx.Response) -> None:
     if raw.startswith("/ui") or raw in ("/", "/favicon.ico") or kind == "text/event-stream":
         return
     where = f"{request.method} {raw} {answer.status_code}"
-    found = operation(request.method, raw)
+    described = operation(request.method, raw)
     body = answer.read()
     if answer.status_code >= 400 and kind == problems.MEDIA_TYPE and request.method != "HEAD":
-        told = json.loads(body)
+        document = json.loads(body)
         schema = {"$ref": "#/components/schemas/Problem"}
-        validator(json.dumps(schema)).validate(told)
-        name = told["type"].removeprefix(problems.PREFIX)
-        assert told["status"] == answer.status_code == problems.PROBLEMS[name].status, where
-        if found is None or name in ANYWHERE:
+        validator(json.dumps(schema)).validate(document)
+        name = document["type"].removeprefix(problems.PREFIX)
+        assert document["status"] == answer.status_code == problems.PROBLEMS[name].status, where
+        if described is None or name in ANYWHERE:
             return
-        names = resolved(found["responses"].get(str(answer.status_code), {})).get("description", "")
+        names = resolved(described["responses"].get(str(answer.status_code), {})).get(
+            "description", ""
+        )
         assert f"`{name}`" in names, f"{where}: the document does not have {name}"
-    assert found is not None, f"{where}: the document has no such operation"
+    assert described is not None, f"{where}: the document has no such operation"
     status = str(answer.status_code)
-    seen.setdefault(found["operationId"], set()).add(status)
-    assert status in found["responses"], f"{where}: not in the document"
-    content = resolved(found["responses"][status]).get("content")
+    seen.setdefault(described["operationId"], set()).add(status)
+    assert status in described["responses"], f"{where}: not in the document"
+    content = resolved(described["responses"][status]).get("content")
     if content is None or request.method == "HEAD":
         return
     assert kind in content, where

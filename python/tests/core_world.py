@@ -48,9 +48,11 @@ class Engine:
     """A process `sagas drive --lines`, with one request at a time."""
 
     def __init__(self, paths: Sequence[pathlib.Path], log: pathlib.Path | None) -> None:
-        words = ["--from", str(log), *map(str, paths)] if log else [*map(str, paths)]
+        arguments = ["--from", str(log), *map(str, paths)] if log else [*map(str, paths)]
         self._process = subprocess.Popen(
-            [program(), "drive", "--lines", *words], stdin=subprocess.PIPE, stdout=subprocess.PIPE
+            [program(), "drive", "--lines", *arguments],
+            stdin=subprocess.PIPE,
+            stdout=subprocess.PIPE,
         )
 
     def ask(self, lines: Sequence[str]) -> tuple[list[str], str]:
@@ -110,10 +112,10 @@ class Store:
             self.events += batch.text.count("\n")
             for line in batch.text.splitlines():
                 self.follower.take(json.loads(line))
-        for id, key, _, place, text, _, deadline, _ in batch.opened:
+        for id, key, _, slot, text, _, deadline, _ in batch.opened:
             if id in self.sagas or any(key == row[0] for row in self.sagas.values()):
                 raise Wrong(f"{key} is there")
-            self.sagas[id] = [key, place, text, None, None, deadline]
+            self.sagas[id] = [key, slot, text, None, None, deadline]
         self.newest = None
         for id, step, kind, number, event, value, at in batch.results:
             recorded = self.attempts.get((id, step, kind, number))
@@ -121,10 +123,10 @@ class Store:
             if recorded and not (is_kept and recorded[:2] == ("ok", value)):
                 raise Wrong(f"attempt {(id, step, kind, number)} is reported twice: {recorded}")
             self.attempts[id, step, kind, number] = event, value, at
-            told = json.loads(value) if event not in ("commit", "undone") and value else {}
-            if told.get("final"):
+            failure = json.loads(value) if event not in ("commit", "undone") and value else {}
+            if failure.get("final"):
                 self.finals.add((id, step, kind))
-            elif told.get("called", True):
+            elif failure.get("called", True):
                 self.missed[id, step, kind] = at
             elif event == "fail" and not self.follower.sagas[id % SHARD_CAPACITY].aborted:
                 raise Wrong(f"{(id, step, kind, number)} failed without a call")
@@ -232,8 +234,8 @@ class World:
             moves.append((120, "end_one", self._end_one))
         if timed := self._timed():
             moves.append((30, "ring", lambda: self._ring(timed)))
-        if asked := self._asked():
-            moves.append((20, "answer", lambda: self._answer(asked)))
+        if open_attempts := self._open_attempts():
+            moves.append((20, "answer", lambda: self._answer(open_attempts)))
         if retried := [one for one in self._attempts() if exhaustion.may_retry(one)]:
             moves.append((3, "retry", lambda: self._retry(retried)))
         if not calm:
@@ -277,16 +279,20 @@ class World:
                 raise Wrong(f"nobody goes on with {attempt.row}, which is {attempt.state}")
         for number, saga in driver.sagas.items():
             state = self.store.follower.sagas[number]
-            told = {
+            committed = {
                 step
                 for step, word in enumerate(state.states)
                 if word in ("committed", "undoing", "fixed")
             }
             drains = state.phase in ("draining", "planning")
-            is_so = {*saga.results} == told, saga.aborted == state.aborted, saga.draining == drains
+            is_so = (
+                {*saga.results} == committed,
+                saga.aborted == state.aborted,
+                saga.draining == drains,
+            )
             if not all(is_so):
                 raise Wrong(f"{saga.key}: {is_so} {saga.results} {state}")
-            if any(saga.results[step] != self.effects[number, step, "run"] for step in told):
+            if any(saga.results[step] != self.effects[number, step, "run"] for step in committed):
                 raise Wrong(f"{saga.key}: another result than was returned")
 
     def _look_at_the_end(self) -> None:
@@ -314,10 +320,10 @@ class World:
 
     def _open(self) -> None:
         self.left -= 1
-        place = self.random.randrange(len(self.kinds))
+        index = self.random.randrange(len(self.kinds))
         deadline = self.random.choice((None,) * 17 + (0.0, self.now, self.now + 3600))
         saga = SagaInstance(
-            f"k{self.left}", "null", self.kinds[place], place, StartOptions(deadline=deadline)
+            f"k{self.left}", "null", self.kinds[index], index, StartOptions(deadline=deadline)
         )
         self.known[saga.key] = saga
         self.driver.open(saga)
@@ -346,14 +352,14 @@ class World:
         if not lines:
             return
         assert self.engine
-        found: Effects | list[str] = lines
-        while isinstance(found, list):
+        lines_or_effects: Effects | list[str] = lines
+        while isinstance(lines_or_effects, list):
             if self.random.random() < 0.005:
                 self._kill_engine()
                 return
-            found = driver.replies(*self.engine.ask(found), self.now)
-        driver.writes(found)
-        self._put(found)
+            lines_or_effects = driver.replies(*self.engine.ask(lines_or_effects), self.now)
+        driver.writes(lines_or_effects)
+        self._put(lines_or_effects)
 
     def _put(self, effects: Effects) -> None:
         if effects.batch:
@@ -427,31 +433,31 @@ class World:
         # as the runtime looks for them
         for saga in [one for one in driver.sent if one.key in over]:
             del driver.sent[saga]
-        asked, new = recovery.unopened(driver, rows, self.known)
+        starting, new = recovery.unopened(driver, rows, self.known)
         self.engine = self._engine()
         overdue = recovery.overdue(rows, self.now)
         replies, text = self.engine.ask(recovery.requests(rows, overdue))
         before = {one for saga in driver.sagas.values() for one in saga.busy.values()} | {
             *driver.unkept()
         }
-        found = recovery.recover(
+        recovered = recovery.recover(
             rows, replies, self.now, driver, self.known, overdue=overdue, log_text=text
         )
-        for saga in found.restored:
+        for saga in recovered.restored:
             self.known[saga.key] = saga
-        for attempt in found.forgotten:
+        for attempt in recovered.forgotten:
             attempt.forget()
             self.running.pop(attempt, None)
         after = {one for saga in driver.sagas.values() for one in saga.busy.values()}
         if any(one.state is not FINISHED for one in before - after):
             raise Wrong("an attempt that is gone is not finished")
-        driver.writes(found.effects)
-        self._put(found.effects)
-        for attempt in found.resumed:
+        driver.writes(recovered.effects)
+        self._put(recovered.effects)
+        for attempt in recovered.resumed:
             self._do(attempt, self.machine.resume(attempt, self.now))
-        for saga in found.draining:
+        for saga in recovered.draining:
             self._drain(saga)
-        for saga in (*asked, *new):
+        for saga in (*starting, *new):
             driver.open(saga)
         self.is_recovered = True
 
@@ -485,9 +491,9 @@ class World:
             self.driver.report(attempt)
         elif decision.do is Do.REPORT:
             call = attempt.instance.number, attempt.step, attempt.kind, attempt.attempt
-            is_asked_first = attempt.declared.kind == "approval"
+            decides_itself = attempt.declared.kind == "approval"
             if attempt.outcome and not attempt.outcome.called and self.begun[call]:
-                if not is_asked_first:
+                if not decides_itself:
                     raise Wrong(f"{attempt.row} was called, and is reported as if it was not")
             self.driver.report(attempt)
         if decision.row:
@@ -584,7 +590,7 @@ class World:
         if attempt.pending is None:  # its timer is set once its row exists
             self._do(attempt, self.machine.timer(attempt, self.now))
 
-    def _asked(self) -> list[Attempt]:
+    def _open_attempts(self) -> list[Attempt]:
         return [one for one in self._attempts() if is_asked(one)]
 
     def _answer(self, attempts: list[Attempt]) -> None:
@@ -612,26 +618,28 @@ class World:
         """Check that the log is allowed, and that everything else agrees with it."""
         log = self.folder / "log.jsonl"
         log.write_text(protocol.HEADER + self.store.text)
-        said = audit(log, self.paths)
-        if not said.startswith("yes"):
-            raise Wrong(f"sagas audit: {said}")
+        verdict = audit(log, self.paths)
+        if not verdict.startswith("yes"):
+            raise Wrong(f"sagas audit: {verdict}")
         follower = self.store.follower
         for id, (key, _, _, phase, end, _) in self.store.sagas.items():
-            state, told = follower.sagas[id % SHARD_CAPACITY], json.loads(end)
-            if (phase, told["states"], told["aborted"]) != (
+            state, outcome = follower.sagas[id % SHARD_CAPACITY], json.loads(end)
+            if (phase, outcome["states"], outcome["aborted"]) != (
                 state.phase,
                 state.states,
                 state.aborted,
             ):
                 raise Wrong(
-                    f"{key}: {phase} {told}, where the log says {state.phase} {state.states}"
+                    f"{key}: {phase} {outcome}, where the log says {state.phase} {state.states}"
                 )
         self._judge_rows()
 
     def _judge_rows(self) -> None:
         for (id, step, kind, number), (event, value, _) in self.store.attempts.items():
-            told = self.effects.get((id % SHARD_CAPACITY, step, kind))
-            if event == "ok" or (event in ("commit", "undone") and told != value):
-                raise Wrong(f"{(id, step, kind, number)}: {value} is kept, and {told} was returned")
+            returned = self.effects.get((id % SHARD_CAPACITY, step, kind))
+            if event == "ok" or (event in ("commit", "undone") and returned != value):
+                raise Wrong(
+                    f"{(id, step, kind, number)}: {value} is kept, and {returned} was returned"
+                )
         if self.store.suspensions:
             raise Wrong(f"rows of suspensions are left: {self.store.suspensions}")

@@ -29,8 +29,8 @@ class Drive:
         for number, text in enumerate(texts):
             paths.append(folder / f"def-{number}.toml")
             paths[-1].write_text(text)
-        words = [program(), "drive", *(["--log", str(log)] if log else []), *map(str, paths)]
-        self.process = subprocess.Popen(words, stdin=subprocess.PIPE, stdout=subprocess.PIPE)
+        command = [program(), "drive", *(["--log", str(log)] if log else []), *map(str, paths)]
+        self.process = subprocess.Popen(command, stdin=subprocess.PIPE, stdout=subprocess.PIPE)
 
     def __enter__(self) -> Drive:
         return self
@@ -58,6 +58,6 @@ class Drive:
 
 def audit(log: pathlib.Path, paths: Sequence[pathlib.Path]) -> str:
     """Return the output of `sagas audit` for a log."""
-    words = [program(), "audit", str(log), *map(str, paths)]
-    done = subprocess.run(words, capture_output=True, text=True, check=False)
+    command = [program(), "audit", str(log), *map(str, paths)]
+    done = subprocess.run(command, capture_output=True, text=True, check=False)
     return (done.stdout + done.stderr).strip()

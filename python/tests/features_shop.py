@@ -121,7 +121,7 @@ class Scramble:
 
 def order_of(number: int) -> dict[str, Any]:
     """Return the input of a saga."""
-    items = [f"{MARK} {number} {place}" for place in range(number % 4)]
+    items = [f"{MARK} {number} {index}" for index in range(number % 4)]
     return {"i": number, "account": f"a{number % 3}", "items": items, "mark": f"{MARK} {number}"}
 
 
@@ -177,7 +177,7 @@ class Shop:
         self._line[1].note(at=time.time(), pid=os.getpid(), **what)
 
     def _begins(self, task: Any, function: str) -> dict[str, Any]:
-        said = {
+        call = {
             "key": task.key,
             "step": task.step,
             "kind": "undo" if task.is_compensation else "run",
@@ -190,42 +190,42 @@ class Shop:
             more["item"] = task.item
         if self.has("context") and not function.startswith("post") and ".far" not in function:
             more["context"] = task.context.id
-        if ".move" in function and said["kind"] == "run":
+        if ".move" in function and call["kind"] == "run":
             more["limited"] = of(task.input, "account")
         results = {
             name: plain(value)
             for name, value in World.handed(None, task)["results"].items()  # type: ignore[arg-type]
         }
-        if said["kind"] == "undo":
+        if call["kind"] == "undo":
             more |= {"of": task.original_idempotency_key, "result": plain(task.result)}
-        self.note(what="begin", function=function, results=results, **more, **said)
-        return said
+        self.note(what="begin", function=function, results=results, **more, **call)
+        return call
 
     async def act(self, task: Any, function: str, failing: float, unknown: float) -> Any:
         """Make a call: it starts, fails or has its effect, and its outcome may be unknown."""
-        said = self._begins(task, function)
+        call = self._begins(task, function)
         try:
             await asyncio.sleep(random.uniform(0.0, 0.01))
-            return self._does(task, said, failing, unknown)
+            return self._does(task, call, failing, unknown)
         finally:
-            self.note(what="end", **said)
+            self.note(what="end", **call)
 
     def act_in_thread(self, task: Any, function: str, failing: float, unknown: float) -> Any:
         """Make a call of a plain function."""
-        said = self._begins(task, function)
+        call = self._begins(task, function)
         try:
             time.sleep(random.uniform(0.0, 0.01))
-            return self._does(task, said, failing, unknown)
+            return self._does(task, call, failing, unknown)
         finally:
-            self.note(what="end", **said)
+            self.note(what="end", **call)
 
-    def _does(self, task: Any, said: dict[str, Any], failing: float, unknown: float) -> Any:
-        name = f"{task.key}/{task.step}/{said['kind']}/{task.attempt}"
+    def _does(self, task: Any, call: dict[str, Any], failing: float, unknown: float) -> Any:
+        name = f"{task.key}/{task.step}/{call['kind']}/{task.attempt}"
         if task.declared_step == "ask":
-            self._fails_at_first(task, said["kind"])
+            self._fails_at_first(task, call["kind"])
         elif chance(name) < failing:
             raise sagas.Fail("for good") if chance(name) < failing / 4 else ValueError("fails")
-        self.note(what="effect", **said)
+        self.note(what="effect", **call)
         if random.random() < unknown:
             raise ConnectionError("nobody knows")
         return result_of(task.key, task.step)
@@ -387,10 +387,10 @@ class Shop:
     def _post(self) -> sagas.Saga:
         """Return a saga of which Celery workers do two steps."""
         post = sagas.Saga("post")
-        words: dict[str, Any] = {"queue": self.queue, "timeout": 4.0}
-        stamp = self.step(post, "stamp", tries=2, **words)
+        options: dict[str, Any] = {"queue": self.queue, "timeout": 4.0}
+        stamp = self.step(post, "stamp", tries=2, **options)
         bag = self.step(post, "bag", needs=[stamp])
-        self.step(post, "carry", needs=[bag], failing=0.3, **words)
+        self.step(post, "carry", needs=[bag], failing=0.3, **options)
         self.sagas.append(post)
         return post
 

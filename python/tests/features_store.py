@@ -66,11 +66,11 @@ class Instance:
 
     def __post_init__(self) -> None:
         self.token = f"{self.log.name}-{self.number}"
-        told = tomllib.loads(self.text)["step"]
-        self.steps = [step["name"] for step in told]
-        self.needs = {step["name"]: step.get("needs", []) for step in told}
-        found = STEP.findall(self.text[self.text.index("[[step]]") :])
-        self.declared = {name: re.sub(r"\[\d+\]", "", of) or name for name, of in found}
+        tables = tomllib.loads(self.text)["step"]
+        self.steps = [step["name"] for step in tables]
+        self.needs = {step["name"]: step.get("needs", []) for step in tables}
+        headers = STEP.findall(self.text[self.text.index("[[step]]") :])
+        self.declared = {name: re.sub(r"\[\d+\]", "", of) or name for name, of in headers}
         version = VERSION.search(self.text)
         self.version = int(version[1]) if version else 1
         self.ends: list[Event] = list(ends_of(self.log, self.steps, self.number))
@@ -87,7 +87,7 @@ class Instance:
         return self.saga.endswith("-undo")
 
     @property
-    def told(self) -> str:
+    def seen_phase(self) -> str:
         """Return the phase that callers see until an operator resolves the saga."""
         if self.phase == "stuck":
             return "stuck"
@@ -168,23 +168,23 @@ class FeatureStore:
         return rows_of(self.settings.direct, query)
 
     def _stored(self) -> Iterator[Instance]:
-        found, more = self.records, dict[int, tuple[float | None, str | None]]()
+        stored, more = self.records, dict[int, tuple[float | None, str | None]]()
         for id, deadline, note in self.rows("SELECT id, deadline, note FROM sagas"):
             more[id] = deadline, note
         labels: dict[int, dict[str, str]] = {}
         for id, name, value in self.rows("SELECT id, name, value FROM labels"):
             labels.setdefault(id, {})[name] = value
         values: dict[int, list[tuple[int, str, int, str, Any]]] = {}
-        for (id, step, kind, number), outcome in found.results.items():
+        for (id, step, kind, number), outcome in stored.results.items():
             values.setdefault(id, []).append((step, kind, number, outcome.outcome, outcome.value))
         times: dict[int, dict[int, list[tuple[float | None, Json]]]] = {}
         query = "SELECT shard, committed_at, text FROM event_log ORDER BY shard, first_seq"
         for shard, at, text in self.rows(query):
             for event in map(json.loads, text.splitlines()):
                 times.setdefault(shard, {}).setdefault(event["saga"], []).append((at, event))
-        names = {log: self._texts(rows) for log, rows in found.logs.items()}
-        for row in found.sagas.values():
-            log = found.logs[row.log]
+        names = {log: self._texts(rows) for log, rows in stored.logs.items()}
+        for row in stored.sagas.values():
+            log = stored.logs[row.log]
             if row.place >= len(log.texts):
                 self.undefined.append(row.key)
                 continue
@@ -214,8 +214,8 @@ class FeatureStore:
     @staticmethod
     def _texts(log: LogRows) -> list[tuple[str, list[str]]]:
         """Return the name of the saga of each definition, and its steps."""
-        told = [tomllib.loads(text) for text in log.texts]
-        return [(one["name"], [step["name"] for step in one["step"]]) for one in told]
+        tables = [tomllib.loads(text) for text in log.texts]
+        return [(one["name"], [step["name"] for step in one["step"]]) for one in tables]
 
     def _archived(self) -> Iterator[Instance]:
         there = {log.name for log in self.records.logs.values()}
@@ -229,35 +229,35 @@ class FeatureStore:
             for line in (folder / "sagas.jsonl").read_text().splitlines():
                 yield self._archived_saga(log, json.loads(line))
 
-    def _archived_saga(self, log: LogRows, told: Json) -> Instance:
+    def _archived_saga(self, log: LogRows, entry: Json) -> Instance:
         values = {
             (one["step"], one["kind"], one["attempt"]): (one["outcome"], one["value"])
-            for one in told["results"]
+            for one in entry["results"]
         }
-        text = log.texts[told["definition"]]
+        text = log.texts[entry["definition"]]
         steps = [step["name"] for step in tomllib.loads(text)["step"]]
-        phase = "stuck" if told["phase"] == "stuck" else "ended"
-        if told["phase"] == "resolved":
-            is_planned = (told["end"]["answer"] or {}).get("kind") == "plan"
+        phase = "stuck" if entry["phase"] == "stuck" else "ended"
+        if entry["phase"] == "resolved":
+            is_planned = (entry["end"]["answer"] or {}).get("kind") == "plan"
             phase = "ended" if is_planned else "stuck"
         is_whole = "blobs" not in self.settings.options
         read = self.values.read if is_whole else (lambda value: value)
         return Instance(
             log,
-            told["number"],
-            told["key"],
-            told["saga"],
+            entry["number"],
+            entry["key"],
+            entry["saga"],
             text,
-            read(told["input"]),
+            read(entry["input"]),
             phase,
-            told["end"],
-            told["note"],
-            told["labels"],
+            entry["end"],
+            entry["note"],
+            entry["labels"],
             None,
             {
                 (steps[step], *rest): (event, read(value))
                 for (step, *rest), (event, value) in values.items()
             },
             is_archived=True,
-            events=[(None, event) for event in log.events if event["saga"] == told["number"]],
+            events=[(None, event) for event in log.events if event["saga"] == entry["number"]],
         )

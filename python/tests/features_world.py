@@ -61,14 +61,14 @@ class Node:
         self.shop = Shop(settings, release, features_celery.queue_of(settings))
         self.has, self.note = self.shop.has, self.shop.note
         self.store = self._store()
-        self.told = self._told_before()
+        self.finished = self._finished_before()
 
     @property
     def is_quiet(self) -> bool:
         """Return whether the strikes are over."""
         return pathlib.Path(self.settings.folder, "quiet").exists()
 
-    def _told_before(self) -> set[str]:
+    def _finished_before(self) -> set[str]:
         """Return the sagas whose results this node got: retention may have freed their keys."""
         notes = pathlib.Path(self.settings.folder, "notes")
         lines = notes.read_bytes().splitlines() if notes.exists() else []
@@ -78,21 +78,21 @@ class Node:
     # -- opened
 
     def _store(self) -> sagas.Store:
-        settings, has, words = self.settings, self.has, dict[str, Any]()
+        settings, has, options = self.settings, self.has, dict[str, Any]()
         folder = pathlib.Path(settings.folder)
         if settings.is_served:
-            words |= {"node": self.name, "lease": settings.lease}
+            options |= {"node": self.name, "lease": settings.lease}
         if has("context"):
-            words["context"] = self._context
+            options["context"] = self._context
         if has("codec"):
-            words["codec"] = Scramble()
+            options["codec"] = Scramble()
         if has("blobs"):
             is_table = settings.is_served and settings.seed % 2
             blobs = sagas.PostgresBlobStore(settings.direct) if is_table else None
-            words["blobs"] = blobs or sagas.FolderBlobStore(folder / "blobs")
-            words["blob_threshold"] = THRESHOLD
+            options["blobs"] = blobs or sagas.FolderBlobStore(folder / "blobs")
+            options["blob_threshold"] = THRESHOLD
         if has("retention"):
-            words |= {"retention": RETENTION, "archive_dir": folder / "archive"}
+            options |= {"retention": RETENTION, "archive_dir": folder / "archive"}
         hooks: list[Webhooks] = []
         store = sagas.open(
             settings.store,
@@ -101,7 +101,7 @@ class Node:
             engine_processes=4,
             shutdown_timeout=10,
             on_event=lambda event: [one.event(event) for one in hooks],
-            **words,
+            **options,
         )
         store.leased = True
         self.hooks = None
@@ -129,8 +129,8 @@ class Node:
             except (sagas.StoreUnavailable, sagas.StoreLocked):
                 self.store = self._store()
                 await asyncio.sleep(0.05)
-        asked = asyncio.Event()
-        asyncio.get_running_loop().add_signal_handler(signal.SIGTERM, asked.set)
+        stopped = asyncio.Event()
+        asyncio.get_running_loop().add_signal_handler(signal.SIGTERM, stopped.set)
         if self.hooks:
             self.hooks.begin()
         self.note(what="open", node=self.name)
@@ -140,7 +140,7 @@ class Node:
         works += [self._bulk()] if self.has("label") else []
         works += [self._schedule()] if self.has("schedule") else []
         tasks = [asyncio.create_task(work) for work in works]
-        asking = asyncio.create_task(asked.wait())
+        asking = asyncio.create_task(stopped.wait())
         while not asking.done():
             done, _ = await asyncio.wait([asking, *tasks], return_when=asyncio.FIRST_COMPLETED)
             for task in done - {asking}:
@@ -178,17 +178,17 @@ class Node:
 
     async def _one(self, number: int) -> None:
         """Run a saga to its end, and report each reply to the witness once it arrives."""
-        key, words = f"k{number}", dict[str, Any]()
-        if key in self.told:
+        key, options = f"k{number}", dict[str, Any]()
+        if key in self.finished:
             return
         saga = self.shop.main
         if self.shop.queue is not None and number % 3 == 0:
             saga = self.shop.post
         if self.has("deadline"):
-            words["deadline"] = (0.2 + chance(f"{key}/deadline")) if is_short(number) else 600
+            options["deadline"] = (0.2 + chance(f"{key}/deadline")) if is_short(number) else 600
         start, given = self.store.start, order_of(number)
         labels = labels_of(number)
-        run = await self._surely(lambda: start(saga, key, given, labels=labels, **words))
+        run = await self._surely(lambda: start(saga, key, given, labels=labels, **options))
         self.note(what="started", key=key)
         others = [self._abort(key)] if number % 7 == 3 else []
         if self.has("early") and saga is self.shop.main:
@@ -225,15 +225,15 @@ class Node:
             report = lambda: self.store.fail(key, "paper", "no paper")
         with contextlib.suppress(sagas.NoSuchSaga, sagas.ConflictError, sagas.InvalidError):
             await self._surely(report)
-            told = None if is_refused else value
-            self.note(what="early", key=key, step="paper", failed=is_refused, value=told)
+            result = None if is_refused else value
+            self.note(what="early", key=key, step="paper", failed=is_refused, value=result)
 
     # -- schedules, operators, workers
 
     async def _schedule(self) -> None:
         given = {"mark": f"{MARK} of the schedule"}
-        words: dict[str, Any] = {"every": EVERY, "catch_up": "all", "labels": {"by": "schedule"}}
-        await self._surely(lambda: self.store.schedule("tick", self.shop.tick, given, **words))
+        options: dict[str, Any] = {"every": EVERY, "catch_up": "all", "labels": {"by": "schedule"}}
+        await self._surely(lambda: self.store.schedule("tick", self.shop.tick, given, **options))
         self.note(what="scheduled", name="tick")
 
     async def _bulk(self) -> None:
@@ -242,8 +242,8 @@ class Node:
         for word in random.sample(("abort", "retry"), 2):
             with contextlib.suppress(*LATER):
                 if word == "abort":
-                    told = await self.store.abort_all(labels={"lot": "1"}, by="bulk", timeout=3)
-                    for key in told.done:
+                    outcome = await self.store.abort_all(labels={"lot": "1"}, by="bulk", timeout=3)
+                    for key in outcome.done:
                         self.note(what="aborted", key=key, bulk=True)
                 else:
                     done = await self.store.retry_all(labels={"lot": "2"})
@@ -271,16 +271,16 @@ class Node:
             word = "complete"
         value = {"operator": secrets.token_hex(3)}
         kind = "undo" if one.undo else "run"
-        said = {"key": one.key, "step": one.step, "kind": kind, "word": word, "value": value}
-        self.note(what="answering", why=str(one.why), **said)
-        words: dict[str, Any] = {"undo": one.undo, "by": self.name}
+        report = {"key": one.key, "step": one.step, "kind": kind, "word": word, "value": value}
+        self.note(what="answering", why=str(one.why), **report)
+        options: dict[str, Any] = {"undo": one.undo, "by": self.name}
         if word == "retry":
-            await self.store.retry(one.key, one.step, **words)
+            await self.store.retry(one.key, one.step, **options)
         elif word == "complete":
-            await self.store.complete(one.key, one.step, value, **words)
+            await self.store.complete(one.key, one.step, value, **options)
         else:
-            await self.store.fail(one.key, one.step, "somebody says no", **words)
-        self.note(what="answered", **said)
+            await self.store.fail(one.key, one.step, "somebody says no", **options)
+        self.note(what="answered", **report)
 
     def _is_refused(self, one: sagas.Attention) -> bool:
         """Return whether operators report that a step failed permanently.
@@ -297,8 +297,8 @@ class Node:
         for one in await self.store.list(phase="open", saga="main"):
             with contextlib.suppress(sagas.ConflictError, sagas.InvalidError):
                 value = {"late": one.key}
-                said = {"key": one.key, "step": "paper", "kind": "run", "word": "complete"}
-                self.note(what="answering", why="late", value=value, **said)
+                report = {"key": one.key, "step": "paper", "kind": "run", "word": "complete"}
+                self.note(what="answering", why="late", value=value, **report)
                 await self.store.complete(one.key, "paper", value)
 
     async def _worker(self) -> None:

@@ -99,8 +99,8 @@ def webhook_not_posted() -> None:
     """Each third delivery counts as posted, and is not."""
     right, turns = webhooks.post, itertools.count()
 
-    async def post(*words: Any) -> int:
-        return 204 if next(turns) % 3 == 0 else await right(*words)
+    async def post(*arguments: Any) -> int:
+        return 204 if next(turns) % 3 == 0 else await right(*arguments)
 
     setattr(webhooks, "post", post)
 
@@ -129,8 +129,8 @@ def aborted_twice() -> None:
     """Each caller that aborts a saga gets the reply that it was not aborted before."""
     right = Commands.abort
 
-    async def abort(self: Commands, *words: Any) -> bool:
-        await right(self, *words)
+    async def abort(self: Commands, *arguments: Any) -> bool:
+        await right(self, *arguments)
         return True
 
     setattr(Commands, "abort", abort)
@@ -140,7 +140,7 @@ def aborted_twice() -> None:
 def abort_lost() -> None:
     """An abort is acknowledged, and nothing follows."""
 
-    async def abort(self: sagas.Store, key: str, **words: Any) -> bool:
+    async def abort(self: sagas.Store, key: str, **options: Any) -> bool:
         return True
 
     setattr(sagas.Store, "abort", abort)
@@ -152,8 +152,10 @@ def wrong_result_handed() -> None:
     right: Any = Task.results
 
     def results(self: Task[Any]) -> dict[str, Any]:
-        found = right.fget(self)
-        return dict(zip(found, [*found.values()][1:] + [*found.values()][:1]))
+        right_results = right.fget(self)
+        return dict(
+            zip(right_results, [*right_results.values()][1:] + [*right_results.values()][:1])
+        )
 
     setattr(Task, "results", property(results))
 
@@ -180,8 +182,8 @@ def labels_lost() -> None:
     """A saga starts without its labels."""
     right: Any = StartOptions.__init__
 
-    def init(self: StartOptions, labels: Any = None, *words: Any, **more: Any) -> None:
-        right(self, {}, *words, **more)
+    def init(self: StartOptions, labels: Any = None, *arguments: Any, **more: Any) -> None:
+        right(self, {}, *arguments, **more)
 
     setattr(StartOptions, "__init__", init)
 
@@ -191,12 +193,12 @@ def wrong_compensation() -> None:
     """A step is undone by the compensation of another one."""
     right = Shelf.__init__
 
-    def init(self: Shelf, sagas: Any, *words: Any) -> None:
+    def init(self: Shelf, sagas: Any, *arguments: Any) -> None:
         for saga in sagas:
             steps = {step.name: step for step in saga.steps}
             if "ship" in steps:
                 steps["hold"].undo = steps["ship"].undo
-        right(self, sagas, *words)
+        right(self, sagas, *arguments)
 
     setattr(Shelf, "__init__", init)
 
@@ -206,10 +208,10 @@ def compensation_not_called() -> None:
     """A step counts as undone, and nothing was called."""
     right = Shelf.__init__
 
-    def init(self: Shelf, sagas: Any, *words: Any) -> None:
+    def init(self: Shelf, sagas: Any, *arguments: Any) -> None:
         for step in (step for saga in sagas for step in saga.steps if step.undo.function):
             step.undo.function = lambda task: None
-        right(self, sagas, *words)
+        right(self, sagas, *arguments)
 
     setattr(Shelf, "__init__", init)
 
@@ -226,11 +228,11 @@ def answer_replaced() -> None:
     right = Commands.report
 
     async def report(
-        self: Commands, key: str, step: str, outcome: Any, *words: Any, **more: Any
+        self: Commands, key: str, step: str, outcome: Any, *arguments: Any, **more: Any
     ) -> None:
         if outcome.kind is SUCCEEDED:
             outcome = Outcome(SUCCEEDED, '{"operator":"nobody"}')
-        await right(self, key, step, outcome, *words, **more)
+        await right(self, key, step, outcome, *arguments, **more)
 
     setattr(Commands, "report", report)
 

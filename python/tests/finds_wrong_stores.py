@@ -26,7 +26,7 @@ def test_there_are_enough() -> None:
 
 
 @pytest.mark.parametrize("name", NAMES)
-def test_a_wrong_store_is_found(postgresql: Server, name: str) -> None:
+def test_a_mutant_is_detected(postgresql: Server, name: str) -> None:
     """The kind of strike that reveals it finds it within a few databases."""
     module = importlib.import_module(f"wrong_stores.{name}")
     if not hasattr(module, "STRIKES"):
@@ -34,12 +34,12 @@ def test_a_wrong_store_is_found(postgresql: Server, name: str) -> None:
             "no strike shows it: the judge cannot tell a node that lives from one that was struck,"
             " or the moment is too short"
         )
-    found: set[str] = set()
+    faults: set[str] = set()
     for seed in range(6):
         one = play(module.STRIKES, seed, 24, postgresql, most=20, wrong=name, quiet=4)
-        found |= one.verdict.names
+        faults |= one.verdict.names
         if one.folder is not None:
             shutil.rmtree(pathlib.Path(one.folder))
-        if found & module.FINDS:
+        if faults & module.FINDS:
             return
-    pytest.fail(f"{name} was not found by {module.FINDS}, but by {sorted(found)}")
+    pytest.fail(f"{name} was not found by {module.FINDS}, but by {sorted(faults)}")

@@ -55,14 +55,14 @@ def judged(
     url: str, files: Sequence[pathlib.Path] = (), *, sync: bool = False
 ) -> tuple[list[Judged], list[str]]:
     """Return the shards, and the faults of each record."""
-    found, faults = shards_of(url, files, sync), list[str]()
-    for one in found:
+    shards, faults = shards_of(url, files, sync), list[str]()
+    for one in shards:
         faults += [] if one.good else [f"record: shard {one.shard}, {one.answer}"]
         faults += [f"record: shard {one.shard}: lost {loss}" for loss in one.losses]
         faults += [
             f"record: shard {one.shard}: the end of saga {id} is lost" for id in one.ends_lost
         ]
-    return found, faults
+    return shards, faults
 
 
 def texts(url: str, files: Sequence[pathlib.Path], *, sync: bool = False) -> list[str]:

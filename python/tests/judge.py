@@ -115,11 +115,11 @@ KEPT = {"completed": "ended", "recovered": "ended", "stuck": "stuck"}
 """The phases that callers see, and what the store keeps of them."""
 
 
-def told(phase: str | None, end: Json) -> tuple[str, list[str]]:
+def seen_end(phase: str | None, end: Json) -> tuple[str, list[str]]:
     """Return the phase and the states that a caller sees at an end."""
     by_plan = (end["answer"] or {}).get("kind") == "plan"
-    words = ["undo_failed" if state == "fixed" else state for state in end["states"]]
-    return "stuck" if phase == "stuck" else "recovered" if by_plan else "completed", words
+    states = ["undo_failed" if state == "fixed" else state for state in end["states"]]
+    return "stuck" if phase == "stuck" else "recovered" if by_plan else "completed", states
 
 
 class Judge:
@@ -146,14 +146,14 @@ class Judge:
         fault = self.verdict.fault
         if (
             not str(self.store).startswith("postgresql:")
-            and (said := records.integrity(pathlib.Path(self.store))) != "ok"
+            and (report := records.integrity(pathlib.Path(self.store))) != "ok"
         ):
-            fault("broken-file", said)
+            fault("broken-file", report)
         if set(self.records.sagas) != {f"k{number}" for number in range(count)}:
             fault("keys", f"{len(self.records.sagas)} keys, {count} were asked for")
         for log in self.records.logs.values():
             self._log(log)
-        self._told()
+        self._replies()
         self._tokens()
         self._handed()
         for row in self.records.sagas.values():
@@ -210,15 +210,15 @@ class Judge:
         with tempfile.TemporaryDirectory() as name:
             folder = pathlib.Path(name)
             (folder / "log").write_text(HEADER + "".join(text for _, text in log.chunks))
-            paths = [folder / f"{place}.toml" for place in range(len(log.texts))]
+            paths = [folder / f"{index}.toml" for index in range(len(log.texts))]
             for path, text in zip(paths, log.texts):
                 path.write_text(text)
-            if (said := audit(folder / "log", paths)) != wanted:
-                self.verdict.fault("audit", f"log {log.log}: {said}, and not {wanted}")
+            if (result := audit(folder / "log", paths)) != wanted:
+                self.verdict.fault("audit", f"log {log.log}: {result}, and not {wanted}")
 
     # -- replies to the program
 
-    def _told(self) -> None:
+    def _replies(self) -> None:
         fault, sagas = self.verdict.fault, self.records.sagas
         for note in self.notes:
             what, key = note["what"], note.get("key")
@@ -233,7 +233,7 @@ class Judge:
 
     def _over(self, note: Json, row: SagaRow) -> None:
         states = list(note["states"].values())
-        if row.end is None or (note["phase"], states) != told(row.phase, row.end):
+        if row.end is None or (note["phase"], states) != seen_end(row.phase, row.end):
             self.verdict.fault("told-otherwise", f"{note}: kept is {row.phase} {row.end}")
         standing = {
             step for step, state in note["states"].items() if state in ("committed", "undo_failed")

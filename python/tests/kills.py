@@ -43,13 +43,13 @@ KINDS = ("program", "child", "both", "closing", "disk")
 
 def children(pid: int) -> list[int]:
     """Return the children of a process, of all its threads."""
-    found: list[int] = []
+    pids: list[int] = []
     try:
         for task in os.listdir(f"/proc/{pid}/task"):
-            found += map(int, pathlib.Path(f"/proc/{pid}/task/{task}/children").read_text().split())
+            pids += map(int, pathlib.Path(f"/proc/{pid}/task/{task}/children").read_text().split())
     except OSError:
         pass
-    return found
+    return pids
 
 
 @dataclass
@@ -64,7 +64,7 @@ class Round:
     """The folder of its files, if there are faults."""
 
     @property
-    def found(self) -> list[str]:
+    def problems(self) -> list[str]:
         return self.verdict.faults
 
 
@@ -85,15 +85,15 @@ class Striker:
     began: float = field(default_factory=time.monotonic)
 
     def __post_init__(self) -> None:
-        self.words = [
+        self.command = [
             sys.executable,
             str(HERE / "world.py"),
             str(self.folder / "store.db"),
             str(self.folder / "socket"),
         ]
-        self.words += [str(self.sagas), "--concurrency", str(self.concurrency)]
-        self.words += ["--wrong", self.wrong] if self.wrong else []
-        self.words += ["--small"] if self.small else []
+        self.command += [str(self.sagas), "--concurrency", str(self.concurrency)]
+        self.command += ["--wrong", self.wrong] if self.wrong else []
+        self.command += ["--small"] if self.small else []
         path = f"{HERE.parent / 'src'}{os.pathsep}{HERE}"
         self.environment = os.environ | {
             "PYTHONPATH": path,
@@ -114,7 +114,7 @@ class Striker:
         with open(self.folder / "errors", "ab") as errors:
             while not self.is_late:
                 process = subprocess.Popen(
-                    self.words, env=self.environment, stdout=subprocess.PIPE, stderr=errors
+                    self.command, env=self.environment, stdout=subprocess.PIPE, stderr=errors
                 )
                 try:
                     self._strike(process)
@@ -219,7 +219,7 @@ def run_once(folder: pathlib.Path, sagas: int) -> int:
     striker = Striker(folder, "program", random.Random(0), sagas, 16, 60)
     with witness_at(folder / "socket", folder / "notes"):
         return subprocess.run(
-            striker.words,
+            striker.command,
             env=striker.environment,
             stdout=subprocess.DEVNULL,
             timeout=60,
@@ -259,30 +259,30 @@ def main() -> int:
     parser.add_argument("--sagas", type=int, default=60)
     parser.add_argument("--seed", type=int, default=random.randrange(10**6))
     parser.add_argument("--jobs", type=int, default=2)
-    words = parser.parse_args()
-    kinds = words.kinds.split(",")
+    options = parser.parse_args()
+    kinds = options.kinds.split(",")
     kills: Counter[str] = Counter()
     figures: Counter[str] = Counter()
     bad = 0
     began = time.monotonic()
-    with concurrent.futures.ProcessPoolExecutor(words.jobs) as pool:
+    with concurrent.futures.ProcessPoolExecutor(options.jobs) as pool:
         games = [
-            pool.submit(play, kinds[number % len(kinds)], words.seed + number, words.sagas)
-            for number in range(words.rounds)
+            pool.submit(play, kinds[number % len(kinds)], options.seed + number, options.sagas)
+            for number in range(options.rounds)
         ]
         for done, game in enumerate(concurrent.futures.as_completed(games), 1):
             one = game.result()
             kills += one.kills
             figures += one.verdict.figures
-            bad += bool(one.found)
-            for fault in one.found[:5]:
+            bad += bool(one.problems)
+            for fault in one.problems[:5]:
                 print(f"\n{one.kind} {one.seed} {one.folder}: {fault}")
             print(
-                f"\r{done} of {words.rounds} rounds, {sum(kills.values())} strikes, {bad} bad",
+                f"\r{done} of {options.rounds} rounds, {sum(kills.values())} strikes, {bad} bad",
                 end="",
                 flush=True,
             )
-    print(f"\nseed {words.seed}, {time.monotonic() - began:.0f} s")
+    print(f"\nseed {options.seed}, {time.monotonic() - began:.0f} s")
     for title, counted in (("strikes", kills), ("figures", figures)):
         print(
             f"{title}: " + ", ".join(f"{name} {number}" for name, number in sorted(counted.items()))

@@ -46,7 +46,7 @@ if __name__ == "__main__":
 import features_wrong
 import fleet
 from brokers import Broker, Program, broker_at
-from celery_kills import worker_words
+from celery_kills import worker_command
 from driving import program
 from features_judge import FeatureVerdict, judge, rows_of
 from features_options import options_of
@@ -81,11 +81,11 @@ class Receiver:
                 self.send_header("content-length", "0")
                 self.end_headers()
 
-            def log_message(self, *words: Any) -> None:
+            def log_message(self, *arguments: Any) -> None:
                 ...
 
         class Server(http.server.ThreadingHTTPServer):
-            def handle_error(self, *words: Any) -> None:
+            def handle_error(self, *arguments: Any) -> None:
                 """Ignore that a killed node reads no response."""
 
         self.server = Server(("127.0.0.1", 0), Handler)
@@ -113,7 +113,7 @@ class Node:
 
     def start(self) -> None:
         """Start its program."""
-        words = [sys.executable, str(HERE / "features_world.py"), str(self.settings), self.name]
+        command = [sys.executable, str(HERE / "features_world.py"), str(self.settings), self.name]
         path = f"{HERE.parent / 'src'}{os.pathsep}{HERE}"
         record = self.settings.parent / f"record-{self.name}"
         environment = os.environ | {
@@ -123,7 +123,7 @@ class Node:
             "SAGAS_RECORD": str(record),
         }
         log, release = f"log-{self.name}", str(self.release)
-        self.program = Program([*words, release], self.settings.parent, environment, log)
+        self.program = Program([*command, release], self.settings.parent, environment, log)
 
     @property
     def running(self) -> Program:
@@ -134,12 +134,12 @@ class Node:
     @property
     def is_open(self) -> bool:
         """Return whether it has its store open."""
-        return self.running.runs and self.running.has_said("^open")
+        return self.running.runs and self.running.has_printed("^open")
 
     @property
     def is_done(self) -> bool:
         """Return whether its callers have all results."""
-        return self.running.has_said("^done")
+        return self.running.has_printed("^done")
 
     def end(self, seconds: float = 60) -> int:
         """Ask its program to end, and return its status."""
@@ -248,10 +248,10 @@ class Round:
             "PYTHONUNBUFFERED": "1",
             "SAGAS_FEATURES": str(self.folder / "settings.json"),
         }
-        words = [
-            word.replace("celery_world", "features_celery") for word in worker_words(queue, "w")
+        command = [
+            word.replace("celery_world", "features_celery") for word in worker_command(queue, "w")
         ]
-        worker = Program([*words, "-P", "threads"], self.folder, environment, "worker.log")
+        worker = Program([*command, "-P", "threads"], self.folder, environment, "worker.log")
         try:
             worker.wait_for(r" ready\.")
             yield
@@ -432,8 +432,8 @@ def play(
 def try_wrong(name: str, server: Server | None = None) -> Played:
     """Play a round of a wrong variant, without strikes."""
     variant = features_wrong.VARIANTS[name]
-    words = {"options": variant.options, "deploy": variant.deploy, "seconds": variant.seconds}
-    return play(1, variant.count, 0, server, most=60, wrong=name, keeps=False, **words)
+    settings = {"options": variant.options, "deploy": variant.deploy, "seconds": variant.seconds}
+    return play(1, variant.count, 0, server, most=60, wrong=name, keeps=False, **settings)
 
 
 def main() -> int:
@@ -449,28 +449,28 @@ def main() -> int:
     parser.add_argument("--options", help="in place of those of the seed, with commas between")
     parser.add_argument("--deploy", choices=DEPLOYS, help="in place of that of the seed")
     parser.add_argument("--wrong", help="a wrong variant, or all")
-    words = parser.parse_args()
-    if words.wrong:
-        return wrong(words.wrong)
+    options = parser.parse_args()
+    if options.wrong:
+        return wrong(options.wrong)
     kills, figures = Counter[str](), Counter[str]()
     bad, began = 0, time.monotonic()
-    options = words.options.split(",") if words.options else None
+    options = options.options.split(",") if options.options else None
     with contextlib.ExitStack() as stack:
         server = broker = None
-        if words.store == "postgresql":
+        if options.store == "postgresql":
             server = stack.enter_context(serving({"fsync": "on"}))
             folder = pathlib.Path(stack.enter_context(tempfile.TemporaryDirectory()))
             broker = stack.enter_context(broker_at("redis", folder))
-        for number in range(words.rounds):
-            seed = words.seed + number
+        for number in range(options.rounds):
+            seed = options.seed + number
             one = play(
                 seed,
-                words.sagas,
-                words.strikes,
+                options.sagas,
+                options.strikes,
                 server,
                 broker=broker,
                 options=options,
-                deploy=words.deploy,
+                deploy=options.deploy,
             )
             kills += one.kills
             figures += one.verdict.figures
@@ -480,10 +480,10 @@ def main() -> int:
             said = f"{seed}: {','.join(one.options)}; {one.deploy}"
             strikes = sum(kills.values())
             print(
-                f"{said}; {number + 1} of {words.rounds} rounds, {strikes} strikes, {bad} bad",
+                f"{said}; {number + 1} of {options.rounds} rounds, {strikes} strikes, {bad} bad",
                 flush=True,
             )
-    print(f"seed {words.seed}, {time.monotonic() - began:.0f} s")
+    print(f"seed {options.seed}, {time.monotonic() - began:.0f} s")
     for title, counted in (("strikes", kills), ("figures", figures)):
         print(
             f"{title}: " + ", ".join(f"{name} {count}" for name, count in sorted(counted.items()))
@@ -496,10 +496,10 @@ def wrong(name: str) -> int:
     missed = 0
     for one in sorted(features_wrong.VARIANTS) if name == "all" else [name]:
         played, finds = try_wrong(one), features_wrong.VARIANTS[one].finds
-        is_found = finds in played.names
-        missed += not is_found
+        is_detected = finds in played.names
+        missed += not is_detected
         print(
-            f"{one}: {'found by' if is_found else 'NOT found by'} {finds}; {sorted(played.names)}",
+            f"{one}: {'found by' if is_detected else 'NOT found by'} {finds}; {sorted(played.names)}",
             flush=True,
         )
     return 1 if missed else 0

@@ -71,10 +71,10 @@ class NodeStriker(Striker):
         super().__post_init__()
         assert self.server and self.relay
         through = self.server.url(self.url.rpartition("/")[2], port=self.relay.port)
-        self.words[2] = through
+        self.command[2] = through
         self.environment["SAGAS_RECORD"] = str(self.folder / "record")
-        self.words += [
-            "--eye",
+        self.command += [
+            "--reader",
             self.url,
             "--node",
             "same" if self.kind == "names" else self.name,
@@ -242,24 +242,24 @@ def main() -> int:
     parser.add_argument("--kinds", default=",".join(KINDS))
     parser.add_argument("--sagas", type=int, default=40)
     parser.add_argument("--seed", type=int, default=random.randrange(10**6))
-    words = parser.parse_args()
-    kinds = words.kinds.split(",")
+    options = parser.parse_args()
+    kinds = options.kinds.split(",")
     kills: Counter[str] = Counter()
     figures: Counter[str] = Counter()
     bad, began = 0, time.monotonic()
     with serving({"fsync": "on"}) as server:
-        for number in range(words.rounds):
-            one = play(kinds[number % len(kinds)], words.seed + number, words.sagas, server)
+        for number in range(options.rounds):
+            one = play(kinds[number % len(kinds)], options.seed + number, options.sagas, server)
             kills += one.kills
             figures += one.verdict.figures
-            bad += bool(one.found)
-            for fault in one.found[:5]:
+            bad += bool(one.problems)
+            for fault in one.problems[:5]:
                 print(f"\n{one.kind} {one.seed} {one.folder}: {fault}")
             print(
-                f"{number + 1} of {words.rounds} rounds, {sum(kills.values())} strikes, {bad} bad",
+                f"{number + 1} of {options.rounds} rounds, {sum(kills.values())} strikes, {bad} bad",
                 flush=True,
             )
-    print(f"seed {words.seed}, {time.monotonic() - began:.0f} s")
+    print(f"seed {options.seed}, {time.monotonic() - began:.0f} s")
     for title, counted in (("strikes", kills), ("figures", figures)):
         print(
             f"{title}: " + ", ".join(f"{name} {number}" for name, number in sorted(counted.items()))

@@ -95,11 +95,11 @@ async def node(url: str, socket: str, name: str, count: int) -> None:
         url, [saga], node=name, lease=LEASE, concurrency=32, shutdown_timeout=5
     ) as store:
         print("open", flush=True)
-        for lot in range(0, count, 10):
+        for first in range(0, count, 10):
             await asyncio.gather(
                 *(
                     call(store, saga, f"k{number}", witness)
-                    for number in range(lot, min(count, lot + 10))
+                    for number in range(first, min(count, first + 10))
                 )
             )
 

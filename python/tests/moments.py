@@ -23,7 +23,7 @@ from kills_nodes import BOOK, noted
 from relay import Relay, relaying
 from server import Server
 from witness import Witness, witness_at
-from world import ROW, Eye, World, started
+from world import ROW, OutsideReader, World, started
 
 import sagas
 from sagas.runtime.coordinator import Coordinator
@@ -54,7 +54,7 @@ class Node(World):
         self.gates: dict[tuple[str, str], asyncio.Event] = defaultdict(asyncio.Event)
         self.gated, self.loop = gates, asyncio.get_running_loop()
         self.refused: set[tuple[str, str]] = set()
-        super().__init__(witness, Eye(url))
+        super().__init__(witness, OutsideReader(url))
         self.sagas = [self.pair(inside), self.plain()] if inside else [self.pair(inside)]
 
     def pair(self, inside: bool) -> sagas.Saga:
@@ -95,18 +95,18 @@ class Node(World):
 
     async def one(self, store: sagas.Store, number: int, saga: int = 0) -> None:
         """Run a saga to its end; report both replies to the witness once they arrive here."""
-        key, note, eye = f"k{number}", self.witness.note, self.eye
+        key, note, reader = f"k{number}", self.witness.note, self.reader
         run = await started(store, self.sagas[saga], key, {"i": number})
-        note(what="started", key=key, there=eye.phase(key)[0])
+        note(what="started", key=key, there=reader.phase(key)[0])
         end = await run.wait()
-        told = {
+        end_note = {
             "phase": end.phase,
             "states": end.states,
             "results": end.results,
             "cost": end.cost,
             "aborted": end.aborted,
         }
-        note(what="over", key=key, there=eye.phase(key)[1], **told)
+        note(what="over", key=key, there=reader.phase(key)[1], **end_note)
 
 
 def in_a_row(name: str, call: Callable[[Any], Any], inside: bool) -> sagas.Saga:
@@ -127,7 +127,7 @@ class Stage:
     def __init__(self, server: Server, url: str, socket: pathlib.Path, wrong: bool) -> None:
         self.server, self.url, self.wrong = server, url, wrong
         self._socket, self.record = str(socket), socket.parent / "record"
-        self.found: set[str] = set()
+        self.fault_names: set[str] = set()
 
     @contextlib.asynccontextmanager
     async def node(
@@ -281,7 +281,7 @@ async def another_node_has_one_of_two_logs(stage: Stage) -> int:
         await until(lambda: ("k1", "b") in first.called or len(inner(store).shards.runners) == 2)
         assert store.commits == before + 2
         if stage.ask("SELECT 1 FROM attempts JOIN sagas USING (id) WHERE key = 'k1'"):
-            stage.found.add("not-its-own")
+            stage.fault_names.add("not-its-own")
         second.open_all()
         first.open_all()
         await stage.over(*work)
@@ -301,7 +301,7 @@ async def another_node_has_the_only_log(stage: Stage) -> int:
         first.gates["k0", "a"].set()
         await until(lambda: ("k0", "b") in first.called or not inner(store).shards.runners)
         if stage.ask("SELECT 1 FROM attempts"):
-            stage.found.add("not-its-own")
+            stage.fault_names.add("not-its-own")
         second.open_all()
         first.open_all()
         await stage.over(work)
@@ -331,7 +331,7 @@ async def a_commit_of_two_logs_comes_late(stage: Stage) -> int:
                     )
             await stage.gone(late)
             if stage.ask("SELECT 1 FROM attempts JOIN sagas USING (id) WHERE key IN ('k2', 'k3')"):
-                stage.found.add("came-late")
+                stage.fault_names.add("came-late")
             relay.before = 0.0
             node.open_all()
             await stage.over(*work)
@@ -352,7 +352,7 @@ async def a_refused_start_comes_late(stage: Stage) -> int:
                 relay.cut()
                 with contextlib.suppress(sagas.StoreUnavailable):
                     await start
-                    stage.found.add("not-refused")
+                    stage.fault_names.add("not-refused")
                 await until(lambda: stage.ask("SELECT epoch FROM shards") > [(1,)])
             await stage.gone(late)
     return 2
@@ -442,7 +442,7 @@ async def a_node_lives(stage: Stage) -> int:
                 or second.called
             )
             if second.called:
-                stage.found.add("called-again")
+                stage.fault_names.add("called-again")
             first.open_all()
             second.open_all()
             await stage.over(work)
@@ -491,7 +491,7 @@ async def another_node_has_the_logs_of_steps_inside(stage: Stage) -> int:
                 first.gates[f"k{number}", "a"].set()
             await until(lambda: not inner(store).shards.runners)
             if stage.ask("SELECT id FROM attempts UNION ALL SELECT 0 FROM public.book"):
-                stage.found.add("not-its-own")
+                stage.fault_names.add("not-its-own")
             second.open_all()
             first.open_all()
             await stage.over(*work)
@@ -577,9 +577,9 @@ def play(server: Server, name: str, wrong: str | None = None) -> tuple[set[str],
             stage = Stage(server, url, socket, wrong is not None)
             count = asyncio.run(asyncio.wait_for(MOMENTS[name](stage), 120))
         if noted(url, notes):
-            stage.found.add("inside-twice")
+            stage.fault_names.add("inside-twice")
         verdict = judge(url, notes, count)
         _, faults = fleet.judged(url, [stage.record])
     server.drop(url)
-    found = {"record"} if faults else set[str]()
-    return verdict.names | stage.found | found, verdict.faults + faults
+    record_faults = {"record"} if faults else set[str]()
+    return verdict.names | stage.fault_names | record_faults, verdict.faults + faults

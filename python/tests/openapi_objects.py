@@ -64,14 +64,14 @@ class Rules:
 
 def type_of(cell: str) -> Of:
     """Return the type in a cell of a table."""
-    words = [found for found in WORD.finditer(cell)]
+    tokens = [found for found in WORD.finditer(cell)]
 
     def one() -> Of:
-        found = words.pop(0)
+        found = tokens.pop(0)
         text = found[0]
         if text == "Map[":
             one()  # of the names: always `string`
-            words.pop(0)
+            tokens.pop(0)
             return closed("map")
         if text == "[":
             return closed("list")
@@ -79,14 +79,14 @@ def type_of(cell: str) -> Of:
 
     def some() -> Of:
         parts = [one()]
-        while words and words[0][0] == "\\|":
-            words.pop(0)
+        while tokens and tokens[0][0] == "\\|":
+            tokens.pop(0)
             parts.append(one())
         return parts[0] if len(parts) == 1 else Of("or", tuple(parts))
 
     def closed(word: str) -> Of:
         found = Of(word, (some(),))
-        words.pop(0)
+        tokens.pop(0)
         return found
 
     return some()
@@ -94,13 +94,13 @@ def type_of(cell: str) -> Of:
 
 def read() -> dict[str, Rules]:
     """Return the rules of all objects."""
-    found = {name: rules_of(text) for name, text in OBJECT.findall(TEXT.read_text())}
-    header = Rules(dict(found["Parameter"].fields), {}, dict(found["Parameter"].patterns))
+    objects = {name: rules_of(text) for name, text in OBJECT.findall(TEXT.read_text())}
+    header = Rules(dict(objects["Parameter"].fields), {}, dict(objects["Parameter"].patterns))
     for name in ("name", "in"):
         del header.fields[name]
     # "follows the structure of the Parameter Object", except for these
     return {
-        **found,
+        **objects,
         "Header": header,
     }
 
@@ -110,14 +110,14 @@ def rules_of(text: str) -> Rules:
     rules = Rules()
     for row in ROW.findall(text):
         cells = [cell.strip() for cell in re.split(r"(?<!\\)\|", row)]
-        name, kind, *told = cells
+        name, kind, *description = cells
         if "{" in name or "HTTP Status Code" in name:
             pattern = {"/{path}": "/.*", "{name}": ".*", "{expression}": ".*"}
             rules.patterns[pattern.get(name, r"[1-5](\d\d|XX)")] = type_of(kind)
             continue
         rules.fields[name] = type_of(kind)
-        if told[-1].startswith("**REQUIRED**"):  # else of some only
-            applies = re.search(r"`(\w+)`", told[0]) if len(told) > 1 else None
+        if description[-1].startswith("**REQUIRED**"):  # else of some only
+            applies = re.search(r"`(\w+)`", description[0]) if len(description) > 1 else None
             rules.required[name] = applies[1] if applies else ""
     return rules
 
@@ -188,8 +188,8 @@ def keyword_faults(schema: Any, where: str) -> Iterator[str]:
     for name in schema if isinstance(schema, dict) else ():
         if name not in known and not name.startswith("x-"):
             yield f"{where}: there is no keyword {name}"
-    for one, place in subschemas(schema):
-        yield from keyword_faults(one, f"{where}/{place}")
+    for one, location in subschemas(schema):
+        yield from keyword_faults(one, f"{where}/{location}")
 
 
 def subschemas(schema: Any) -> Iterator[tuple[Any, str]]:

@@ -29,10 +29,10 @@ def folder_of_programs() -> pathlib.Path:
     for folder in sorted(glob.glob("/usr/lib/postgresql/*/bin"), reverse=True):
         if os.access(f"{folder}/initdb", os.X_OK):
             return pathlib.Path(folder)
-    found = shutil.which("initdb")
-    if not found:
+    initdb = shutil.which("initdb")
+    if not initdb:
         raise FileNotFoundError("initdb is missing: apt-get install postgresql")
-    return pathlib.Path(found).parent
+    return pathlib.Path(initdb).parent
 
 
 def free_port() -> int:
@@ -52,8 +52,8 @@ def made() -> pathlib.Path:
     folder.chmod(0o755)
     server = Server(folder / "new")
     server.own()
-    words = ["-U", "owner", "-A", "trust", "-E", "UTF8", "--no-locale", "--no-sync"]
-    server.run("initdb", "-D", str(server.folder / "data"), *words)
+    options = ["-U", "owner", "-A", "trust", "-E", "UTF8", "--no-locale", "--no-sync"]
+    server.run("initdb", "-D", str(server.folder / "data"), *options)
     return server.folder / "data"
 
 
@@ -80,7 +80,7 @@ class Server:
     def copy(self, primary: Server) -> None:
         """Make its files those of another server; it will start as the standby of that one."""
         self.own()
-        words = [
+        options = [
             "-D",
             str(self.folder / "data"),
             "-h",
@@ -96,30 +96,32 @@ class Server:
             "fast",
             "--no-sync",
         ]
-        self.run("pg_basebackup", *words)
+        self.run("pg_basebackup", *options)
 
     def promote(self) -> None:
         """Promote the standby: it accepts writes from now on."""
         self.run("pg_ctl", "-D", str(self.folder / "data"), "-w", "-t", "180", "promote")
 
-    def _as_other(self, name: str, *words: str) -> list[str]:
+    def _as_other(self, name: str, *arguments: str) -> list[str]:
         first = (
             ["setpriv", f"--reuid={OTHER}", f"--regid={OTHER}", "--clear-groups"]
             if os.geteuid() == 0
             else []
         )
-        return [*first, str(folder_of_programs() / name), *words]
+        return [*first, str(folder_of_programs() / name), *arguments]
 
-    def run(self, name: str, *words: str) -> None:
+    def run(self, name: str, *arguments: str) -> None:
         """Run one of PostgreSQL's programs, as the user of the server."""
         # a file: the server keeps its standard output
-        with open(self.folder.parent / f"{self.folder.name}.said", "w+", encoding="utf-8") as said:
+        with open(
+            self.folder.parent / f"{self.folder.name}.said", "w+", encoding="utf-8"
+        ) as output:
             done = subprocess.run(
-                self._as_other(name, *words), stdout=said, stderr=said, cwd="/", check=False
+                self._as_other(name, *arguments), stdout=output, stderr=output, cwd="/", check=False
             )
             if done.returncode:
-                said.seek(0)
-                raise RuntimeError(f"{name}: {said.read()}")
+                output.seek(0)
+                raise RuntimeError(f"{name}: {output.read()}")
 
     def start(self) -> None:
         """Start it, and wait until it answers.
@@ -138,20 +140,20 @@ class Server:
         self._started = True
 
     def _start(self) -> None:
-        words = {
+        settings = {
             "listen_addresses": "127.0.0.1",
             "port": str(self.port),
             "unix_socket_directories": str(self.folder),
         } | self._settings
-        told = " ".join(f"-c {name}={value}" for name, value in words.items())
+        options = " ".join(f"-c {name}={value}" for name, value in settings.items())
         places = ["-D", str(self.folder / "data"), "-l", str(self.folder / "output")]
-        self.run("pg_ctl", *places, "-o", told, "-w", "-t", "180", "start")
+        self.run("pg_ctl", *places, "-o", options, "-w", "-t", "180", "start")
 
     def stop(self, mode: str = "immediate") -> None:
         """Stop it: `fast`, or `immediate` as if its machine had failed."""
         if (self.folder / "data" / "postmaster.pid").exists():
-            place = str(self.folder / "data")
-            self.run("pg_ctl", "-D", place, "-m", mode, "-w", "-t", "180", "stop")
+            data = str(self.folder / "data")
+            self.run("pg_ctl", "-D", data, "-m", mode, "-w", "-t", "180", "stop")
 
     def url(self, database: str, user: str = "owner", port: int | None = None) -> str:
         """Return the address of a database."""

@@ -44,7 +44,7 @@ from server import Server, serving
 from service_worker import texts
 from serving import HERE, Served, environment
 from witness import Witness, witness_at
-from world import Eye, expected
+from world import OutsideReader, expected
 
 NAMES = ("chain", "trip", "must", "late")
 LEASE = 1.0
@@ -60,9 +60,9 @@ class Callers:
     def __init__(
         self, services: list[Served], socket: pathlib.Path, sagas: int, count: int, most: float
     ) -> None:
-        self.services, self.eye, self.witness = (
+        self.services, self.reader, self.witness = (
             services,
-            Eye(services[0].store),
+            OutsideReader(services[0].store),
             Witness(str(socket)),
         )
         self.left, self.lock = list(range(sagas)), threading.Lock()
@@ -123,26 +123,26 @@ class Callers:
         if answer.status_code not in (200, 201):
             self.faults.append(f"{key}: {answer.status_code} {answer.text}")
             return
-        note(what="started", key=key, there=self.eye.phase(key)[0])
+        note(what="started", key=key, there=self.reader.phase(key)[0])
         is_late = number % 5 == 3 and self._is_unknown(clients, key)
         if (number % 17 == 0 or is_late) and self._ask(
             clients,
             lambda client: client.post(f"/v1/sagas/{key}/abort", json={"note": "for a try"}),
         ).json()["aborted"]:
-            note(what="aborted", key=key, there=self.eye.aborts(key))
+            note(what="aborted", key=key, there=self.reader.aborts(key))
         end: dict[str, Any] = {"over": False}
         while not end["over"]:
             end = self._ask(
                 clients, lambda client: client.get(f"/v1/sagas/{key}/wait?seconds=5")
             ).json()
-        told = {
+        end_note = {
             "phase": end["phase"],
             "states": end["states"],
             "results": end["results"],
             "cost": (end["plan"] or {}).get("cost"),
             "aborted": end["aborted"],
         }
-        note(what="over", key=key, there=self.eye.phase(key)[1], **told)
+        note(what="over", key=key, there=self.reader.phase(key)[1], **end_note)
 
     def _is_unknown(self, clients: list[httpx.Client], key: str) -> bool:
         """Wait for an unknown outcome, and return whether one occurs before the saga's end.
@@ -162,7 +162,7 @@ class Callers:
             while not self.over.is_set():
                 with contextlib.suppress(httpx.HTTPError):
                     clients.append(clients.pop(0))
-                    for key in self.eye.asked():
+                    for key in self.reader.awaiting_approval():
                         value = expected(key, "approve")
                         if (
                             clients[0]
@@ -171,7 +171,7 @@ class Callers:
                             == 200
                         ):
                             self.witness.note(
-                                what="finished", key=key, there=self.eye.finished(key, value)
+                                what="finished", key=key, there=self.reader.finished(key, value)
                             )
                 self.over.wait(0.1)
 
@@ -205,7 +205,7 @@ class Round:
 
     def _service(self, name: str, url: str) -> Served:
         (self.folder / name).mkdir()
-        words = [
+        options = [
             "--node",
             name,
             "--lease",
@@ -213,28 +213,28 @@ class Round:
             "--record",
             str(self.folder / name / "record"),
         ]
-        return Served(self.folder / name, texts(), *words, store=url)
+        return Served(self.folder / name, texts(), *options, store=url)
 
-    def _worker(self, place: int) -> subprocess.Popen[bytes]:
-        service = self.services[place % len(self.services)]
-        language = place % (1 + len(self.others))
+    def _worker(self, index: int) -> subprocess.Popen[bytes]:
+        service = self.services[index % len(self.services)]
+        language = index % (1 + len(self.others))
         if language:
             with open(self.folder / "worker-errors", "ab") as errors:
                 return service_actor.worker(
                     self.others[language - 1], service.url, self.folder / "actor", LEASE, errors
                 )
-        words = [
+        command = [
             sys.executable,
             str(HERE / "service_worker.py"),
             service.url,
             service.store,
             str(self.folder / "socket"),
         ]
-        words += [str(service.folder / "definitions"), "--lease", str(LEASE)]
+        command += [str(service.folder / "definitions"), "--lease", str(LEASE)]
         path = f"{HERE.parent / 'src'}{os.pathsep}{HERE}"
         with open(self.folder / "worker-errors", "ab") as errors:
             return subprocess.Popen(
-                words,
+                command,
                 env=environment() | {"PYTHONPATH": path},
                 stdout=subprocess.DEVNULL,
                 stderr=errors,
@@ -260,7 +260,7 @@ class Round:
                 self.services, self.folder / "socket", self.sagas, self.callers, self.most
             )
             try:
-                self.workers = [self._worker(place) for place in range(self.count)]
+                self.workers = [self._worker(index) for index in range(self.count)]
                 callers.start()
                 while callers.busy and sum(self.kills.values()) < self.strikes:
                     time.sleep(self.draw.uniform(0.05, 0.8))
@@ -290,7 +290,7 @@ class Round:
             *(["the service stands still"] if self.url else []),
         ]
         what = self.draw.choice(kinds)
-        place = self.draw.randrange(self.count)
+        index = self.draw.randrange(self.count)
         service = self.draw.choice(self.services)
         if what == "the service":
             service.kill()
@@ -302,11 +302,11 @@ class Round:
             assert service.process
             self._stand_still(service.process, NODE_LEASE)
         elif what == "a worker":
-            self.workers[place].kill()
-            self.workers[place].wait()
-            self.workers[place] = self._worker(place)
+            self.workers[index].kill()
+            self.workers[index].wait()
+            self.workers[index] = self._worker(index)
         else:
-            self._stand_still(self.workers[place], LEASE)
+            self._stand_still(self.workers[index], LEASE)
         self.kills[what] += 1
 
     def _stand_still(self, process: subprocess.Popen[bytes], lease: float) -> None:
@@ -359,28 +359,28 @@ def main() -> int:
     parser.add_argument("--callers", type=int, default=20)
     parser.add_argument("--strikes", type=int, default=40)
     parser.add_argument("--seed", type=int, default=random.randrange(10**6))
-    words = parser.parse_args()
+    options = parser.parse_args()
     kills: Counter[str] = Counter()
     figures: Counter[str] = Counter()
     bad, began = 0, time.monotonic()
     with contextlib.ExitStack() as stack:
         server = (
-            stack.enter_context(serving({"fsync": "on"})) if words.store == "postgresql" else None
+            stack.enter_context(serving({"fsync": "on"})) if options.store == "postgresql" else None
         )
         made = stack.enter_context(commands())
         others = (
             [made(one) for one in languages() if one != "python"]
-            if words.workers == "mixed"
+            if options.workers == "mixed"
             else []
         )
-        workers = 10 if others else int(words.workers)
-        for number in range(words.rounds):
+        workers = 10 if others else int(options.workers)
+        for number in range(options.rounds):
             verdict, struck, folder = play(
-                words.seed + number,
-                words.sagas,
+                options.seed + number,
+                options.sagas,
                 workers,
-                words.callers,
-                words.strikes,
+                options.callers,
+                options.strikes,
                 most=900,
                 server=server,
                 others=others,
@@ -389,12 +389,12 @@ def main() -> int:
             figures += verdict.figures
             bad += bool(verdict.faults)
             for fault in verdict.faults[:5]:
-                print(f"{words.seed + number} {folder}: {fault}")
+                print(f"{options.seed + number} {folder}: {fault}")
             print(
-                f"{number + 1} of {words.rounds} rounds, {sum(kills.values())} strikes, {bad} bad",
+                f"{number + 1} of {options.rounds} rounds, {sum(kills.values())} strikes, {bad} bad",
                 flush=True,
             )
-    print(f"seed {words.seed}, {time.monotonic() - began:.0f} s")
+    print(f"seed {options.seed}, {time.monotonic() - began:.0f} s")
     for title, counted in (("strikes", kills), ("figures", figures)):
         print(
             f"{title}: " + ", ".join(f"{name} {number}" for name, number in sorted(counted.items()))

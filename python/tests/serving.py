@@ -116,10 +116,10 @@ class Served:
         self,
         folder: pathlib.Path,
         files: dict[str, str] = DEFINITIONS,
-        *words: str,
+        *arguments: str,
         store: str | None = None,
     ) -> None:
-        self.folder, self.words, self.address = folder, words, f"{host()}:0"
+        self.folder, self.arguments, self.address = folder, arguments, f"{host()}:0"
         self.store, self.errors = store or str(folder / "store.db"), folder / "errors"
         self.process: subprocess.Popen[bytes] | None = None
         (folder / "definitions").mkdir(exist_ok=True)
@@ -141,7 +141,7 @@ class Served:
             str(self.folder / "definitions"),
             "--listen",
             self.address,
-            *self.words,
+            *self.arguments,
         ]
 
     def start(self) -> None:
@@ -186,32 +186,35 @@ class Served:
         self.process.stdout.close()
         self.process = None
 
-    def client(self, token: str | None = None, **words: Any) -> httpx.Client:
+    def client(self, token: str | None = None, **options: Any) -> httpx.Client:
         """Return a client of it, which follows no proxy settings."""
         headers = {"Authorization": f"Bearer {token}"} if token else {}
         # each response is as the OpenAPI document defines it
         hooks = {"response": [contract.check]}
-        words = {"verify": False} | words  # it speaks no TLS, so no certificates need be read
+        options = {"verify": False} | options  # it speaks no TLS, so no certificates need be read
         return httpx.Client(
             base_url=self.url,
             timeout=LONG,
             trust_env=False,
             headers=headers,
             event_hooks=hooks,
-            **words,
+            **options,
         )
 
-    def told(self) -> str:
+    def log_text(self) -> str:
         """Return its log output."""
         return self.errors.read_text(errors="replace")
 
 
 @contextmanager
 def served(
-    folder: pathlib.Path, files: dict[str, str] = DEFINITIONS, *words: str, store: str | None = None
+    folder: pathlib.Path,
+    files: dict[str, str] = DEFINITIONS,
+    *arguments: str,
+    store: str | None = None,
 ) -> Iterator[Served]:
     """Run a service until the block ends."""
-    one = Served(folder, files, *words, store=store)
+    one = Served(folder, files, *arguments, store=store)
     one.start()
     try:
         yield one
@@ -219,17 +222,15 @@ def served(
         one.kill()
 
 
-def command(*words: str) -> subprocess.CompletedProcess[str]:
-    """Return a function that runs `sagas ARGUMENTS` in this process, and returns its status and
-    output.
-    """
+def command(*arguments: str) -> subprocess.CompletedProcess[str]:
+    """Run `sagas ARGUMENTS` in this process; return its status and output."""
     out, errors = io.StringIO(), io.StringIO()
     with contextlib.redirect_stdout(out), contextlib.redirect_stderr(errors):
         try:
-            status = main([*words])
+            status = main([*arguments])
         except SystemExit as ended:  # as `argparse` refuses arguments
             status = int(str(ended.code))
-    return subprocess.CompletedProcess(words, status, out.getvalue(), errors.getvalue())
+    return subprocess.CompletedProcess(arguments, status, out.getvalue(), errors.getvalue())
 
 
 def token(folder: pathlib.Path, name: str, *roles: str) -> str:
@@ -248,14 +249,14 @@ def take(
         json={"steps": steps, "wait": wait, "lease": lease, "limit": most, "worker": "w"},
     )
     assert answer.status_code == 200, answer.text
-    found: list[dict[str, Any]] = answer.json()["tasks"]
-    return found
+    tasks: list[dict[str, Any]] = answer.json()["tasks"]
+    return tasks
 
 
 def error_of(answer: httpx.Response) -> str:
     """Return the name of a response's problem."""
-    told: dict[str, Any] = answer.json()
-    return str(told["type"]).rpartition(":")[2]
+    problem: dict[str, Any] = answer.json()
+    return str(problem["type"]).rpartition(":")[2]
 
 
 def report(

@@ -203,15 +203,15 @@ def wanted(number: int) -> Order:
     """Return the order of this number: 0 to 6 parcels, of some of which one cannot be sent."""
     count, is_bad = number % 7, number % 3 == 2
     parcels = [
-        Parcel("nowhere" if is_bad and place == count // 2 else f"t{place}", place * 4, 0.003)
-        for place in range(count)
+        Parcel("nowhere" if is_bad and index == count // 2 else f"t{index}", index * 4, 0.003)
+        for index in range(count)
     ]
     return Order(parcels, number % 2 == 1, number)
 
 
-def parcels(count: int, bad: int | None = None, value: Any = lambda place: place) -> Order:
+def parcels(count: int, bad: int | None = None, value: Any = lambda index: index) -> Order:
     """Return an order of `count` parcels, of which one cannot be sent."""
     made = (
-        Parcel("nowhere" if place == bad else f"t{place}", value(place)) for place in range(count)
+        Parcel("nowhere" if index == bad else f"t{index}", value(index)) for index in range(count)
     )
     return Order([*made])

@@ -49,12 +49,12 @@ def commit(first: int, text: str = "a\nb\n", shard: int = SHARD, epoch: int = 1)
 @pytest.fixture
 def record(tmp_path: pathlib.Path) -> Iterator[RecordFile]:
     """Return a record in which a shard without events was taken over."""
-    found = RecordFile(str(tmp_path / "record"), "run")
-    found.open()
-    found.moved(LINE)
-    found.took((SHARD, 1, LINE), 0, "")
-    yield found
-    found.close()
+    file = RecordFile(str(tmp_path / "record"), "run")
+    file.open()
+    file.moved(LINE)
+    file.took((SHARD, 1, LINE), 0, "")
+    yield file
+    file.close()
 
 
 def noted(record: RecordFile) -> list[str]:
@@ -65,8 +65,8 @@ def noted(record: RecordFile) -> list[str]:
 
 def written(record: RecordFile) -> list[str]:
     """Return the lines that are in the file."""
-    words = [line.split(" ") for line in pathlib.Path(record.path).read_text().splitlines()]
-    return [" ".join([one[0], *one[5:]]) for one in words if one[0] != "sagas-record"]
+    fields = [line.split(" ") for line in pathlib.Path(record.path).read_text().splitlines()]
+    return [" ".join([one[0], *one[5:]]) for one in fields if one[0] != "sagas-record"]
 
 
 def digest(text: str) -> int:
@@ -139,7 +139,7 @@ def test_another_server_takes_over_while_a_commit_is_sent(record: RecordFile) ->
     record.told((record.session(SHARD, 1), 2), "call")
     record.close()
     lines = [line.split(" ") for line in pathlib.Path(record.path).read_text().splitlines()[1:]]
-    assert [(words[0], words[4]) for words in lines] == [
+    assert [(fields[0], fields[4]) for fields in lines] == [
         ("took", LINE),
         ("sent", LINE),
         ("heard", LINE),
@@ -164,8 +164,8 @@ def test_a_shard_that_begins(record: RecordFile, early: bool) -> None:
     two = commit(2, shard=8)
     record.commit = two
     record.heard(two, {8})
-    told, heard = "told 2 call", "heard 2"
-    order = [told, heard] if early else [heard, told]
+    acknowledged, heard = "told 2 call", "heard 2"
+    order = [acknowledged, heard] if early else [heard, acknowledged]
     assert noted(record) == ["took 0 0", "took 0 0", FIRST, *order, SECOND, "heard 4"]
 
 
@@ -181,7 +181,7 @@ def test_lines_are_in_order(tmp_path: pathlib.Path) -> None:
         record.open()
         record.moved(LINE)
         expected: dict[int, list[str]] = {1: [], 2: []}
-        heads, texts, told = {1: 0, 2: 0}, {1: "", 2: ""}, dict[tuple[int, str], int]()
+        heads, texts, newest = {1: 0, 2: 0}, {1: "", 2: ""}, dict[tuple[int, str], int]()
         for shard, lines in expected.items():
             record.took((shard, 1, LINE), 0, "")
             lines.append("took 0 0")
@@ -192,9 +192,9 @@ def test_lines_are_in_order(tmp_path: pathlib.Path) -> None:
                 early = chance.random() < 0.1
                 events = chance.randint(0, heads[shard]) + 5 * early
                 record.told((record.session(shard, 1), events), edge)
-                if told.get((shard, edge), -1) < events:
-                    is_most = events > max([told.get((shard, one), -1) for one in EDGES])
-                    told[shard, edge] = events
+                if newest.get((shard, edge), -1) < events:
+                    is_most = events > max([newest.get((shard, one), -1) for one in EDGES])
+                    newest[shard, edge] = events
                     expected[shard].append(f"told {events} {edge}")
                     if is_most:
                         has = pathlib.Path(record.path).read_text().splitlines()
@@ -219,28 +219,30 @@ def test_lines_are_in_order(tmp_path: pathlib.Path) -> None:
                 under_way = None
         record.close()
         for shard, lines in expected.items():
-            words = [one.split(" ") for one in pathlib.Path(record.path).read_text().splitlines()]
-            found = [" ".join([one[0], *one[5:]]) for one in words if one[2] == str(shard)]
-            assert settled(found) == settled(lines), f"seed {seed}, shard {shard}"
+            fields = [one.split(" ") for one in pathlib.Path(record.path).read_text().splitlines()]
+            shard_lines = [" ".join([one[0], *one[5:]]) for one in fields if one[2] == str(shard)]
+            assert in_canonical_order(shard_lines) == in_canonical_order(
+                lines
+            ), f"seed {seed}, shard {shard}"
 
 
-def settled(lines: Sequence[str]) -> list[str]:
+def in_canonical_order(lines: Sequence[str]) -> list[str]:
     """Return the lines, with each such acknowledgement moved before the commit that it follows."""
-    found, heard = list[str](), 0
+    ordered, heard = list[str](), 0
     for line in lines:
-        what, *words = line.split(" ")
-        heard = int(words[0]) if what == "heard" else heard
-        place = len(found)
-        if what == "told" and int(words[0]) <= heard:
-            while found[place - 1].startswith(("sent", "told")) and _is_behind(found, place):
-                place -= 1
-        found.insert(place, line)
-    return found
+        what, *fields = line.split(" ")
+        heard = int(fields[0]) if what == "heard" else heard
+        index = len(ordered)
+        if what == "told" and int(fields[0]) <= heard:
+            while ordered[index - 1].startswith(("sent", "told")) and _is_behind(ordered, index):
+                index -= 1
+        ordered.insert(index, line)
+    return ordered
 
 
-def _is_behind(found: Sequence[str], place: int) -> bool:
+def _is_behind(lines: Sequence[str], index: int) -> bool:
     """Return whether a commit is between that index and the last reply."""
-    for line in reversed(found[:place]):
+    for line in reversed(lines[:index]):
         if line.startswith("sent"):
             return True
         if not line.startswith("told"):
@@ -251,7 +253,7 @@ def _is_behind(found: Sequence[str], place: int) -> bool:
 # -- the commits that acknowledgements depend on
 
 
-def shelf() -> Shelf:
+def definitions() -> Shelf:
     saga = sagas.Saga("one")
     saga.step(name="a")(lambda task: None)
     return Shelf([saga])
@@ -259,7 +261,7 @@ def shelf() -> Shelf:
 
 def begun(acknowledgements: Acknowledgements) -> tuple[ShardDriver, Attempt]:
     """Return a shard with the first attempt of a saga, whose commit is done."""
-    kinds = shelf().kinds
+    kinds = definitions().kinds
     shard = ShardDriver.created(ShardIdentity(SHARD, "name", ShardDefinitions(kinds)), LINE)
     shard.to(ShardState.STARTING)
     shard.to(ShardState.ACTIVE)
@@ -282,8 +284,8 @@ def recovered(shard: ShardDriver, busy: Sequence[tuple[int, str, int]]) -> recov
     loaded = Loaded("line\n", 1, 1, rows, [], [], 2, LINE, 1)
     shard.loaded(loaded)
     known = {saga.key: saga for saga in shard.sagas.values()}
-    told = [{"saga": 0, "step": one, "task": word, "attempt": at} for one, word, at in busy]
-    return recovery.recover(loaded, [json.dumps({"busy": told})], 0.0, shard, known)
+    busy_tasks = [{"saga": 0, "step": one, "task": word, "attempt": at} for one, word, at in busy]
+    return recovery.recover(loaded, [json.dumps({"busy": busy_tasks})], 0.0, shard, known)
 
 
 def test_an_attempt_that_the_store_does_not_have_rests_on_nothing(record: RecordFile) -> None:
@@ -295,11 +297,11 @@ def test_an_attempt_that_the_store_does_not_have_rests_on_nothing(record: Record
     acknowledgements = Acknowledgements(record)
     shard, attempt = begun(acknowledgements)
     acknowledgements.called(attempt)
-    acknowledgements.recovered(found := recovered(shard, [(0, "run", 1)]))
-    assert found.resumed == [attempt] and found.restored == [attempt.instance]
+    acknowledgements.recovered(recovery_result := recovered(shard, [(0, "run", 1)]))
+    assert recovery_result.resumed == [attempt] and recovery_result.restored == [attempt.instance]
     acknowledgements.called(attempt)
-    acknowledgements.recovered(found := recovered(shard, []))
-    assert found.forgotten == [attempt] and found.restored == [attempt.instance]
+    acknowledgements.recovered(recovery_result := recovered(shard, []))
+    assert recovery_result.forgotten == [attempt] and recovery_result.restored == [attempt.instance]
     assert attempt.instance.rest and attempt.rest is None
     acknowledgements.called(attempt)
     assert [line for line in noted(record) if line.startswith("told")] == [
@@ -321,8 +323,8 @@ def test_what_is_not_in_the_store_rests_on_nothing(record: RecordFile) -> None:
     acknowledgements.started(saga)
     acknowledgements.ended(saga)
     acknowledgements.replied(saga)
-    acknowledgements.started(SagaInstance("other", "{}", shelf().kinds[0], 0))
-    acknowledgements.ended(SagaInstance("other", "{}", shelf().kinds[0], 0))
+    acknowledgements.started(SagaInstance("other", "{}", definitions().kinds[0], 0))
+    acknowledgements.ended(SagaInstance("other", "{}", definitions().kinds[0], 0))
     assert noted(record) == ["took 0 0"]
 
 

@@ -14,10 +14,10 @@ CHANGES = re.compile(r"\b(INSERT INTO|UPDATE (?!SET\b|OF\b)|DELETE FROM|pg_notif
 
 def statements(body: list[ast.stmt], owner: str) -> list[str]:
     """Return the names of a module that have such a statement."""
-    found: list[str] = []
+    names_found: list[str] = []
     for node in body:
         if isinstance(node, ast.ClassDef):
-            found += statements(node.body, f"{owner}.{node.name}")
+            names_found += statements(node.body, f"{owner}.{node.name}")
             continue
         if isinstance(node, (ast.FunctionDef, ast.AsyncFunctionDef)):
             names = [node.name]
@@ -32,19 +32,19 @@ def statements(body: list[ast.stmt], owner: str) -> list[str]:
             one.value for one in within if isinstance(one, ast.Constant) and id(one) not in prose
         ]
         if any(isinstance(text, str) and CHANGES.search(text) for text in texts):
-            found += [f"{owner}.{name}" for name in names]
-    return found
+            names_found += [f"{owner}.{name}" for name in names]
+    return names_found
 
 
 def test_each_statement_that_changes_rows_has_its_fence() -> None:
     """The page names each statement on PostgreSQL, and none that was removed."""
     page = (FOLDER / "statements.md").read_text(encoding="utf-8")
-    found: set[str] = set()
+    stated: set[str] = set()
     for path in package_map.SRC.rglob("*.py"):
         if "sqlite" not in path.parts:
-            found |= {*statements(ast.parse(path.read_text(encoding="utf-8")).body, path.stem)}
+            stated |= {*statements(ast.parse(path.read_text(encoding="utf-8")).body, path.stem)}
     rows = "\n".join(line for line in page.splitlines() if line.startswith("| `"))
-    assert found == {name for name in re.findall(r"`([\w.]+)`", rows) if "." in name}
+    assert stated == {name for name in re.findall(r"`([\w.]+)`", rows) if "." in name}
 
 
 def test_the_map_is_the_tree() -> None:

@@ -63,9 +63,9 @@ WANTED: list[Entry] = [
 ]
 
 
-def told(found: list[sagas.Attention]) -> list[Entry]:
+def entries_of(items: list[sagas.Attention]) -> list[Entry]:
     """Return items without their time."""
-    return [(one.key, one.saga, one.why, one.step, one.undo, one.detail) for one in found]
+    return [(one.key, one.saga, one.why, one.step, one.undo, one.detail) for one in items]
 
 
 async def fill(store: sagas.Store, kinds: list[sagas.Saga]) -> None:
@@ -80,7 +80,7 @@ async def fill(store: sagas.Store, kinds: list[sagas.Saga]) -> None:
 
 
 def test_what_needs_a_person(
-    place: str, capsys: pytest.CaptureFixture[str], caplog: pytest.LogCaptureFixture
+    location: str, capsys: pytest.CaptureFixture[str], caplog: pytest.LogCaptureFixture
 ) -> None:
     """The program, an operator's command and the service's first page have the same list.
 
@@ -90,10 +90,10 @@ def test_what_needs_a_person(
 
     async def main() -> None:
         events: list[sagas.Event] = []
-        async with sagas.open(place, kinds, on_event=events.append) as store:
+        async with sagas.open(location, kinds, on_event=events.append) as store:
             await fill(store, kinds)
-            assert told(await store.attention()) == WANTED
-            assert told(await store.attention(limit=1)) == WANTED[:1]
+            assert entries_of(await store.attention()) == WANTED
+            assert entries_of(await store.attention(limit=1)) == WANTED[:1]
             with pytest.raises(ValueError, match="limit=0"):
                 await store.attention(limit=0)
             (failed,) = [one for one in events if one.name == "saga_undo_failed"]
@@ -102,7 +102,7 @@ def test_what_needs_a_person(
             )
             looks = StoreReader(store.reader())
             try:
-                assert told(looks.ask(lists.attention())) == WANTED
+                assert entries_of(looks.ask(lists.attention())) == WANTED
                 assert looks.ask(lists.asked()) == {
                     "stuck": 1,
                     "undo_failed": 1,
@@ -120,15 +120,15 @@ def test_what_needs_a_person(
         run(main())
     assert "saga_undo_failed key=gone saga=shop" in caplog.text
     capsys.readouterr()
-    assert store_command.main([place, "attention", "--json"]) == 0
+    assert store_command.main([location, "attention", "--json"]) == 0
     shown = json.loads(capsys.readouterr().out)
     assert [tuple(one.values())[:6] for one in shown] == WANTED
-    assert store_command.main([place, "attention"]) == 0
+    assert store_command.main([location, "attention"]) == 0
     assert "gone     shop  undo failed      take (undo)" in capsys.readouterr().out
 
 
-async def by_store(place: str, kinds: list[sagas.Saga]) -> None:
-    async with sagas.open(place, kinds) as store:
+async def by_store(location: str, kinds: list[sagas.Saga]) -> None:
+    async with sagas.open(location, kinds) as store:
         await store.resolve("gone", "paid back", by="ann")
         await store.resolve("gone", "paid back")
         with pytest.raises(sagas.StepNotWaiting, match="'gone' .* The first note stays"):
@@ -139,15 +139,15 @@ async def by_store(place: str, kinds: list[sagas.Saga]) -> None:
             await store.resolve("well-undone", "x")
 
 
-async def by_command(place: str, kinds: list[sagas.Saga]) -> None:
+async def by_command(location: str, kinds: list[sagas.Saga]) -> None:
     for note, status in (("paid back", 0), ("again", 1), ("paid back", 0)):
-        assert store_command.main([place, "resolve", "gone", "--note", note]) == status
-    assert store_command.main([place, "resolve", "well-undone", "--note", "x"]) == 1
+        assert store_command.main([location, "resolve", "gone", "--note", note]) == status
+    assert store_command.main([location, "resolve", "well-undone", "--note", "x"]) == 1
 
 
-async def by_client(place: str, kinds: list[sagas.Saga]) -> None:
-    async with sagas.Client(place) as client:
-        assert told(await client.attention()) == WANTED
+async def by_client(location: str, kinds: list[sagas.Saga]) -> None:
+    async with sagas.Client(location) as client:
+        assert entries_of(await client.attention()) == WANTED
         await client.resolve("gone", "paid back", by="ann")
         await client.resolve("gone", "paid back")
         with pytest.raises(sagas.StepNotWaiting, match="'gone' .* The first note stays"):
@@ -160,15 +160,15 @@ async def by_client(place: str, kinds: list[sagas.Saga]) -> None:
             await client.resolve("nobody", "x")
 
 
-def by_plain_client(place: str) -> None:
-    with sagas.SyncClient(place) as client:
-        assert told(client.attention(limit=2)) == WANTED[:2]
+def by_plain_client(location: str) -> None:
+    with sagas.SyncClient(location) as client:
+        assert entries_of(client.attention(limit=2)) == WANTED[:2]
         client.resolve("gone", "paid back")
 
 
-def by_plain_store(place: str, kinds: list[sagas.Saga]) -> None:
-    with sagas.open_sync(place, kinds) as store:
-        assert told(store.attention()) == WANTED
+def by_plain_store(location: str, kinds: list[sagas.Saga]) -> None:
+    with sagas.open_sync(location, kinds) as store:
+        assert entries_of(store.attention()) == WANTED
         store.resolve("gone", "paid back")
 
 
@@ -179,9 +179,9 @@ EVERYBODY = [
 ]
 
 
-@pytest.mark.parametrize(("place", "who"), EVERYBODY, indirect=["place"])
+@pytest.mark.parametrize(("location", "who"), EVERYBODY, indirect=["location"])
 def test_one_whose_compensation_failed_is_resolved(
-    place: str, who: Any, capsys: pytest.CaptureFixture[str]
+    location: str, who: Any, capsys: pytest.CaptureFixture[str]
 ) -> None:
     """Any operator may resolve it: then it needs no operator, and is in the list of resolved sagas.
 
@@ -190,12 +190,12 @@ def test_one_whose_compensation_failed_is_resolved(
     kinds = [shop(), must()]
 
     async def first() -> None:
-        async with sagas.open(place, kinds) as store:
+        async with sagas.open(location, kinds) as store:
             await fill(store, kinds)
 
     async def then() -> None:
-        async with sagas.open(place, kinds) as store:
-            assert told(await store.attention()) == [WANTED[0], WANTED[2]]
+        async with sagas.open(location, kinds) as store:
+            assert entries_of(await store.attention()) == [WANTED[0], WANTED[2]]
             (one,) = await store.list(phase="resolved")
             assert (one.key, one.phase, one.note) == ("gone", "resolved", "paid back")
             assert await store.list(phase="undo_failed") == []
@@ -209,16 +209,16 @@ def test_one_whose_compensation_failed_is_resolved(
 
     run(first())
     if who is by_plain_client:
-        who(place)
+        who(location)
     elif who is by_plain_store:
-        who(place, kinds)
+        who(location, kinds)
     else:
-        run(who(place, kinds))
+        run(who(location, kinds))
     run(then())
 
-    def shell(*words: str) -> str:
+    def shell(*arguments: str) -> str:
         capsys.readouterr()
-        assert store_command.main([place, *words]) == 0
+        assert store_command.main([location, *arguments]) == 0
         return capsys.readouterr().out
 
     text = shell("show", "gone")

@@ -50,9 +50,9 @@ def shop(broker: Broker, tmp_path: pathlib.Path) -> Shop:
 
 
 @pytest.fixture
-def either(broker: Broker, tmp_path: pathlib.Path, place: str) -> Shop:
+def either(broker: Broker, tmp_path: pathlib.Path, location: str) -> Shop:
     """Return a shop over a file, and one over PostgreSQL."""
-    return shop_in(broker, tmp_path, place)
+    return shop_in(broker, tmp_path, location)
 
 
 def order(log: str, number: int = 0, attempt: int = 1, lease: int = 5) -> Order:
@@ -91,8 +91,8 @@ def test_tasks_have_names_and_late_acknowledgement(shop: Shop) -> None:
 
 def test_the_functions_are_still_functions(shop: Shop) -> None:
     """A test calls a step directly, and whole sagas run in memory, without a broker."""
-    told = sagas.testing.run(shop.trip, Trip("Rome"))
-    assert told.phase == "completed" and told.results["tour"] == {"seat": "Rome"}
+    trial = sagas.testing.run(shop.trip, Trip("Rome"))
+    assert trial.phase == "completed" and trial.results["tour"] == {"seat": "Rome"}
 
 
 def test_what_cannot_be_declared(shop: Shop, tmp_path: pathlib.Path) -> None:
@@ -104,9 +104,9 @@ def test_what_cannot_be_declared(shop: Shop, tmp_path: pathlib.Path) -> None:
             async with sagas.open(path, [saga]):
                 pass
 
-    def saga(app: Any, **words: Any) -> sagas.Saga:
+    def saga(app: Any, **options: Any) -> sagas.Saga:
         one = sagas.Saga("one")
-        one.step(name="a", queue=sagas.celery.Queue(app, "q", **words))(lambda task: None)
+        one.step(name="a", queue=sagas.celery.Queue(app, "q", **options))(lambda task: None)
         return one
 
     broker = shop.words["broker"]
@@ -187,11 +187,11 @@ async def _a_saga(shop: Shop) -> None:
         timed = await store.start(shop.trip, "timed", Trip("Rome", "never"), deadline=3600)
         assert (await timed.wait(60)).phase == "recovered"
         (summary,) = [one for one in await store.list() if one.key == "timed"]
-        told = {(call["step"], call["undo"]): call["deadline"] for call in shop.calls("timed")}
-        assert len(told) == 5 and [*told.values()] == pytest.approx(
+        deadlines = {(call["step"], call["undo"]): call["deadline"] for call in shop.calls("timed")}
+        assert len(deadlines) == 5 and [*deadlines.values()] == pytest.approx(
             [summary.deadline] * 5, abs=1e-3
         )
-        assert all(said.startswith("yes") for said in (await store.audit()).values())
+        assert all(verdict.startswith("yes") for verdict in (await store.audit()).values())
     own = {call["pid"] for call in shop.calls("good") if call["step"] == "meal"}
     assert own.isdisjoint(call["pid"] for call in shop.calls() if call["step"] != "meal")
     tours = [call for call in shop.calls("full") if call["step"] == "tour"]
@@ -485,17 +485,17 @@ def offer(store: str, token: str) -> None:
             db.execute(query, (token,))
 
 
-def test_equal_reports(either: Shop, place: str) -> None:
+def test_equal_reports(either: Shop, location: str) -> None:
     """The first one stays.
 
     Success replaces a failure and an unknown outcome. Failures count only under the newest lease,
     and no report counts under a lease that was never issued. Once the attempt is finished no report
     is taken.
     """
-    run(_equal(either, place))
+    run(_equal(either, location))
 
 
-async def _equal(shop: Shop, place: str) -> None:
+async def _equal(shop: Shop, location: str) -> None:
     orders: list[Order] = []
 
     async def held(order: Order) -> None:
@@ -503,19 +503,19 @@ async def _equal(shop: Shop, place: str) -> None:
 
     shop.queue.send = held  # type: ignore[method-assign]
     shop.slow.steps[0].run.timeout = 60.0
-    desk = desk_of(place)
+    desk = desk_of(location)
     async with shop.open(concurrency=1, shutdown_timeout=0) as store:
         going = await store.start(shop.slow, "k")
         await until(lambda: orders, 60)
         log = orders[0].log
 
         def reported(outcome: Outcome, attempt: int, lease: int = 5) -> tuple[str, str]:
-            told = order(log, 5, attempt, lease)
-            desk.report(told, outcome)
-            return row(place, told.token)
+            message = order(log, 5, attempt, lease)
+            desk.report(message, outcome)
+            return row(location, message.token)
 
         for attempt in (7, 8, 9, 10):
-            offer(place, order(log, 5, attempt).token)
+            offer(location, order(log, 5, attempt).token)
         for late in (done("a"), done("b"), failure("no"), unknown("x")):
             assert reported(late, 7) == ("succeeded", '"a"')
         assert (
@@ -536,11 +536,11 @@ async def _equal(shop: Shop, place: str) -> None:
             assert reported(late, 10, lease) == (None, None)
         assert reported(done("f"), 10, 4) == ("succeeded", '"f"')
         desk.report(order(log, 5, 11), done("g"))
-        assert row(place, order(log, 5, 11).token) is None
+        assert row(location, order(log, 5, 11).token) is None
         desk.report(orders[0], done("first"))
         assert (await going.wait()).results == {"once": "first"}
         desk.report(orders[0], done("second"))
-        assert desk.begin(orders[0]) is None and row(place, orders[0].token) == ("settled", None)
+        assert desk.begin(orders[0]) is None and row(location, orders[0].token) == ("settled", None)
         with pytest.raises(sagas.WrongStore, match="another store"):
             desk.begin(order("0" * 16))
     desk.close()
@@ -623,8 +623,8 @@ def test_steps_of_items(either: Shop, tmp_path: pathlib.Path) -> None:
             assert (await some.wait()).results["mail"] == ["ROME", "OSLO"]
             assert (await keyed.wait()).results["mail"] == ["ROME"]
             assert (await wrong.wait()).phase == "recovered"
-            told = await fair.wait()
-            assert [told.results[f"stall-{number}-mail"] for number in range(3)] == [
+            end = await fair.wait()
+            assert [end.results[f"stall-{number}-mail"] for number in range(3)] == [
                 ["BERN"],
                 [],
                 ["KIEL", "LINZ"],

@@ -36,7 +36,7 @@ def struck(
     """Check that a round has no fault."""
     seed = number + [*KINDS, NODES].index(kind)
     one = play(kind, seed, broker, SAGAS, server=server, quiet=strikes)
-    assert not one.found, f"{kind}: {one.folder}: {one.found[:5]}"
+    assert not one.problems, f"{kind}: {one.folder}: {one.problems[:5]}"
 
 
 @pytest.mark.parametrize("kind", [kind for kind in KINDS if kind not in SERVED])

@@ -24,8 +24,8 @@ READY = {"redis-server": "Ready to accept", "celery": r" ready\."}
 def blocks(language: str, page: str) -> list[str]:
     return [
         text
-        for told, text in re.findall(r"^```(\w*)\n(.*?)^```$", page, re.S | re.M)
-        if told == language
+        for block_language, text in re.findall(r"^```(\w*)\n(.*?)^```$", page, re.S | re.M)
+        if block_language == language
     ]
 
 
@@ -49,16 +49,16 @@ def test_the_page(tmp_path: pathlib.Path) -> None:
     try:
         for command, _, wanted in commands[1:]:
             if command.endswith(" &"):
-                words = command.removesuffix(" &").split()
+                arguments = command.removesuffix(" &").split()
                 running.append(
                     Program(
-                        [*words, *(["-l", "INFO"] if words[0] == "celery" else [])],
+                        [*arguments, *(["-l", "INFO"] if arguments[0] == "celery" else [])],
                         tmp_path,
                         environment,
-                        f"{words[0]}.log",
+                        f"{arguments[0]}.log",
                     )
                 )
-                running[-1].wait_for(READY[words[0]])
+                running[-1].wait_for(READY[arguments[0]])
             else:
                 done = subprocess.run(
                     ["bash", "-c", command],
@@ -79,8 +79,10 @@ def test_the_page(tmp_path: pathlib.Path) -> None:
 def environment_in(folder: pathlib.Path) -> dict[str, str]:
     """Return an environment with commands `python` and `celery` of this Python."""
     (folder / "bin").mkdir()
-    for name, words in (("python", ""), ("celery", "-m celery")):
-        (folder / "bin" / name).write_text(f'#!/bin/sh\nexec {sys.executable} {words} "$@"\n')
+    for name, module_arguments in (("python", ""), ("celery", "-m celery")):
+        (folder / "bin" / name).write_text(
+            f'#!/bin/sh\nexec {sys.executable} {module_arguments} "$@"\n'
+        )
         (folder / "bin" / name).chmod(0o755)
     return os.environ | {
         "PATH": f"{folder / 'bin'}:{os.environ['PATH']}",
@@ -104,20 +106,20 @@ def test_the_example() -> None:
         check=False,
     )
     assert done.returncode == 0, done.stderr
-    said = done.stdout.splitlines()
-    first, second = said.index("trip order-1: completed"), said.index(
+    lines = done.stdout.splitlines()
+    first, second = lines.index("trip order-1: completed"), lines.index(
         "trip order-2: recovered, plan of cost 15"
     )
-    assert said[first + 1 : second] == [
+    assert lines[first + 1 : second] == [
         "  committed flight",
         "  committed car",
         "  committed tour",
         "all went well",
     ]
-    assert said[second + 1 : second + 4] == [
+    assert lines[second + 1 : second + 4] == [
         "  committed flight",
         "  undone    car",
         "  failed    tour: RuntimeError: the tour is full",
     ]
-    worker = said[said.index("what the worker did:") + 1 :]
+    worker = lines[lines.index("what the worker did:") + 1 :]
     assert worker.count("  a car for seat 12A") == 2 and worker.count("  car 7 is given back") == 1

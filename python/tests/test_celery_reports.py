@@ -46,10 +46,10 @@ class Late:
     Its worker has the message anyway.
     """
 
-    def __init__(self, broker: Broker, place: str) -> None:
-        self.place, self.orders = place, list[Order]()
+    def __init__(self, broker: Broker, location: str) -> None:
+        self.location, self.orders = location, list[Order]()
         app = celery.Celery("late", broker=broker.url)
-        app.conf.sagas_store = place
+        app.conf.sagas_store = location
         queue = sagas.celery.Queue(app, "late", timeout=0.5)
         queue.send = self._lose  # type: ignore[method-assign]
         self.saga = sagas.Saga("late")
@@ -64,7 +64,7 @@ class Late:
     @contextlib.asynccontextmanager
     async def held(self) -> AsyncIterator[sagas.Store]:
         """Run the store, with the step held for an operator."""
-        async with sagas.open(self.place, [self.saga]) as store:
+        async with sagas.open(self.location, [self.saga]) as store:
             await store.start(self.saga, "k")
             await until(lambda: asked_of(store), 30)
             external = store._inside.external
@@ -79,12 +79,12 @@ class Late:
 
 
 @pytest.fixture
-def late(broker: Broker, place: str, monkeypatch: pytest.MonkeyPatch) -> Late:
+def late(broker: Broker, location: str, monkeypatch: pytest.MonkeyPatch) -> Late:
     """Return a late report over each database; the program is not notified of reports."""
     monkeypatch.setattr("sagas.runtime.external_queue.LOOK", 3600.0)
     monkeypatch.setattr("sagas.runtime.external_queue.LOOK_AT_FILE", 3600.0)
     monkeypatch.setattr("sagas.storage.postgresql.worker_session.TELL", "SELECT 1")
-    return Late(broker, place)
+    return Late(broker, location)
 
 
 @pytest.mark.parametrize("by", ["program", "command"])
@@ -93,18 +93,18 @@ def test_done_was_reported_before(late: Late, by: str, capsys: pytest.CaptureFix
 
     async def main() -> None:
         async with late.held() as store:
-            desk_of(late.place).report(
+            desk_of(late.location).report(
                 late.orders[0], Outcome(outcomes.SUCCEEDED, '"by the worker"')
             )
             if by == "program":
                 with pytest.raises(sagas.StepNotWaiting, match="its worker has reported"):
                     await store.fail("k", "once", "I gave up")
             else:
-                words = [late.place, "fail", "k", "once", "I gave up"]
-                assert await asyncio.to_thread(store_command.main, words) == 1
-                said = capsys.readouterr().err  # or the program has read the report by then
-                words = "its worker has reported success", "k has ended", "a different outcome"
-                assert any(word in said for word in words)
+                arguments = [late.location, "fail", "k", "once", "I gave up"]
+                assert await asyncio.to_thread(store_command.main, arguments) == 1
+                errors = capsys.readouterr().err  # or the program has read the report by then
+                arguments = "its worker has reported success", "k has ended", "a different outcome"
+                assert any(word in errors for word in arguments)
             end = await store.wait("k", 60)
             assert end.ok and end.results == {"once": "by the worker"}
 
@@ -117,7 +117,7 @@ def test_a_failure_that_was_reported_before(late: Late) -> None:
     async def main() -> None:
         async with late.held() as store:
             report = Outcome(outcomes.FAILED, '{"error": "no", "final": false, "called": true}')
-            desk_of(late.place).report(late.orders[0], report)
+            desk_of(late.location).report(late.orders[0], report)
             await store.complete("k", "once", "by hand")
             assert (await store.wait("k", 60)).results == {"once": "by hand"}
 
@@ -138,20 +138,20 @@ def test_its_transaction_is_open(inside: Late, commits: bool) -> None:
     """
 
     async def main() -> None:
-        link = await psycopg.AsyncConnection.connect(inside.place)
+        link = await psycopg.AsyncConnection.connect(inside.location)
         async with inside.held() as store, link:
             await link.execute("CREATE TABLE public.book(key text)")
             await link.commit()
             await link.execute("INSERT INTO public.book VALUES ('k')")
             assert await (await link.execute(worker_session.RECORD, inside.words)).fetchall()
-            said = asyncio.create_task(store.fail("k", "once", "I gave up"))
-            await until(lambda: blocked(inside.place) or said.done(), 30)
+            failing = asyncio.create_task(store.fail("k", "once", "I gave up"))
+            await until(lambda: blocked(inside.location) or failing.done(), 30)
             await (link.commit() if commits else link.rollback())
             if commits:
                 with pytest.raises(sagas.StepNotWaiting, match="its worker has reported"):
-                    await said
+                    await failing
             else:
-                await said
+                await failing
             end = await store.wait("k", 60)
             rows = await (await link.execute("SELECT key FROM public.book")).fetchall()
             assert end.ok is commits and rows == [("k",)] * commits
@@ -163,7 +163,7 @@ def test_the_operator_was_first(inside: Late) -> None:
     """The worker's transaction is rolled back."""
 
     async def main() -> None:
-        link = await psycopg.AsyncConnection.connect(inside.place)
+        link = await psycopg.AsyncConnection.connect(inside.location)
         async with inside.held() as store, link:
             await store.fail("k", "once", "I gave up")
             assert not (await store.wait("k", 60)).ok
@@ -185,8 +185,10 @@ def test_a_program_that_comes_back_takes_a_report(late: Late) -> None:
     async def main() -> None:
         async with late.held():
             pass
-        desk_of(late.place).report(late.orders[0], Outcome(outcomes.SUCCEEDED, '"by the worker"'))
-        async with sagas.open(late.place, [late.saga]) as store:
+        desk_of(late.location).report(
+            late.orders[0], Outcome(outcomes.SUCCEEDED, '"by the worker"')
+        )
+        async with sagas.open(late.location, [late.saga]) as store:
             assert (await store.wait("k", 60)).results == {"once": "by the worker"}
 
     run(main())
@@ -202,7 +204,7 @@ def test_a_start_that_is_not_kept(
     late, before = Late(broker, str(tmp_path / "store.db")), simple(lambda task: 1)
 
     async def main() -> None:
-        async with sagas.open(late.place, [before, late.saga]) as store:
+        async with sagas.open(late.location, [before, late.saga]) as store:
             await ended(store, before, "before")  # there is an engine
             with full():
                 with pytest.raises(sagas.StoreUnavailable):
@@ -235,27 +237,31 @@ def test_a_message_that_comes_after_its_saga_was_deleted(late: Late) -> None:
         async with late.held() as store:
             await store.complete("k", "once", "by hand")
             assert (await store.wait("k", 60)).ok
-        async with sagas.open(late.place, [late.saga, more]) as store:  # another one has its shard
+        async with sagas.open(
+            late.location, [late.saga, more]
+        ) as store:  # another one has its shard
             await ended(store, more, "more")
-            await until(lambda: rows(late.place, closed), 30)
+            await until(lambda: rows(late.location, closed), 30)
 
     run(main())
-    assert retention.prune(late.place, -3600.0).sagas == 1
+    assert retention.prune(late.location, -3600.0).sagas == 1
     with pytest.raises(sagas.WrongStore, match="saga 'k' .* late: the saga was deleted"):
-        desk_of(late.place).begin(late.orders[0])
+        desk_of(late.location).begin(late.orders[0])
 
 
 class Here:
     """A step whose messages come to a worker in this process, in its own thread."""
 
-    def __init__(self, broker: Broker, place: str, function: Callable[[Task], Any], **words: Any):
-        self.place, self.orders = place, list[Order]()
+    def __init__(
+        self, broker: Broker, location: str, function: Callable[[Task], Any], **options: Any
+    ):
+        self.location, self.orders = location, list[Order]()
         app = celery.Celery("here", broker=broker.url)
-        app.conf.sagas_store = place
+        app.conf.sagas_store = location
         self.queue = sagas.celery.Queue(app, "here", patience=30)
         self.queue.send = self._send  # type: ignore[method-assign]
         self.saga = sagas.Saga("here")
-        self.saga.step(name="once", queue=self.queue, **words)(function)
+        self.saga.step(name="once", queue=self.queue, **options)(function)
         self.task = app.tasks["sagas.here.once.run"]
         self.thread = ThreadPoolExecutor(1)
         self.is_there = True
@@ -269,7 +275,7 @@ class Here:
         """Return a message that no worker takes while the store is open."""
 
         async def main() -> None:
-            async with sagas.open(self.place, [self.saga], shutdown_timeout=0) as store:
+            async with sagas.open(self.location, [self.saga], shutdown_timeout=0) as store:
                 await store.start(self.saga, "k")
                 await until(lambda: self.orders, 30)
 
@@ -343,8 +349,8 @@ class Soft:
     Celery raises its soft limit, and the store is available again.
     """
 
-    def __init__(self, place: str) -> None:
-        self.link = sqlite3.connect(place, isolation_level=None)
+    def __init__(self, location: str) -> None:
+        self.link = sqlite3.connect(location, isolation_level=None)
 
     def lock(self, whom: str) -> None:
         """Lock the store for writers, or also for readers."""

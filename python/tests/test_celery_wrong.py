@@ -46,7 +46,7 @@ def test_in_a_run(broker: Broker, name: str | None) -> None:
     one = play("none", 1, broker, SAGAS, quiet=0, most=60, wrong=name or "")
     if one.folder is not None:
         shutil.rmtree(one.folder)
-    assert (OF[name].FINDS in one.verdict.names) if name else not one.found, one.found[:5]
+    assert (OF[name].FINDS in one.verdict.names) if name else not one.problems, one.problems[:5]
 
 
 def messages(broker: Broker, shop: Shop) -> int:
@@ -80,7 +80,7 @@ def test_while_the_function_runs(broker: Broker, tmp_path: pathlib.Path, name: s
     Celery's own tools show the attempt by its token.
     """
     shop = shop_in(broker, tmp_path)
-    found: set[str] = set()
+    faults: set[str] = set()
 
     async def look() -> None:
         async with shop.open() as store:
@@ -89,11 +89,11 @@ def test_while_the_function_runs(broker: Broker, tmp_path: pathlib.Path, name: s
             if name:  # the acknowledgement is in transit
                 await until(lambda: not messages(broker, shop), 30)
             if not messages(broker, shop):
-                found.add("acknowledged-early")
+                faults.add("acknowledged-early")
             if not name:
                 # repeats it each second, until a worker answers
-                told = await until(lambda: shop.app.control.inspect().active(), 60)
-                assert [(task["id"], task["name"]) for task in sum(told.values(), [])] == [
+                running_tasks = await until(lambda: shop.app.control.inspect().active(), 60)
+                assert [(task["id"], task["name"]) for task in sum(running_tasks.values(), [])] == [
                     (shop.calls("k")[0]["token"], "sagas.held.once.run")
                 ]
             shop.release()
@@ -101,7 +101,7 @@ def test_while_the_function_runs(broker: Broker, tmp_path: pathlib.Path, name: s
 
     with worker(shop, tmp_path, name):
         run(look())
-    assert found == ({OF[name].FINDS} if name else set())
+    assert faults == ({OF[name].FINDS} if name else set())
 
 
 @pytest.mark.parametrize("name", [name for name in NAMES if OF[name].STRIKES == "store"])

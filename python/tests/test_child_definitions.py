@@ -64,9 +64,9 @@ class World:
         parent.step(name="end", needs=[signed])(lambda task: None)
         return [parent, child]
 
-    async def started(self, place: str, known: list[sagas.Saga], key: str = "t") -> None:
+    async def started(self, location: str, known: list[sagas.Saga], key: str = "t") -> None:
         """Start one in a program that ends once the child has completed."""
-        async with sagas.open(place, known) as store:
+        async with sagas.open(location, known) as store:
             await store.start(known[0], key)
             await until(
                 lambda: [one for one in store.active_attempts(key) if one.waits == "approval"]
@@ -83,7 +83,7 @@ ONES_UNDONE = ["undo y x", "undo x"]
 
 
 @pytest.mark.parametrize("steps, lacks", [(("x2", "y"), "x"), (("x", "y-"), "y")])
-def test_a_compensation_that_is_gone(place: str, steps: tuple[str, ...], lacks: str) -> None:
+def test_a_compensation_that_is_gone(location: str, steps: tuple[str, ...], lacks: str) -> None:
     """Its step was renamed or removed, or only the compensation was.
 
     No program without it opens the file, and over PostgreSQL no node without it has the shard.
@@ -96,18 +96,20 @@ def test_a_compensation_that_is_gone(place: str, steps: tuple[str, ...], lacks: 
     )
 
     async def main() -> None:
-        await world.started(place, old)
+        await world.started(location, old)
         async with contextlib.AsyncExitStack() as stack:
-            if place.startswith("postgresql"):
-                lacking = await stack.enter_async_context(sagas.open(place, new, node="new"))
+            if location.startswith("postgresql"):
+                lacking = await stack.enter_async_context(sagas.open(location, new, node="new"))
                 assert len(lacking._inside.store.lease.left) == 1 and not lacking.active_attempts("t")  # type: ignore[attr-defined]
             else:
                 with pytest.raises(sagas.MissingStep) as error:
-                    await stack.enter_async_context(sagas.open(place, new))
+                    await stack.enter_async_context(sagas.open(location, new))
                 assert why in str(error.value)
-            async with sagas.open(place, old, node="old") as store:
+            async with sagas.open(location, old, node="old") as store:
                 assert await world.failed(store) == UNDONE
-        async with sagas.open(place, new, node="new") as store:  # nothing is to be undone any more
+        async with sagas.open(
+            location, new, node="new"
+        ) as store:  # nothing is to be undone any more
             assert await store.count() == 3 and await store.attention() == []
 
     run(main())
@@ -115,7 +117,7 @@ def test_a_compensation_that_is_gone(place: str, steps: tuple[str, ...], lacks: 
 
 
 @pytest.mark.parametrize("steps", [("x", "y", "z"), ("y", "x"), ("z", "y", "x")])
-def test_other_steps_and_another_order(place: str, steps: tuple[str, ...]) -> None:
+def test_other_steps_and_another_order(location: str, steps: tuple[str, ...]) -> None:
     """A step that never ran is not undone; the others are, in the order in which they ran, with
     their results.
     """
@@ -123,8 +125,8 @@ def test_other_steps_and_another_order(place: str, steps: tuple[str, ...]) -> No
     old, new = world.parent(world.child("x", "y")), world.parent(world.child(*steps))
 
     async def main() -> None:
-        await world.started(place, old)
-        async with sagas.open(place, new) as store:
+        await world.started(location, old)
+        async with sagas.open(location, new) as store:
             assert await world.failed(store) == UNDONE
             end = await store.wait("t/:stay:undo", 60)
             assert end.states == {"y": "committed", "x": "committed"}
@@ -133,7 +135,7 @@ def test_other_steps_and_another_order(place: str, steps: tuple[str, ...]) -> No
     assert world.done == ["x", "y", *ONES_UNDONE]
 
 
-def test_the_program_changes_while_a_child_is_undone(place: str) -> None:
+def test_the_program_changes_while_a_child_is_undone(location: str) -> None:
     """The saga that undoes it continues by its own definition, and needs the functions of that
     definition.
     """
@@ -150,21 +152,21 @@ def test_the_program_changes_while_a_child_is_undone(place: str) -> None:
     )
 
     async def main() -> None:
-        await world.started(place, old)
-        async with sagas.open(place, new) as store:
+        await world.started(location, old)
+        async with sagas.open(location, new) as store:
             await store.fail("t", "sign", "no")
             await until(
                 lambda: [
                     one for one in store.active_attempts("t/:stay:undo") if one.waits == "exhausted"
                 ]
             )
-        if not place.startswith("postgresql"):
+        if not location.startswith("postgresql"):
             with pytest.raises(
                 sagas.MissingStep, match="but step 'x' has no compensation in this program"
             ):
-                await sagas.open(place, less).__aenter__()
+                await sagas.open(location, less).__aenter__()
         broken[0] = False
-        async with sagas.open(place, new) as store:
+        async with sagas.open(location, new) as store:
             await store.retry("t/:stay:undo", "x")
             assert (await store.wait("t", 60)).states == UNDONE
 
@@ -176,11 +178,11 @@ def test_who_may_undo_a_child(tmp_path: pathlib.Path) -> None:
     """A parent that never undoes it, or does so by its own function, needs none of its
     compensations. Nor does one whose version the program has twice.
     """
-    place, new = str(tmp_path / "store.db"), World()
+    location, new = str(tmp_path / "store.db"), World()
 
     async def main() -> None:
         for number, options in enumerate(({"undo": sagas.NEVER}, {}, {"undo": 3})):
-            world, at = World(), f"{place}.{number}"
+            world, at = World(), f"{location}.{number}"
             own, now = world.parent(world.child("x"), **options), new.parent(
                 new.child("x2"), **options
             )
@@ -218,19 +220,19 @@ def family(world: World, leaf: str) -> list[sagas.Saga]:
     return [*world.parent(child), below]
 
 
-def test_a_child_of_a_child(place: str, capsys: pytest.CaptureFixture[str]) -> None:
+def test_a_child_of_a_child(location: str, capsys: pytest.CaptureFixture[str]) -> None:
     """The opening checks it, too, and it is undone by its own definition.
 
     Operators see how many there are.
     """
-    world, shell = World(), Shell(place, capsys)
+    world, shell = World(), Shell(location, capsys)
     old, new, more = family(world, "x"), family(world, "x2"), family(world, "x")
     more[2].step(lambda task: None, name="z", keep=1).compensation(
         lambda task: world.done.append("undo z")
     )
 
     async def main() -> None:
-        await world.started(place, old)
+        await world.started(location, old)
         counts = [
             row.split() for row in (await asyncio.to_thread(shell, "definitions")).splitlines()
         ]
@@ -240,7 +242,7 @@ def test_a_child_of_a_child(place: str, capsys: pytest.CaptureFixture[str]) -> N
             ["child", "1", "0", "1", "1"],
             ["parent", "1", "1", "0", "1"],
         ]
-        if not place.startswith("postgresql"):
+        if not location.startswith("postgresql"):
             with pytest.raises(
                 sagas.MissingStep,
                 match=(
@@ -248,8 +250,8 @@ def test_a_child_of_a_child(place: str, capsys: pytest.CaptureFixture[str]) -> N
                     " comp"
                 ),
             ):
-                await sagas.open(place, new).__aenter__()
-        async with sagas.open(place, more) as store:
+                await sagas.open(location, new).__aenter__()
+        async with sagas.open(location, more) as store:
             assert await world.failed(store) == UNDONE
             assert sum(one.undoable for one in await store.definitions()) == 0
 
@@ -257,10 +259,10 @@ def test_a_child_of_a_child(place: str, capsys: pytest.CaptureFixture[str]) -> N
     assert world.done == ["t/:stay/:below", "undo t/:stay/:below"]
 
 
-def test_the_definitions_of_an_open_store_are_those_of_another(place: str) -> None:
+def test_the_definitions_of_an_open_store_are_those_of_another(location: str) -> None:
     """They exclude the sagas that undo their children, which the other store makes itself."""
     known = family(World(), "x")
-    store = sagas.open(place, known)
+    store = sagas.open(location, known)
     assert store.sagas == known and len(Shelf(store.sagas).sagas) == 5
 
 
@@ -283,8 +285,8 @@ def test_a_node_that_cannot_undo_a_child_leaves_it(url: str) -> None:
         return [saga, child]
 
     async def main() -> None:
-        known, told = parent(new), list[sagas.Event]()
-        async with sagas.open(url, known, node="new", on_event=told.append) as one:
+        known, events = parent(new), list[sagas.Event]()
+        async with sagas.open(url, known, node="new", on_event=events.append) as one:
             started = await one.start(known[0], "t")
             (listed,) = await one.list()
             async with sagas.open(url, parent(old), node="old") as two:
@@ -304,7 +306,7 @@ def test_a_node_that_cannot_undo_a_child_leaves_it(url: str) -> None:
             )
             async with sagas.open(url, parent(old), node="old"):
                 assert (await started.wait(60)).states["stay"] == "undone"
-        assert [one.name for one in told if one.name == "step_cannot_decode"]
+        assert [one.name for one in events if one.name == "step_cannot_decode"]
 
     run(main())
     assert world.done == ["x", "undo x"]
@@ -313,7 +315,7 @@ def test_a_node_that_cannot_undo_a_child_leaves_it(url: str) -> None:
 # -- what a definition says
 
 
-def test_a_compensation_is_in_the_definition(place: str) -> None:
+def test_a_compensation_is_in_the_definition(location: str) -> None:
     """So its removal is noticed even if a step has nothing to undo now; a definition of an older
     release does not have it.
     """
@@ -347,17 +349,17 @@ def test_a_compensation_is_in_the_definition(place: str) -> None:
     saga.steps[0].compensation(lambda task: None)
 
     async def main() -> None:
-        async with sagas.open(place, [saga]) as store:
+        async with sagas.open(location, [saga]) as store:
             await store.start(saga, "t")
             await until(
                 lambda: [one for one in store.active_attempts("t") if one.waits == "approval"]
             )
-        if not place.startswith("postgresql"):
+        if not location.startswith("postgresql"):
             with pytest.raises(
                 sagas.MissingStep,
                 match="saga 'plain' .version 1. has open sagas, but step 'x' has no compensation",
             ):
-                await sagas.open(place, [plain]).__aenter__()
+                await sagas.open(location, [plain]).__aenter__()
 
     run(main())
 
@@ -434,10 +436,10 @@ def leaf() -> list[sagas.Saga]:
     return World().parent(child)
 
 
-def opened(place: str, node: str, **words: Any) -> sagas.Store:
+def opened(location: str, node: str, **options: Any) -> sagas.Store:
     """Open a store that serves workers."""
     store = sagas.open(
-        place, leaf(), node=node if place.startswith("postgresql") else None, **words
+        location, leaf(), node=node if location.startswith("postgresql") else None, **options
     )
     store.leased = True
     return store
@@ -454,20 +456,20 @@ class Backwards:
 
 
 def test_workers_undo_a_child(
-    place: str, capsys: pytest.CaptureFixture[str], monkeypatch: pytest.MonkeyPatch
+    location: str, capsys: pytest.CaptureFixture[str], monkeypatch: pytest.MonkeyPatch
 ) -> None:
     """The worker of the child's step gets its compensation, as of the child, also by another node;
     until a worker claims it, it is listed.
     """
     monkeypatch.setattr(backlog, "UNCLAIMED", -1.0)
-    shell, codec = Shell(place, capsys), Backwards()
+    shell, codec = Shell(location, capsys), Backwards()
 
     async def main() -> None:
         async with contextlib.AsyncExitStack() as stack:
-            one = await stack.enter_async_context(opened(place, "one", codec=codec))
+            one = await stack.enter_async_context(opened(location, "one", codec=codec))
             other = (
-                await stack.enter_async_context(opened(place, "other", codec=codec))
-                if place.startswith("postgresql")
+                await stack.enter_async_context(opened(location, "other", codec=codec))
+                if location.startswith("postgresql")
                 else one
             )
             started = await one.start(one.sagas[0], "t")
@@ -487,29 +489,39 @@ def test_workers_undo_a_child(
                 and "child" in listed["t"]
             )
             (undo,) = await other.workers.claim([("leaf", "room", "undo")], wait=60, lease=60)
-            found = undo.task
-            assert (found.saga, found.key, found.step, found.is_compensation, found.attempt) == (
+            leased = undo.task
+            assert (
+                leased.saga,
+                leased.key,
+                leased.step,
+                leased.is_compensation,
+                leased.attempt,
+            ) == (
                 "leaf",
                 "t/:stay",
                 "room",
                 True,
                 1,
             )
-            assert (found.result, found.results, found.input) == (
+            assert (leased.result, leased.results, leased.input) == (
                 "R-7",
                 {"plan": {"rooms": 2}},
                 None,
             )
-            assert found.original_idempotency_key == task.task.idempotency_key
-            assert found.idempotency_key == task.task.idempotency_key.replace("-run", "-undo")
+            assert leased.original_idempotency_key == task.task.idempotency_key
+            assert leased.idempotency_key == task.task.idempotency_key.replace("-run", "-undo")
             # as a `Worker` gets it
-            told = worker_task.task_of(json_views.task(undo, one.now()), Context())
-            assert worker_task.word_of(told) == "leaf/room/undo" and (told.result, told.key) == (
-                found.result,
-                found.key,
+            received = worker_task.task_of(json_views.task(undo, one.now()), Context())
+            assert worker_task.word_of(received) == "leaf/room/undo" and (
+                received.result,
+                received.key,
+            ) == (
+                leased.result,
+                leased.key,
             )
             assert (
-                told.idempotency_key == found.idempotency_key and told.attempt_id != undo.attempt_id
+                received.idempotency_key == leased.idempotency_key
+                and received.attempt_id != undo.attempt_id
             )
             await other.workers.report(undo.attempt_id, undo.lease, result=None)
             assert (await started.wait(60)).states == UNDONE
@@ -520,10 +532,10 @@ def test_workers_undo_a_child(
 
 def test_a_task_that_an_older_release_offered(tmp_path: pathlib.Path) -> None:
     """It was offered under a name that no worker claims: it is offered again."""
-    place = str(tmp_path / "store.db")
+    location = str(tmp_path / "store.db")
 
     async def main() -> None:
-        async with opened(place, "") as store:
+        async with opened(location, "") as store:
             await store.start(store.sagas[0], "t")
             (task,) = await store.workers.claim([("leaf", "room", "run")], wait=60, lease=60)
             await store.workers.report(task.attempt_id, task.lease, result="R-7")
@@ -531,7 +543,7 @@ def test_a_task_that_an_older_release_offered(tmp_path: pathlib.Path) -> None:
             await store.fail("t", "sign", "no")
             await until(store.workers.queues)
             store._inside.store._writer._db.execute("UPDATE external_attempts SET task = 'leaf-undo/room/run' WHERE outcome IS NULL")  # type: ignore[attr-defined]
-        async with opened(place, "") as store:
+        async with opened(location, "") as store:
             (undo,) = await store.workers.claim([("leaf", "room", "undo")], wait=60, lease=60)
             await store.workers.report(undo.attempt_id, undo.lease, result=None)
             assert (await store.wait("t", 60)).states == UNDONE
@@ -544,7 +556,7 @@ def test_children_of_an_earlier_release(tmp_path: pathlib.Path, is_aborted: bool
     """A child in progress, with its own child, and a saga that undoes one keep their keys, and no
     other is started.
     """
-    place, calls = str(tmp_path / "store.db"), list[str]()
+    location, calls = str(tmp_path / "store.db"), list[str]()
     leaf, middle, top = sagas.Saga("leaf"), sagas.Saga("middle"), sagas.Saga("top")
     room = leaf.step(name="room", keep=9)(lambda task: calls.append("room"))
     room.compensation(on_exhausted="ask", external=True)
@@ -555,7 +567,7 @@ def test_children_of_an_earlier_release(tmp_path: pathlib.Path, is_aborted: bool
     known = [top, middle, leaf]
 
     async def main() -> None:
-        async with sagas.open(place, known) as store:
+        async with sagas.open(location, known) as store:
             await store.start(top, "t")
             await store.start(middle, "u")
             for key in ("u/:stay", "t/:trip/:stay"):
@@ -569,10 +581,10 @@ def test_children_of_an_earlier_release(tmp_path: pathlib.Path, is_aborted: bool
             )
             await store.fail("u", end.name, "no")
             await until(lambda: store.active_attempts("u/:stay:undo"))
-        with contextlib.closing(sqlite3.connect(place)) as link, link:
+        with contextlib.closing(sqlite3.connect(location)) as link, link:
             link.execute("UPDATE sagas SET key = replace(key, '/:', '/')")
             link.execute("UPDATE attempts SET value = replace(value, '/:', '/')")
-        store = sagas.open(place, known)
+        store = sagas.open(location, known)
         store.leased = True
         async with store:
             if is_aborted:
@@ -602,7 +614,7 @@ def test_children_of_an_earlier_release(tmp_path: pathlib.Path, is_aborted: bool
 # -- many children, and children that do not complete
 
 
-def test_children_of_items(place: str) -> None:
+def test_children_of_items(location: str) -> None:
     """Each item has its own child, which is undone with its own key and input."""
     world, group, top = World(), sagas.Saga("group"), sagas.Saga("top")
     child = sagas.Saga("child")
@@ -621,7 +633,7 @@ def test_children_of_items(place: str) -> None:
         raise sagas.Fail("no")
 
     async def main() -> None:
-        async with sagas.open(place, [top, group, child]) as store:
+        async with sagas.open(location, [top, group, child]) as store:
             states = (await (await store.start(top, "t", {"items": [5, 7]})).wait(60)).states
             assert states == {"trip-0-stay": "undone", "trip-1-stay": "undone", "end": "failed"}
 
@@ -629,7 +641,7 @@ def test_children_of_items(place: str) -> None:
     assert sorted(world.done) == ["t/:trip-0-stay 5", "t/:trip-1-stay 7"]
 
 
-def test_a_child_with_items(place: str) -> None:
+def test_a_child_with_items(location: str) -> None:
     """No saga undoes it, so the parent's own function does."""
     world, child = World(), sagas.Saga("child")
     child.step(lambda task: task.item, name="x", for_each="items", undo=0)
@@ -637,21 +649,21 @@ def test_a_child_with_items(place: str) -> None:
         sagas.DefinitionError,
         match="its steps come from its input, so its costs as a child are not known",
     ):
-        sagas.open(place, world.parent(child))
+        sagas.open(location, world.parent(child))
     known = world.parent(child, keep=9, undo=1)
     known[0].steps[0].run.function = lambda task: {"items": [5, 7]}
     known[0].steps[0].compensation(lambda task: world.done.append(task.result["results"]))
 
     async def main() -> None:
-        await world.started(place, known)
-        async with sagas.open(place, known) as store:
+        await world.started(location, known)
+        async with sagas.open(location, known) as store:
             assert await world.failed(store) == UNDONE
 
     run(main())
     assert world.done == [{"x-0": 5, "x-1": 7}]
 
 
-def test_the_second_child_is_undone(place: str) -> None:
+def test_the_second_child_is_undone(location: str) -> None:
     """If only the last one completed, that one is undone, by its own definition; a stuck one is
     resolved before.
     """
@@ -672,7 +684,7 @@ def test_the_second_child_is_undone(place: str) -> None:
     old, new = known("x"), known("x", "z")
 
     async def main() -> None:
-        async with sagas.open(place, old) as store:
+        async with sagas.open(location, old) as store:
             await store.start(old[0], "t")
             await until(lambda: store.get("t/:stay"))
             assert (await store.wait("t/:stay", 60)).phase == "stuck" and len(
@@ -686,10 +698,10 @@ def test_the_second_child_is_undone(place: str) -> None:
             await until(
                 lambda: [one for one in store.active_attempts("t") if one.waits == "approval"]
             )
-        if not place.startswith("postgresql"):
+        if not location.startswith("postgresql"):
             with pytest.raises(sagas.MissingStep, match="step 'x' has no compensation"):
-                await sagas.open(place, known("x2")).__aenter__()
-        async with sagas.open(place, new) as store:
+                await sagas.open(location, known("x2")).__aenter__()
+        async with sagas.open(location, new) as store:
             assert await world.failed(store) == UNDONE
 
     run(main())

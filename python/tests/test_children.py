@@ -70,13 +70,13 @@ class Trip:
 
         @trip.step(needs=[stay])
         def tour(task: Task) -> Any:
-            told = task.result_of(stay)
+            result = task.result_of(stay)
             if task.input["days"] > 5:
                 raise sagas.Fail("sold out")
-            return told
+            return result
 
-    def open(self, place: str, **words: Any) -> sagas.Store:
-        return sagas.open(place, [self.trip, self.hotel], **words)
+    def open(self, location: str, **options: Any) -> sagas.Store:
+        return sagas.open(location, [self.trip, self.hotel], **options)
 
 
 class Backwards:
@@ -92,35 +92,35 @@ class Backwards:
 CODEC, APP = Backwards(), ("--app", "test_children:CODEC")
 
 
-def test_a_child_completes(place: str) -> None:
+def test_a_child_completes(location: str) -> None:
     """Its results are the step's result."""
     world = Trip()
 
     async def main() -> None:
-        async with world.open(place) as store:
+        async with world.open(location) as store:
             end = await (await store.start(world.trip, "t", {"days": 4})).wait(60)
             assert end.ok
-            told = {
+            child_results = {
                 "key": "t/:stay",
                 "phase": "completed",
                 "results": {"room": {"nights": 3}, "breakfast": 3},
             }
-            assert end.results == {"flight": 4, "stay": told, "tour": told}
+            assert end.results == {"flight": 4, "stay": child_results, "tour": child_results}
             assert (await store.wait("t/:stay", 60)).ok
 
     run(main())
     assert world.done == ["room t/:stay"]
 
 
-def test_a_completed_child_is_undone(place: str, capsys: pytest.CaptureFixture[str]) -> None:
+def test_a_completed_child_is_undone(location: str, capsys: pytest.CaptureFixture[str]) -> None:
     """Its own compensations undo it, in their order, also with a codec.
 
     The command and the API show the parent and the child.
     """
-    world, shell = Trip(), Shell(place, capsys)
+    world, shell = Trip(), Shell(location, capsys)
 
     async def main() -> None:
-        async with world.open(place, codec=Backwards()) as store:
+        async with world.open(location, codec=Backwards()) as store:
             end = await (await store.start(world.trip, "t", {"days": 6})).wait(60)
             assert end.states == {"flight": "undone", "stay": "undone", "tour": "failed"}
             assert (await store.wait("t/:stay:undo", 60)).ok
@@ -134,20 +134,22 @@ def test_a_completed_child_is_undone(place: str, capsys: pytest.CaptureFixture[s
         "\nparent   t\n" in shell("show", "t/:stay:undo", *APP)
         and shell.json("show", "t/:stay", *APP)["parent"] == "t"
     )
-    with Snapshot(place) as store:
+    with Snapshot(location) as store:
         for keys, count in ({"t"}, 3), ({"t*"}, 3), ({"t/*"}, 0), ({"T*", "s"}, 0), ({"x", "t"}, 3):
             scope = Scope(keys=frozenset(keys))
             assert store.ask(lists.count(Filter(scope=scope))) == count
             held = [key for key in ("t", "t/:stay", "t/:stay:undo") if scope.has_key(key)]
             assert len(held) == count
         views = [store.saga(key) for key in ("t", "t/:stay")]
-    told = [json_views.saga(view) for view in views]
-    assert [(one["step"], one["definition"]) for one in told[0]["children"]] == [
+    answers = [json_views.saga(view) for view in views]
+    assert [(one["step"], one["definition"]) for one in answers[0]["children"]] == [
         ("stay", "hotel"),
         ("stay:undo", "hotel-undo"),
     ]
     assert (
-        told[0]["parent"] is None and told[1]["parent"]["key"] == "t" and told[1]["children"] == []
+        answers[0]["parent"] is None
+        and answers[1]["parent"]["key"] == "t"
+        and answers[1]["children"] == []
     )
     seen = families.seen_by(views[0], Scope(frozenset({"hotel"})))
     assert [one.key for one in seen.children] == ["t/:stay", "t/:stay:undo"]
@@ -157,12 +159,12 @@ def test_a_completed_child_is_undone(place: str, capsys: pytest.CaptureFixture[s
     )
 
 
-def test_a_child_fails(place: str) -> None:
+def test_a_child_fails(location: str) -> None:
     """Then the step fails, with the reason."""
     world = Trip()
 
     async def main() -> None:
-        async with world.open(place) as store:
+        async with world.open(location) as store:
             end = await (await store.start(world.trip, "t", {"days": 10})).wait(60)
             assert end.states == {"flight": "undone", "stay": "failed", "tour": "waiting"}
             assert "'t/:stay' has not completed: recovered" in end.errors["stay"]
@@ -200,9 +202,9 @@ class Slow:
         self.top.step(external=True, name="beside")
         self.all = [self.top, self.child, self.sub]
 
-    async def started(self, store: sagas.Store, **words: Any) -> sagas.Run:
+    async def started(self, store: sagas.Store, **options: Any) -> sagas.Run:
         """Start one whose child waits for its approval."""
-        found = await store.start(self.top, "t", **words)
+        run = await store.start(self.top, "t", **options)
 
         async def asks() -> bool:
             return bool(
@@ -214,15 +216,15 @@ class Slow:
             "stay waits for the end of its child saga",
             "beside waits for an external worker",
         ]
-        return found
+        return run
 
 
-def test_an_abort_goes_down(place: str, capsys: pytest.CaptureFixture[str]) -> None:
+def test_an_abort_goes_down(location: str, capsys: pytest.CaptureFixture[str]) -> None:
     """The child is aborted, and undoes its own child, before the parent ends."""
-    world, shell = Slow(), Shell(place, capsys)
+    world, shell = Slow(), Shell(location, capsys)
 
     async def main() -> None:
-        async with sagas.open(place, world.all, concurrency=1) as store:
+        async with sagas.open(location, world.all, concurrency=1) as store:
             top = await world.started(store, labels={"customer": "7"}, deadline=3600)
             waits = {
                 line.split()[0]: line
@@ -244,12 +246,12 @@ def test_an_abort_goes_down(place: str, capsys: pytest.CaptureFixture[str]) -> N
 
 
 @pytest.mark.parametrize("stays", [True, False])
-def test_a_plan_that_drops_the_child(place: str, stays: bool) -> None:
+def test_a_plan_that_drops_the_child(location: str, stays: bool) -> None:
     """If a step fails, the child continues if the plan would keep it; else it is aborted."""
     world = Slow(undo=3, keep=0) if stays else Slow()
 
     async def main() -> None:
-        async with sagas.open(place, world.all) as store:
+        async with sagas.open(location, world.all) as store:
             top = await world.started(store)
             await store.fail("t", "beside", "sold out")
             if stays:
@@ -262,7 +264,7 @@ def test_a_plan_that_drops_the_child(place: str, stays: bool) -> None:
     assert len(world.done) != stays
 
 
-def test_another_child_behind_one_that_failed(place: str) -> None:
+def test_another_child_behind_one_that_failed(location: str) -> None:
     """An operator may request that; its key shows it. A stuck child is resolved first."""
     failing, calls = sagas.Saga("failing"), list[str]()
 
@@ -276,8 +278,8 @@ def test_another_child_behind_one_that_failed(place: str) -> None:
     top.child(failing, input=lambda task: None, on_exhausted="ask", keep=9)
 
     async def main() -> None:
-        async with sagas.open(place, [top, failing]) as store:
-            found = await store.start(top, "t")
+        async with sagas.open(location, [top, failing]) as store:
+            started = await store.start(top, "t")
             for key in ("t/:failing", "t/:failing/2"):
                 assert (await until(lambda: store.get(key))) and (
                     await store.wait(key, 60)
@@ -287,7 +289,7 @@ def test_another_child_behind_one_that_failed(place: str) -> None:
                     lambda: [one for one in store.active_attempts("t") if one.waits == "exhausted"]
                 )
                 await store.retry("t", "failing")
-            end = await found.wait(60)
+            end = await started.wait(60)
             assert end.ok and end.results["failing"]["key"] == "t/:failing/3"
 
     run(main())
@@ -324,7 +326,7 @@ def test_definitions_that_cannot_be() -> None:
         trip.child("hotel", input=lambda task: None)  # type: ignore[call-overload]
 
 
-def test_keys_and_inputs_that_cannot_be(place: str) -> None:
+def test_keys_and_inputs_that_cannot_be(location: str) -> None:
     """A key that is too long for a child's key is refused at the start; the others fail
     the step.
     """
@@ -335,7 +337,7 @@ def test_keys_and_inputs_that_cannot_be(place: str) -> None:
         return {2: object(), 3: {"nights": 1}}[task.input["days"]]
 
     async def main() -> None:
-        async with world.open(place) as store:
+        async with world.open(location) as store:
             with pytest.raises(sagas.InvalidKey, match="must have at most 497 characters"):
                 await store.start(world.trip, "x" * 502, {"days": 3})
             for taken in ("t/:stay", "/:", "t/:stay:undo", "t/:whatever"):
@@ -432,7 +434,7 @@ def until_survived(
 
 
 @pytest.mark.parametrize("way", ["undone", "aborted"])
-def test_kills_at_any_event(place: str, tmp_path: pathlib.Path, way: str) -> None:
+def test_kills_at_any_event(location: str, tmp_path: pathlib.Path, way: str) -> None:
     """Each child is started once, and none stays open after its parent, however often the program
     dies.
     """
@@ -443,19 +445,19 @@ def test_kills_at_any_event(place: str, tmp_path: pathlib.Path, way: str) -> Non
         function = step.run.function
         assert function
 
-        def told(task: Task) -> Any:
+        def noted_call(task: Task) -> Any:
             with file.open("a") as out:
                 out.write(f"{task.key} {task.step} {task.idempotency_key}\n")
             return function(task)
 
-        step.run.function = told
+        step.run.function = noted_call
 
     note(world.hotel.steps[0])
     note(slow.sub.steps[0])
 
     def open_store(die: Callable[[sagas.Event], None]) -> sagas.Store:
         return sagas.open(
-            place, [world.trip, world.hotel, *slow.all], node="one", lease=2, on_event=die
+            location, [world.trip, world.hotel, *slow.all], node="one", lease=2, on_event=die
         )
 
     async def undone(store: sagas.Store) -> None:
@@ -463,14 +465,14 @@ def test_kills_at_any_event(place: str, tmp_path: pathlib.Path, way: str) -> Non
         assert end.states == {"flight": "undone", "stay": "undone", "tour": "failed"}
 
     async def aborted(store: sagas.Store) -> None:
-        found = await store.start(slow.top, "t")
+        run = await store.start(slow.top, "t")
         asks = asyncio.ensure_future(
             until(
                 lambda: [one for one in store.active_attempts("t/:stay") if one.waits == "approval"]
             )
         )
         await asyncio.wait(
-            [asks, ending := asyncio.ensure_future(found.wait(60))],
+            [asks, ending := asyncio.ensure_future(run.wait(60))],
             return_when=asyncio.FIRST_COMPLETED,
         )
         asks.cancel()
@@ -534,7 +536,7 @@ def test_a_child_of_another_node(url: str) -> None:
     run(main())
 
 
-def test_children_stay_with_their_parents(place: str, monkeypatch: pytest.MonkeyPatch) -> None:
+def test_children_stay_with_their_parents(location: str, monkeypatch: pytest.MonkeyPatch) -> None:
     """A finished child is not deleted as long as its parent is open."""
     monkeypatch.setattr("sagas.definition.shelf.SHARD_CAPACITY", 1)
     world = Slow(keep=0, undo=3)
@@ -551,16 +553,16 @@ def test_children_stay_with_their_parents(place: str, monkeypatch: pytest.Monkey
         await until(are)
 
     async def main() -> None:
-        async with sagas.open(place, world.all) as store:
+        async with sagas.open(location, world.all) as store:
             await world.started(store)
             await store.complete("t/:stay", "sign")
             await store.wait("t/:stay", 60)
             await closed(store, 2)
-        assert retention.prune(place, -3600.0).sagas == 0
-        async with sagas.open(place, world.all) as store:
+        assert retention.prune(location, -3600.0).sagas == 0
+        async with sagas.open(location, world.all) as store:
             await store.complete("t", "beside")
             assert (await store.wait("t", 60)).ok
             await closed(store, 3)
-        assert retention.prune(place, -3600.0).sagas == 3
+        assert retention.prune(location, -3600.0).sagas == 3
 
     run(main())

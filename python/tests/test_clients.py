@@ -61,12 +61,12 @@ SELECT count(*) FROM pg_stat_activity WHERE wait_event_type = 'Lock' AND applica
 
 async def connected(url: str, client: sagas.Client, kind: sagas.Saga, count: int) -> None:
     """Start `count` sagas at once, so that the client has that many connections."""
-    with psycopg.connect(url) as link, psycopg.connect(url, autocommit=True) as eye:
+    with psycopg.connect(url) as link, psycopg.connect(url, autocommit=True) as observer:
         link.execute("LOCK TABLE sagas.pending_starts")
         some = [
             asyncio.create_task(client.start(kind, f"first-{number}")) for number in range(count)
         ]
-        while eye.execute(LOCKED).fetchone() != (count,):
+        while observer.execute(LOCKED).fetchone() != (count,):
             await asyncio.sleep(0.05)
         link.commit()
         assert [(await one).new for one in some] == [True] * count
@@ -176,8 +176,10 @@ def test_a_start_waits_for_a_node(url: str, capsys: pytest.CaptureFixture[str]) 
                 assert (await (await client.start(other, "x")).wait()).ok
                 assert inbox(url) == 1 and (await store.start(other, "y")) is not None
                 assert await asyncio.to_thread(store_command.main, [url, "nodes"]) == 0
-                said = capsys.readouterr().out
-                assert "No node has accepted these starts:" in said and "shop (version 1)" in said
+                output = capsys.readouterr().out
+                assert (
+                    "No node has accepted these starts:" in output and "shop (version 1)" in output
+                )
                 assert await asyncio.to_thread(store_command.main, [url, "show", "k"]) == 1
                 assert (
                     "k has not started: it waits for a node that has shop (version 1)"
@@ -238,14 +240,14 @@ def test_a_start_that_no_node_has_taken_is_withdrawn(
     def sign(task: Task) -> None:
         ...
 
-    async def asked(*words: str) -> str:
-        assert await asyncio.to_thread(store_command.main, [url, *words]) == 0
+    async def run_command(*arguments: str) -> str:
+        assert await asyncio.to_thread(store_command.main, [url, *arguments]) == 0
         return capsys.readouterr().out
 
     async def main() -> None:
         async with sagas.open(url, [other]), sagas.Client(url) as client:
             started = await client.start(kind, "t1")
-            (one,) = json.loads(await asked("pending", "--json"))
+            (one,) = json.loads(await run_command("pending", "--json"))
             assert (
                 one["key"],
                 one["kind"],
@@ -254,12 +256,12 @@ def test_a_start_that_no_node_has_taken_is_withdrawn(
                 one["version"],
                 one["step"],
             ) == ("t1", "start", "node", "signed", 1, None)
-            assert "a node with signed version 1" in await asked("pending")
+            assert "a node with signed version 1" in await run_command("pending")
             assert (
-                await asked("abort", "t1")
+                await run_command("abort", "t1")
                 == "t1: start withdrawn; no node had accepted it, and nothing has started\n"
             )
-            assert inbox(url) == 0 and json.loads(await asked("pending", "--json")) == []
+            assert inbox(url) == 0 and json.loads(await run_command("pending", "--json")) == []
             with pytest.raises(sagas.NoSuchSaga):
                 await started.wait()
             assert (
@@ -271,8 +273,8 @@ def test_a_start_that_no_node_has_taken_is_withdrawn(
                 link.execute(
                     "UPDATE sagas.pending_starts SET node = (SELECT node FROM sagas.nodes)"
                 )
-            assert json.loads(await asked("pending", "--json")) == []
-            abort = asyncio.create_task(asked("abort", "t2", "--timeout", "60"))
+            assert json.loads(await run_command("pending", "--json")) == []
+            abort = asyncio.create_task(run_command("abort", "t2", "--timeout", "60"))
             await until(lambda: requests(url))
             assert not abort.done() and inbox(url) == 1
             async with sagas.open(url, [kind]) as store:
@@ -422,13 +424,13 @@ def test_an_abort_and_a_node_at_once(url: str) -> None:
         return "aborted" if done else "over"
 
     async def started(client: sagas.Client, name: str) -> list[sagas.ClientRun]:
-        return [await client.start(kind, f"{name}-{place}") for place in range(10)]
+        return [await client.start(kind, f"{name}-{number}") for number in range(10)]
 
     async def answers(runs: list[sagas.ClientRun], step: float) -> list[str]:
-        return await asyncio.gather(*(one(run, step * place) for place, run in enumerate(runs)))
+        return await asyncio.gather(*(one(run, step * number) for number, run in enumerate(runs)))
 
     async def main() -> None:
-        found: set[str] = set()
+        outcomes: set[str] = set()
         async with sagas.Client(url, connections=8) as client:
             for turn in range(5):
                 before = asyncio.create_task(
@@ -436,14 +438,14 @@ def test_an_abort_and_a_node_at_once(url: str) -> None:
                 )
                 async with sagas.open(url, [kind], node="a"), sagas.open(url, [kind], node="b"):
                     async with asyncio.timeout(60):
-                        found.update(await before)
+                        outcomes.update(await before)
                         for part in range(3):
-                            found.update(
+                            outcomes.update(
                                 await answers(
                                     await started(client, f"beside{turn}-{part}"), 0.0002 * turn
                                 )
                             )
-            assert "withdrawn" in found and inbox(url) == requests(url) == 0
+            assert "withdrawn" in outcomes and inbox(url) == requests(url) == 0
             for key in {*called}:
                 assert called.count(key) == 1 and await client.get(key) is not None
 
@@ -669,8 +671,8 @@ def test_a_client_in_a_forked_child(url: str) -> None:
             client.__enter__,
         ]
         for call in calls:
-            said = in_child(call)
-            assert said.startswith("Closed: ") and text in said
+            result = in_child(call)
+            assert result.startswith("Closed: ") and text in result
         assert in_child(client.close) == "None"
         inner = client._inner
         calls = [
@@ -714,9 +716,9 @@ def test_closing_ends_the_waits_of_other_threads(
     """
     entered, whole = threading.Semaphore(0), notifications.News.wait
 
-    async def entering(*words: Any) -> None:
+    async def entering(*arguments: Any) -> None:
         entered.release()
-        await whole(*words)
+        await whole(*arguments)
 
     monkeypatch.setattr(notifications.News, "wait", entering)
     kind, other = shop(), sagas.Saga("other")
@@ -795,8 +797,8 @@ def test_what_a_clients_run_tells(url: str) -> None:
     async def main() -> None:
         async with sagas.Client(url) as client:
             run = await client.start(kind, "bad", "fails")
-            again, found = await client.start(kind, "bad", "fails"), await client.get("bad")
-            assert run.new and not again.new and found and not found.new
+            again, known = await client.start(kind, "bad", "fails"), await client.get("bad")
+            assert run.new and not again.new and known and not known.new
             assert await run.log() == [] and await run.plan() is None
             with pytest.raises(
                 TimeoutError, match="'bad' is still open after 0.01 s: no node has started it yet"
@@ -876,11 +878,11 @@ def test_a_start_whose_key_has_a_saga_goes_away(
     url: str, monkeypatch: pytest.MonkeyPatch, is_seen: bool
 ) -> None:
     """The commit that removes it fails: the next one removes it, and it is never opened."""
-    kind, told = shop(), list[str]()
+    kind, event_names = shop(), list[str]()
 
     async def main() -> None:
         async with sagas.open(
-            url, [kind], on_event=lambda event: told.append(event.name)
+            url, [kind], on_event=lambda event: event_names.append(event.name)
         ) as store, sagas.Client(url) as client:
             with psycopg.connect(url) as stranger:
                 stranger.execute(STAYS)
@@ -902,7 +904,7 @@ def test_a_start_whose_key_has_a_saga_goes_away(
             assert (await late.wait()).ok and len(records.read(url).sagas) == 1
 
     run(main())
-    assert told.count("commit_failed") == 1
+    assert event_names.count("commit_failed") == 1
 
 
 @pytest.mark.parametrize("where", ["starts", "find", "new_log"])
@@ -925,11 +927,11 @@ def test_a_start_that_fails_at_first_is_taken_again(
                 left -= 1
                 return left == 0
 
-            async def later(*words: Any) -> Any:
-                told = await right(*words)
-                if told != [] and failed():
+            async def later(*arguments: Any) -> Any:
+                taken = await right(*arguments)
+                if taken != [] and failed():
                     raise sagas.StoreUnavailable("lost")
-                return told
+                return taken
 
             def now() -> Any:
                 if failed():
@@ -980,15 +982,15 @@ def test_faults_of_the_given_connection_are_told_as_its_own(
     that of another store. Nothing is written, and each text says what to do.
     """
     kind, bare, other = shop(), postgresql.create(), postgresql.create()
-    for place in (url, other):
-        made(place, kind)
+    for location in (url, other):
+        made(location, kind)
 
     def tried(to: str, spoil: str) -> str:
         with sagas.SyncClient(url) as client, psycopg.connect(to) as link:
             spoilt(link, spoil)
-            with pytest.raises(sagas.StoreUnavailable) as told:
+            with pytest.raises(sagas.StoreUnavailable) as error:
                 client.start(kind, "k", connection=link)
-            return str(told.value)
+            return str(error.value)
 
     async def tried_async(to: str, spoil: str) -> str:
         async with sagas.Client(url) as client, await psycopg.AsyncConnection.connect(to) as link:
@@ -997,9 +999,9 @@ def test_faults_of_the_given_connection_are_told_as_its_own(
             elif spoil:
                 with contextlib.suppress(psycopg.Error):
                     await link.execute(spoil)
-            with pytest.raises(sagas.StoreUnavailable) as told:
+            with pytest.raises(sagas.StoreUnavailable) as error:
                 await client.start(kind, "k", connection=link)
-            return str(told.value)
+            return str(error.value)
 
     texts = {
         (url, "close"): "the given connection is closed. Nothing was written. Give an open one",
@@ -1020,8 +1022,8 @@ def test_faults_of_the_given_connection_are_told_as_its_own(
     for (to, spoil), text in texts.items():
         assert text in (tried(to, spoil) if plain else run(tried_async(to, spoil)))
     assert inbox(url) == inbox(other) == 0
-    for place in (bare, other):
-        postgresql.drop(place)
+    for location in (bare, other):
+        postgresql.drop(location)
 
 
 def spoilt(link: psycopg.Connection[Any], how: str) -> None:
@@ -1081,9 +1083,9 @@ def test_a_store_and_a_client_wait_by_key_for_some_time(url: str) -> None:
                 await client.wait("k", timeout=0.01)
             with pytest.raises(TimeoutError, match=text):
                 await store.wait("k", timeout=0.01)
-            assert not (found := await store.start(kind, "k")).new
+            assert not (run_again := await store.start(kind, "k")).new
             with pytest.raises(TimeoutError, match=text):
-                await found.wait(timeout=0.01)
+                await run_again.wait(timeout=0.01)
             with pytest.raises(sagas.NoSuchSaga):
                 await store.wait("none", timeout=60)
             assert (await (await store.start(kind, "l")).wait(timeout=60)).ok and (

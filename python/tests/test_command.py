@@ -26,7 +26,7 @@ import sagas
 from sagas.cli import audits, formatting, store_command
 from sagas.cli.snapshot import Snapshot
 from sagas.base import program, wording
-from sagas.inspection import wording as words
+from sagas.inspection import wording as value_wording
 from sagas.inspection import saga as one_saga
 from sagas.inspection.question import StoreReader
 from sagas.server import log_format
@@ -41,14 +41,14 @@ class Shell:
     def __init__(self, path: str | pathlib.Path, capsys: pytest.CaptureFixture[str]) -> None:
         self.path, self.capsys = path, capsys
 
-    def __call__(self, *words: str, status: int = 0) -> str:
+    def __call__(self, *arguments: str, status: int = 0) -> str:
         self.capsys.readouterr()
-        assert store_command.main([str(self.path), *words]) == status
+        assert store_command.main([str(self.path), *arguments]) == status
         return self.capsys.readouterr().out
 
-    def json(self, *words: str, status: int = 0) -> Any:
+    def json(self, *arguments: str, status: int = 0) -> Any:
         """Return its output for programs."""
-        return json.loads(self(*words, "--json", status=status))
+        return json.loads(self(*arguments, "--json", status=status))
 
 
 class Screen(io.StringIO):
@@ -200,8 +200,8 @@ def test_show(shell: Shell) -> None:
     assert shell("draw", "bad", "--svg").startswith("<svg") and shell.json("draw", "bad", "--svg")[
         "svg"
     ].endswith("</svg>")
-    told = shell.json("show", "good")
-    assert [(step["step"], step["state"], step["result"]) for step in told["steps"]] == [
+    reply = shell.json("show", "good")
+    assert [(step["step"], step["state"], step["result"]) for step in reply["steps"]] == [
         ("reserve", "committed", {"place": 17}),
         ("charge", "committed", "charged"),
     ]
@@ -210,14 +210,14 @@ def test_show(shell: Shell) -> None:
     assert re.search(r"^STEP +STATE +TRIES +STARTED +ENDED +DETAIL$", text, re.M)
     # of the saga, and of its steps
     assert len(re.findall(r" \d{4}-\d\d-\d\d \d\d:\d\d:\d\dZ", text)) == 2 + 2 * 2
-    reserve, charge = told["steps"]
+    reserve, charge = reply["steps"]
     assert (
-        told["at"]
+        reply["at"]
         <= reserve["started"]
         <= reserve["ended"]
         <= charge["started"]
         <= charge["ended"]
-        <= told["ended"]
+        <= reply["ended"]
     )
 
 
@@ -276,13 +276,13 @@ def test_audit_and_export(
 ) -> None:
     """Each log is audited; a saga is exported with its events; a changed line is found."""
     assert all(log["good"] for log in shell.json("audit"))
-    told = shell.json("export", "bad")
-    assert [event["event"] for event in told["events"]][:3] == ["open", "start_run", "commit"]
-    assert [result["outcome"] for result in told["results"]] == [
+    exported = shell.json("export", "bad")
+    assert [event["event"] for event in exported["events"]][:3] == ["open", "start_run", "commit"]
+    assert [result["outcome"] for result in exported["results"]] == [
         "commit",
         "missed",
         "fail",
-    ] and told["definition"].startswith("format")
+    ] and exported["definition"].startswith("format")
     if path.startswith("postgresql:"):
         return
     spoilt = tmp_path / "spoilt.db"
@@ -300,10 +300,10 @@ def test_audit_and_export(
 def test_progress_on_a_terminal(path: str, monkeypatch: pytest.MonkeyPatch) -> None:
     """A long command prints its progress to a terminal."""
 
-    said = Screen()
-    monkeypatch.setattr("sys.stderr", said)
+    screen = Screen()
+    monkeypatch.setattr("sys.stderr", screen)
     assert store_command.main([path, "audit"]) == 0
-    assert re.findall(r"shards: \d+ of \d+", said.getvalue())[-1] == "shards: 1 of 1"
+    assert re.findall(r"shards: \d+ of \d+", screen.getvalue())[-1] == "shards: 1 of 1"
 
 
 def test_what_is_not_there(
@@ -312,7 +312,7 @@ def test_what_is_not_there(
     """Keys and files that do not exist, arguments that are not text, and files that are not a store
     change nothing.
     """
-    for words in (
+    for arguments in (
         ["show", "none"],
         ["show", "\udcff"],
         ["resolve", "\udcff", "--note", "\udcff"],
@@ -321,7 +321,7 @@ def test_what_is_not_there(
         ["resolve", "none", "--note", "x"],
         ["resolve", "good", "--note", "x"],
     ):
-        shell(*words, status=1)
+        shell(*arguments, status=1)
     none = tmp_path / "none.db"
     assert Shell(none, capsys)("list", status=4) == "" and not none.exists()
     none.write_text("no store")
@@ -359,10 +359,14 @@ def test_show_says_why(tmp_path: pathlib.Path, capsys: pytest.CaptureFixture[str
             assert (await (await store.start(must, "k")).wait()).phase == "stuck"
 
     run(main())
-    told = (shell := Shell(path, capsys))("show", "k")
-    for words in (["abort", "k"], ["complete", "k", "take", "--undo"], ["fail", "k", "send", "x"]):
-        assert store_command.main([str(path), *words]) == 1
-        assert "k is stuck" in (said := capsys.readouterr().err) and "run `resolve`" in said
+    output = (shell := Shell(path, capsys))("show", "k")
+    for arguments in (
+        ["abort", "k"],
+        ["complete", "k", "take", "--undo"],
+        ["fail", "k", "send", "x"],
+    ):
+        assert store_command.main([str(path), *arguments]) == 1
+        assert "k is stuck" in (errors := capsys.readouterr().err) and "run `resolve`" in errors
     text = shell("plan", "k", "--text")
     checked = subprocess.run([program.path()], input=text, capture_output=True, text=True)
     assert (checked.stdout, checked.returncode) == ("blocked\n", 0)
@@ -371,9 +375,11 @@ def test_show_says_why(tmp_path: pathlib.Path, capsys: pytest.CaptureFixture[str
             r'take  undo failed +1  .*Z  .*Z  \{"called": false\}; its compensation: \{"error":'
             r' "sagas.Fail: it is gone"'
         ),
-        told,
-    ), told
-    assert re.search(r'send  failed +1  .*Z  .*Z  \{"error": "sagas.Fail: no address"', told), told
+        output,
+    ), output
+    assert re.search(
+        r'send  failed +1  .*Z  .*Z  \{"error": "sagas.Fail: no address"', output
+    ), output
     assert [step["state"] for step in Shell(path, capsys).json("show", "k")["steps"]] == [
         "undo_failed",
         "failed",
@@ -381,7 +387,7 @@ def test_show_says_why(tmp_path: pathlib.Path, capsys: pytest.CaptureFixture[str
 
 
 def test_texts_that_the_output_has_no_characters_for(
-    place: str, capsys: pytest.CaptureFixture[str], caplog: pytest.LogCaptureFixture
+    location: str, capsys: pytest.CaptureFixture[str], caplog: pytest.LogCaptureFixture
 ) -> None:
     """Halves of surrogate pairs are printed escaped, and so are characters beyond ASCII if the
     output is ASCII; JSON has them all.
@@ -403,15 +409,15 @@ def test_texts_that_the_output_has_no_characters_for(
         raise sagas.Fail(odd)
 
     async def main() -> None:
-        async with sagas.open(place, [saga, letter]) as store:
+        async with sagas.open(location, [saga, letter]) as store:
             assert (await (await store.start(saga, "k", odd)).wait()).phase == "stuck"
             await store.start(letter, "l", odd)
-            await until(lambda: held(place))
+            await until(lambda: held(location))
 
     run(main())
-    shell = Shell(place, capsys)
+    shell = Shell(location, capsys)
     shell("resolve", "k", "--note", odd)
-    for words in (
+    for arguments in (
         ["show", "k"],
         ["log", "k"],
         ["plan", "k"],
@@ -419,21 +425,21 @@ def test_texts_that_the_output_has_no_characters_for(
         ["draw", "k", "--svg"],
         ["show", "l"],
     ):
-        told = shell(*words)
-        assert words[0] in ("plan", "draw") or "\\ud800 of" in told, told
-        shell.json(*words)
-    for words in (["list"], ["pending"], ["stats"], ["stuck"]):
-        shell(*words)
+        output = shell(*arguments)
+        assert arguments[0] in ("plan", "draw") or "\\ud800 of" in output, output
+        shell.json(*arguments)
+    for arguments in (["list"], ["pending"], ["stats"], ["stuck"]):
+        shell(*arguments)
     assert shell.json("show", "k")["input"] == odd
     assert (
-        store_command.main([place, "complete", "l", odd]) == 1
+        store_command.main([location, "complete", "l", odd]) == 1
         and "\\ud800 of" in capsys.readouterr().err
     )
     plain = io.TextIOWrapper(io.BytesIO(), encoding="ascii")
     with contextlib.redirect_stdout(plain):
         assert (
-            store_command.main([place, "show", "k"]) == 0
-            and store_command.main([place, "show", "k", "--json"]) == 0
+            store_command.main([location, "show", "k"]) == 0
+            and store_command.main([location, "show", "k", "--json"]) == 0
         )
     plain.seek(0)
     text, _, rest = plain.read().partition("\n{")
@@ -449,7 +455,7 @@ def test_no_text_adds_a_line_or_moves_a_cursor(
     unchanged.
     """
     odd = "part\n40\x1b[1A\x1b[2K\x1b]0;x\x07\x7f\x9b31m\u202e"
-    far, letter, place = sagas.Saga("far"), signed(), str(tmp_path / "store.db")
+    far, letter, location = sagas.Saga("far"), signed(), str(tmp_path / "store.db")
     far.step(name="car", external=True, undo=0)
 
     @far.step(tries=1, on_exhausted="ask")
@@ -462,7 +468,7 @@ def test_no_text_adds_a_line_or_moves_a_cursor(
         raise sagas.Fail(odd)
 
     async def main() -> None:
-        store = sagas.open(place, [far, letter, must])
+        store = sagas.open(location, [far, letter, must])
         store.leased = True
         async with store:
             await store.start(far, "far", odd)
@@ -484,22 +490,28 @@ def test_no_text_adds_a_line_or_moves_a_cursor(
             await store.fail("letter", "sign", odd, by=odd, note=odd)
             await store.wait("letter")
 
-    shell = Shell(place, capsys)
+    shell = Shell(location, capsys)
     run(main())
 
-    def printed(*words: str) -> str:
-        told = shell(*words)
-        assert all(line.isprintable() for line in told.split("\n")), (words, told)
-        return told
+    def printed(*arguments: str) -> str:
+        output = shell(*arguments)
+        assert all(line.isprintable() for line in output.split("\n")), (arguments, output)
+        return output
 
-    for words in (["pending"], ["attention"], ["log", "letter"], ["log", "bad"], ["log", "good"]):
-        told = printed(*words)
+    for arguments in (
+        ["pending"],
+        ["attention"],
+        ["log", "letter"],
+        ["log", "bad"],
+        ["log", "good"],
+    ):
+        output = printed(*arguments)
         assert (
-            told.count("\n") == 1 + len(json.loads(printed(*words, "--json")))
-            and "\\x1b[2K" in told
-        ), told
-    for words in (["show", "far"], ["show", "bad"], ["show", "good"], ["draw", "far", "--svg"]):
-        assert "\\x1b[2K" in printed(*words) and printed(*words, "--json")
+            output.count("\n") == 1 + len(json.loads(printed(*arguments, "--json")))
+            and "\\x1b[2K" in output
+        ), output
+    for arguments in (["show", "far"], ["show", "bad"], ["show", "good"], ["draw", "far", "--svg"]):
+        assert "\\x1b[2K" in printed(*arguments) and printed(*arguments, "--json")
     assert "\nnote     part 40\\x1b[1A" in printed("show", "bad") and printed("export", "bad")
     shown, exported = shell.json("show", "far"), shell.json("export", "far")
     assert (
@@ -508,11 +520,13 @@ def test_no_text_adds_a_line_or_moves_a_cursor(
         and shell.json("show", "bad")["note"] == odd
     )
     assert shown.pop("plan") is None and shown.items() <= exported.items()
-    assert store_command.main([place, "show", "a\nb \x1b[2K"]) == 1
+    assert store_command.main([location, "show", "a\nb \x1b[2K"]) == 1
     assert capsys.readouterr().err == "sagas store: no saga has the key a b \\x1b[2K\n"
 
 
-def test_a_compensation_that_failed_is_seen(place: str, capsys: pytest.CaptureFixture[str]) -> None:
+def test_a_compensation_that_failed_is_seen(
+    location: str, capsys: pytest.CaptureFixture[str]
+) -> None:
     """Such sagas are listed and counted, and shown as `undo failed`, with the error; programs get
     the word of the rules.
     """
@@ -532,7 +546,7 @@ def test_a_compensation_that_failed_is_seen(place: str, capsys: pytest.CaptureFi
         raise sagas.Fail("no address")
 
     async def main() -> None:
-        async with sagas.open(place, [row]) as store:
+        async with sagas.open(location, [row]) as store:
             end = await (await store.start(row, "bad", "gone")).wait()
             assert end.states["take"] == "undo_failed"
             lines = "\n  undo failed take: sagas.Fail: it is gone\n  failed      send:"
@@ -544,13 +558,13 @@ def test_a_compensation_that_failed_is_seen(place: str, capsys: pytest.CaptureFi
             assert [one.key for one in await store.list(phase="undo_failed")] == ["bad"]
 
     run(main())
-    shell = Shell(place, capsys)
+    shell = Shell(location, capsys)
     assert [
         (one["key"], one["undo_failed"]) for one in shell.json("list", "--phase", "undo_failed")
     ] == [("bad", True)]
     assert "recovered, undo failed" in shell("list")
-    told = shell.json("stats")
-    assert told["undo_failed"] == 1 and "list --phase undo_failed" in shell("stats")
+    counts = shell.json("stats")
+    assert counts["undo_failed"] == 1 and "list --phase undo_failed" in shell("stats")
     assert shell.json("stuck") == [] and "1 ended with a permanently failed compensation" in shell(
         "stuck"
     )
@@ -559,7 +573,7 @@ def test_a_compensation_that_failed_is_seen(place: str, capsys: pytest.CaptureFi
     ) and "phase    recovered\n" in shell("show", "undone")
     shell("resolve", "bad", "--note", "it was found")
     for key, phase in (("undone", "recovered"), ("bad", "resolved")):
-        assert store_command.main([place, "abort", key]) == 1
+        assert store_command.main([location, "abort", key]) == 1
         assert (
             capsys.readouterr().err
             == f"sagas store: {key} has ended ({phase}), so there is nothing to abort\n"
@@ -567,20 +581,20 @@ def test_a_compensation_that_failed_is_seen(place: str, capsys: pytest.CaptureFi
 
 
 def test_a_log_says_who_did_what_and_why(
-    place: str, capsys: pytest.CaptureFixture[str], monkeypatch: pytest.MonkeyPatch
+    location: str, capsys: pytest.CaptureFixture[str], monkeypatch: pytest.MonkeyPatch
 ) -> None:
     """It has each action of an operator, also a refused one; only a terminal cuts the texts."""
     kind, why, shell = (
         signed(),
         f"the customer {'who is well known ' * 9}called",
-        Shell(place, capsys),
+        Shell(location, capsys),
     )
 
     async def main() -> None:
-        async with sagas.open(place, [kind]) as store:
+        async with sagas.open(location, [kind]) as store:
             for key in ("agreed", "not", "twice"):
                 await store.start(kind, key)
-            await until(lambda: len(held(place)) == 3)
+            await until(lambda: len(held(location)) == 3)
             await store.complete("agreed", "sign", {"long": why}, by="ann", note="known customer")
             await asyncio.to_thread(shell, "fail", "not", "sign", why)
             await asyncio.to_thread(
@@ -606,7 +620,7 @@ def test_a_log_says_who_did_what_and_why(
     ):
         assert f"  {line}\n" in shell("log", key)
     monkeypatch.setattr("sys.stdout", screen := Screen())
-    assert store_command.main([place, "log", "not"]) == 0
+    assert store_command.main([location, "log", "not"]) == 0
     assert (
         re.search(r"Z  note +sign +fail: the customer who .*\.\.\.\n", screen.getvalue())
         and why not in screen.getvalue()
@@ -617,57 +631,57 @@ def test_a_far_time_hides_nothing(
     tmp_path: pathlib.Path, capsys: pytest.CaptureFixture[str]
 ) -> None:
     """An approval may wait for longer than any calendar has days."""
-    kind, place = sagas.Saga("patient"), str(tmp_path / "store.db")
+    kind, location = sagas.Saga("patient"), str(tmp_path / "store.db")
     kind.approval(name="sign", timeout=datetime.timedelta.max)(lambda task: None)
 
     async def main() -> None:
-        async with sagas.open(place, [kind, soon := signed()]) as store:
+        async with sagas.open(location, [kind, soon := signed()]) as store:
             await store.start(kind, "far")
             await store.start(soon, "near")
-            await until(lambda: len(held(place)) == 2)
+            await until(lambda: len(held(location)) == 2)
 
     run(main())
-    shell = Shell(place, capsys)
+    shell = Shell(location, capsys)
     assert {line.split()[0] for line in shell("pending").splitlines()} == {"KEY", "far", "near"}
     assert "an approval" in shell("show", "far") and shell.json("pending")[0]["until"] > 1e12
 
 
-def test_wrong_words_of_lists(place: str, capsys: pytest.CaptureFixture[str]) -> None:
+def test_wrong_words_of_lists(location: str, capsys: pytest.CaptureFixture[str]) -> None:
     """The status is 2, with one line; the arguments for the next page are quoted for a shell."""
     kind = simple(lambda task: None)
 
     async def main() -> None:
-        async with sagas.open(place, [kind]) as store:
+        async with sagas.open(location, [kind]) as store:
             for key in ("a b", "-c"):
                 await ended(store, kind, key)
 
     run(main())
     for command in ("list", "attention", "deliveries"):
-        assert store_command.main([place, command, "--limit", "0"]) == 0
+        assert store_command.main([location, command, "--limit", "0"]) == 0
         for value in ("-1", "9" * 20, "x"):
             with pytest.raises(SystemExit) as usage:
-                store_command.main([place, command, "--limit", value])
+                store_command.main([location, command, "--limit", value])
             assert (
                 usage.value.code == 2
                 and f"argument --limit: invalid value '{value}': use an integer from 0 to"
                 in capsys.readouterr().err
             )
-    assert store_command.main([place, "list", "--label", "x="]) == 2
+    assert store_command.main([location, "list", "--label", "x="]) == 2
     assert capsys.readouterr().err.startswith("sagas store: --label: label 'x': '': ")
     with pytest.raises(SystemExit):
-        store_command.main([place, "abort", "a b", "--timeout", "nan"])
+        store_command.main([location, "abort", "a b", "--timeout", "nan"])
     assert "argument --timeout: invalid value 'nan'" in capsys.readouterr().err
-    words, keys = ["--limit", "1"], list[str]()
+    arguments, keys = ["--limit", "1"], list[str]()
     for _ in range(2):
-        assert store_command.main([place, "list", "--json", *words]) == 0
-        told = capsys.readouterr()
-        keys += [one["key"] for one in json.loads(told.out)]
-        line = told.err.removeprefix("there may be more: continue with ")
-        words = [*shlex.split(line), "--limit", "1"]
+        assert store_command.main([location, "list", "--json", *arguments]) == 0
+        printed = capsys.readouterr()
+        keys += [one["key"] for one in json.loads(printed.out)]
+        line = printed.err.removeprefix("there may be more: continue with ")
+        arguments = [*shlex.split(line), "--limit", "1"]
     assert (
         keys == ["a b", "-c"]
         and line == "--after=-c\n"
-        and store_command.main([place, "list", *words]) == 0
+        and store_command.main([location, "list", *arguments]) == 0
     )
 
 
@@ -679,20 +693,20 @@ def test_an_output_that_takes_nothing(tmp_path: pathlib.Path) -> None:
     none.
     """
     with sagas.open_sync(
-        place := str(tmp_path / "store.db"), [kind := simple(lambda task: None)]
+        location := str(tmp_path / "store.db"), [kind := simple(lambda task: None)]
     ) as store:
         store.start(kind, "k").wait()
     there, pipe = os.pipe()
     os.close(there)
     with open("/dev/full", "wb") as full, open(pipe, "wb") as broken:
-        for output, words, line in (
+        for output, arguments, line in (
             (full, ["list"], FULL),
             (full, ["export", "k"], FULL),
             (broken, ["list", "--json"], ""),
         ):
-            told = [sys.executable, "-m", "sagas", "store", place, *words]
+            command = [sys.executable, "-m", "sagas", "store", location, *arguments]
             done = subprocess.run(
-                told, stdout=output, stderr=subprocess.PIPE, text=True, env=environment()
+                command, stdout=output, stderr=subprocess.PIPE, text=True, env=environment()
             )
             assert (done.returncode, done.stderr) == (4, line)
 
@@ -703,73 +717,73 @@ def test_errors_that_nobody_reads(
     """If standard error is closed, only the status reports the error: it is not printed between the
     output.
     """
-    for words, status in (["audit"], 0), (["show", "none"], 1), (["list", "--limit", "1"], 0):
+    for arguments, status in (["audit"], 0), (["show", "none"], 1), (["list", "--limit", "1"], 0):
         monkeypatch.setattr("sys.stderr", None)
-        assert store_command.main([path, *words, "--json"]) == status
-        told = capsys.readouterr().out
-        assert bool(json.loads(told) if told else None) == (status == 0)
+        assert store_command.main([path, *arguments, "--json"]) == status
+        output = capsys.readouterr().out
+        assert bool(json.loads(output) if output else None) == (status == 0)
 
 
-def test_beside_the_running_program(place: str, capsys: pytest.CaptureFixture[str]) -> None:
+def test_beside_the_running_program(location: str, capsys: pytest.CaptureFixture[str]) -> None:
     """abort, finish and resolve while the program has the store open: it executes them, and the
     command says so.
     """
-    path, kinds = place, [shop(), signed()]
+    path, kinds = location, [shop(), signed()]
     shell = Shell(path, capsys)
 
     async def main() -> None:
         async with sagas.open(path, kinds) as store:
             await filled(path, store, kinds)
 
-            async def beside(*words: str, status: int = 0) -> str:
-                return await asyncio.to_thread(shell, *words, status=status)
+            async def concurrently(*arguments: str, status: int = 0) -> str:
+                return await asyncio.to_thread(shell, *arguments, status=status)
 
-            assert "aborted" in await beside("abort", "letter-1", "--note", "written twice")
+            assert "aborted" in await concurrently("abort", "letter-1", "--note", "written twice")
             end = await store.wait("letter-1")
             assert end.aborted and end.states["write"] == "undone"
-            assert "phase    recovered, aborted" in await beside("show", "letter-1")
+            assert "phase    recovered, aborted" in await concurrently("show", "letter-1")
             with contextlib.closing(StoreReader(store.reader())) as looks:
                 assert [
                     (note.what, note.told, note.answer)
                     for note in looks.ask(one_saga.notes("letter-1"))
                 ] == [("abort", {"note": "written twice"}, True)]
             # it is over, and needs no operator
-            assert await beside("abort", "letter-1", status=1) == ""
-            assert "succeeded" in await beside(
+            assert await concurrently("abort", "letter-1", status=1) == ""
+            assert "succeeded" in await concurrently(
                 "complete", "letter-2", "sign", "--result", '"signed"'
             )
             assert (await store.wait("letter-2")).results["sign"] == "signed"
-            assert "failed" in await beside("fail", "odd", "charge", "it was not charged")
-            await beside("complete", "good", "charge", status=1)
-            assert "resolved" in await beside("resolve", "bad", "--note", "paid in cash")
-            assert await beside(
+            assert "failed" in await concurrently("fail", "odd", "charge", "it was not charged")
+            await concurrently("complete", "good", "charge", status=1)
+            assert "resolved" in await concurrently("resolve", "bad", "--note", "paid in cash")
+            assert await concurrently(
                 "stuck"
-            ) == "KEY  SAGA  STUCK SINCE  BECAUSE\n" or "bad" not in await beside("stuck")
+            ) == "KEY  SAGA  STUCK SINCE  BECAUSE\n" or "bad" not in await concurrently("stuck")
 
     run(main())
 
 
-def test_finish_says_what_is_wrong(place: str, capsys: pytest.CaptureFixture[str]) -> None:
+def test_finish_says_what_is_wrong(location: str, capsys: pytest.CaptureFixture[str]) -> None:
     """It reports on standard error, without an error's name: a step that has not started, a
     finished one, a misspelt name, a text that is not JSON.
     """
-    path, kinds = place, [shop(), signed()]
+    path, kinds = location, [shop(), signed()]
 
-    def finish(*words: str, status: int = 1) -> str:
-        assert store_command.main([path, "complete", *words]) == status
-        told = capsys.readouterr()
-        assert told.out == ""
-        return told.err
+    def finish(*arguments: str, status: int = 1) -> str:
+        assert store_command.main([path, "complete", *arguments]) == status
+        printed = capsys.readouterr()
+        assert printed.out == ""
+        return printed.err
 
     async def main() -> None:
         async with sagas.open(path, kinds) as store:
             await filled(path, store, kinds)
-            asked = functools.partial(asyncio.to_thread, finish)
+            finish_in_thread = functools.partial(asyncio.to_thread, finish)
             over = "it has succeeded. This is a different outcome, and the first one counts"
-            wrong = await asked("letter-1", "write")
+            wrong = await finish_in_thread("letter-1", "write")
             assert wrong == f"sagas store: saga 'letter-1', step 'write': {over}\n"
             assert (
-                await asked("letter-1", "write", "--undo")
+                await finish_in_thread("letter-1", "write", "--undo")
                 == "sagas store: saga 'letter-1', step 'write': it has not started. Report it after"
                 " it starts\n"
             )
@@ -788,26 +802,26 @@ def test_finish_says_what_is_wrong(place: str, capsys: pytest.CaptureFixture[str
     assert "not JSON" in finish("letter-1", "sign", "--result", "yes", status=2)
     store_command.main([path, "complete", "letter-1", "sign", "--result", "yes"])
     assert """Write a text as '"yes"'""" in capsys.readouterr().err
-    for command, told in ("complete", "waits for an approval"), (
+    for command, message in ("complete", "waits for an approval"), (
         "retry",
         "\n  1    no saga or step has the name, or",
     ):
         with pytest.raises(SystemExit):
             store_command.main([path, command, "--help"])
-        assert told in capsys.readouterr().out
+        assert message in capsys.readouterr().out
 
 
 def test_many_stuck_sagas_are_resolved_at_once(
-    place: str, capsys: pytest.CaptureFixture[str]
+    location: str, capsys: pytest.CaptureFixture[str]
 ) -> None:
     """They are given by their keys, or all unresolved ones.
 
     Sagas that are not stuck are reported, and the others are resolved anyway.
     """
-    shell = Shell(place, capsys)
+    shell = Shell(location, capsys)
 
     async def main() -> None:
-        async with sagas.open(place, [kind := shop()]) as store:
+        async with sagas.open(location, [kind := shop()]) as store:
             for number in range(5):
                 await store.start(kind, key=f"bad-{number}", input="fails")
             await store.start(kind, key="good")
@@ -832,13 +846,13 @@ def test_many_stuck_sagas_are_resolved_at_once(
         "resolved": 5,
     }
     assert "paid in cash" in shell("show", "bad-0")
-    for words in ([], ["bad-0", "--all"], ["good", "--count"]):
-        shell("resolve", *words, "--note", "x", status=2)
+    for arguments in ([], ["bad-0", "--all"], ["good", "--count"]):
+        shell("resolve", *arguments, "--note", "x", status=2)
 
 
-def test_without_a_program(place: str, capsys: pytest.CaptureFixture[str]) -> None:
+def test_without_a_program(location: str, capsys: pytest.CaptureFixture[str]) -> None:
     """Requests that come while no program has the store open are executed by the next one."""
-    path, kinds = place, [shop(), signed()]
+    path, kinds = location, [shop(), signed()]
     shell = Shell(path, capsys)
 
     async def first() -> None:
@@ -866,8 +880,8 @@ def test_words_for_people() -> None:
     """
     record = logging.LogRecord("sagas", logging.INFO, "", 0, "said", None, None)
     record.created, record.msecs = 86400.0, 7
-    assert formatting.moment(86400.0) == words.clock(86400.0) == "1970-01-02 00:00:00Z"
-    assert formatting.moment(1e15) == words.clock(1e15) and formatting.moment(None) == ""
+    assert formatting.moment(86400.0) == value_wording.clock(86400.0) == "1970-01-02 00:00:00Z"
+    assert formatting.moment(1e15) == value_wording.clock(1e15) and formatting.moment(None) == ""
     assert (
         log_format.Text("%(asctime)s %(message)s").format(record) == "1970-01-02 00:00:00.007Z said"
     )
@@ -931,32 +945,32 @@ def test_rows_that_differ_from_the_events(
     """The audit names each saga and each attempt whose rows differ; a value is only in the rows."""
     if path.startswith("postgresql:"):
         return
-    for place, (statement, told) in enumerate(FORGED.items()):
-        copy = tmp_path / f"{place}.db"
+    for number, (statement, differences) in enumerate(FORGED.items()):
+        copy = tmp_path / f"{number}.db"
         with contextlib.closing(sqlite3.connect(path)) as source, contextlib.closing(
             sqlite3.connect(copy)
         ) as forged:
             source.backup(forged)
             forged.execute(statement)
             forged.commit()
-        (log,) = (forger := Shell(copy, capsys)).json("audit", status=1 if told else 0)
-        assert log["differences"] == told and log["audit"].startswith("yes"), statement
-        assert forger("audit", status=1 if told else 0).splitlines()[2:] == [
-            f"shard 0: {line}" for line in told
+        (log,) = (forger := Shell(copy, capsys)).json("audit", status=1 if differences else 0)
+        assert log["differences"] == differences and log["audit"].startswith("yes"), statement
+        assert forger("audit", status=1 if differences else 0).splitlines()[2:] == [
+            f"shard 0: {line}" for line in differences
         ]
 
 
-def test_an_audit_of_what_is_being_written(place: str) -> None:
+def test_an_audit_of_what_is_being_written(location: str) -> None:
     """Rows and events are of the same moment, at each of them."""
     kind = shop()
 
     def differences() -> list[audits.Judged]:
-        with Snapshot(place) as store:
+        with Snapshot(location) as store:
             judged = [audits.judge(store, log) for log, _, _ in store.rows(audits.SHARDS)]
         return [one for one in judged if not one.is_good]
 
     async def main() -> None:
-        async with sagas.open(place, [kind]) as store:
+        async with sagas.open(location, [kind]) as store:
             work = asyncio.gather(
                 *(
                     ended(store, kind, f"k{number}", "fails" if number % 3 else None)

@@ -24,12 +24,12 @@ class Clients:
     """An object that functions share; it notes each use."""
 
     def __init__(self) -> None:
-        self.told: list[str] = []
+        self.uses: list[str] = []
         self.is_open = True
 
     def use(self, task: Task) -> None:
         assert self.is_open
-        self.told.append(f"{task.step}{' undo' if task.is_compensation else ''}")
+        self.uses.append(f"{task.step}{' undo' if task.is_compensation else ''}")
 
 
 def shop(inside: bool) -> sagas.Saga:
@@ -101,65 +101,65 @@ def factories(clients: Clients) -> dict[str, Any]:
 
 
 @pytest.mark.parametrize("form", ["object", "async", "plain", "class"])
-def test_each_function_gets_it_and_it_is_left_behind_the_last(place: str, form: str) -> None:
+def test_each_function_gets_it_and_it_is_left_behind_the_last(location: str, form: str) -> None:
     """However it is called: plain, in a thread, in its time, in a transaction, as a
     compensation.
     """
     clients = Clients()
-    saga, context = shop(inside=place.startswith("postgresql")), factories(clients)[form]
+    saga, context = shop(inside=location.startswith("postgresql")), factories(clients)[form]
 
     async def main() -> None:
-        async with sagas.open(place, [saga], context=context) as store:
+        async with sagas.open(location, [saga], context=context) as store:
             assert (await ended(store, saga)).phase == "recovered"
             assert clients.is_open
         assert clients.is_open is (form == "object")
 
     run(main())
-    assert clients.told == USES
+    assert clients.uses == USES
     clients = Clients()
     trial = sagas.testing.run(
         saga if form == "object" else shop(False), context=factories(clients)[form]
     )
-    assert trial.phase == "recovered" and clients.told == USES
+    assert trial.phase == "recovered" and clients.uses == USES
 
 
-def test_a_store_without_async_opens_and_closes_it_in_one_task(place: str) -> None:
+def test_a_store_without_async_opens_and_closes_it_in_one_task(location: str) -> None:
     """Its calls come from other tasks of the loop; a task group would refuse that."""
     clients = Clients()
     saga = shop(inside=False)
-    with sagas.open_sync(place, [saga], context=factories(clients)["async"]) as store:
+    with sagas.open_sync(location, [saga], context=factories(clients)["async"]) as store:
         assert store.start(saga, "k").wait(60).phase == "recovered"
-    assert not clients.is_open and clients.told == USES
+    assert not clients.is_open and clients.uses == USES
 
 
-def test_it_is_made_anew_for_what_goes_on(place: str) -> None:
+def test_it_is_made_anew_for_what_goes_on(location: str) -> None:
     """It exists before the first function of a recovered saga is called, and while
     functions end.
     """
-    saga, told = sagas.Saga("again"), list[str]()
+    saga, steps = sagas.Saga("again"), list[str]()
 
     @contextlib.asynccontextmanager
     async def made() -> AsyncIterator[list[str]]:
-        told.append("enter")
-        yield told
-        told.append("leave")
+        steps.append("enter")
+        yield steps
+        steps.append("leave")
 
     @saga.step(tries=2, backoff=HOUR)
     async def slow(task: Task) -> None:
         task.context.append("begin")
-        await asyncio.sleep(0.05 if len(told) < 4 else 0)
+        await asyncio.sleep(0.05 if len(steps) < 4 else 0)
         task.context.append("end")
 
     async def main() -> None:
-        async with sagas.open(place, [saga], context=made) as store:
+        async with sagas.open(location, [saga], context=made) as store:
             await store.start(saga, "k")
-            await until(lambda: "begin" in told)
-        async with sagas.open(place, [saga], context=made) as store:
+            await until(lambda: "begin" in steps)
+        async with sagas.open(location, [saga], context=made) as store:
             await store.wait("k")
             await ended(store, saga, "again")
 
     run(main())
-    assert told == ["enter", "begin", "end", "leave", "enter", "begin", "end", "leave"]
+    assert steps == ["enter", "begin", "end", "leave", "enter", "begin", "end", "leave"]
 
 
 def bad_factories() -> dict[str, tuple[Callable[[], Any], type[Exception], str]]:
@@ -182,16 +182,16 @@ def bad_factories() -> dict[str, tuple[Callable[[], Any], type[Exception], str]]
 
 
 @pytest.mark.parametrize("what", bad_factories())
-def test_a_store_whose_context_cannot_be_entered_is_not_open(place: str, what: str) -> None:
+def test_a_store_whose_context_cannot_be_entered_is_not_open(location: str, what: str) -> None:
     """The error is the factory's own, and no process has the store afterwards."""
     factory, error, text = bad_factories()[what]
     saga = shop(inside=False)
 
     async def main() -> None:
         with pytest.raises(error, match=text):
-            async with sagas.open(place, [saga], context=factory):
+            async with sagas.open(location, [saga], context=factory):
                 raise AssertionError
-        async with sagas.open(place, [saga], context=Clients()) as store:
+        async with sagas.open(location, [saga], context=Clients()) as store:
             assert (await ended(store, saga)).phase == "recovered"
 
     run(main())
@@ -251,7 +251,7 @@ def test_a_worker_has_its_own(tmp_path: pathlib.Path) -> None:
         start(client, "one", "k")
         with working(worker):
             assert client.get("/v1/sagas/k/wait?seconds=60").json()["phase"] == "completed"
-    assert clients.told == ["a"] and not clients.is_open
+    assert clients.uses == ["a"] and not clients.is_open
     worker = sagas.Worker("http://127.0.0.1:1", context=factories(clients)["async"])
     worker.step("one", "a")(a)
     with pytest.raises(TypeError, match="a worker has no event loop"):

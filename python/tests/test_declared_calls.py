@@ -49,9 +49,9 @@ def quick() -> sagas.Saga:
 def shop(gate: Gate) -> list[sagas.Saga]:
     """Return a saga for each function that a definition can have."""
 
-    def one(name: str, fair_by: Any = None, **words: Any) -> sagas.Saga:
+    def one(name: str, fair_by: Any = None, **options: Any) -> sagas.Saga:
         saga = sagas.Saga(name, fair_by=fair_by)
-        saga.step(name="a", undo=0, **words)(nothing)
+        saga.step(name="a", undo=0, **options)(nothing)
         return saga
 
     waits, parent, outer = sagas.Saga("until"), sagas.Saga("child"), sagas.Saga("include")
@@ -72,13 +72,13 @@ def shop(gate: Gate) -> list[sagas.Saga]:
     ]
 
 
-def test_slow_functions_hold_up_nobody_else(place: str) -> None:
+def test_slow_functions_hold_up_nobody_else(location: str) -> None:
     """All of them wait at once, and other sagas continue."""
     gate, other = Gate(), quick()
     kid, *slow = shop(gate)
 
     async def main() -> None:
-        async with sagas.open(place, [other, kid, *slow]) as store:
+        async with sagas.open(location, [other, kid, *slow]) as store:
             starts = [asyncio.create_task(store.start(saga, saga.name, {})) for saga in slow]
             await until(lambda: len(gate.inside) == len(slow))
             for number in range(3):
@@ -129,14 +129,14 @@ def test_schedules_and_starts_of_clients(url: str) -> None:
 
 
 @pytest.mark.parametrize("timeout", [None, 0])
-def test_a_store_that_is_closed_meanwhile(place: str, timeout: float | None) -> None:
+def test_a_store_that_is_closed_meanwhile(location: str, timeout: float | None) -> None:
     """It waits for them, as it does for steps; a later program asks again."""
     gate, other = Gate(), quick()
     slow = {saga.name: saga for saga in shop(gate)}
     sagas_of = [other, *slow.values()]
 
     async def main() -> None:
-        async with sagas.open(place, sagas_of) as store:
+        async with sagas.open(location, sagas_of) as store:
             for name in ("until", "key", "child"):
                 await store.start(slow[name], name, {})
             start = asyncio.create_task(store.start(slow["when"], "when", {}))
@@ -150,7 +150,7 @@ def test_a_store_that_is_closed_meanwhile(place: str, timeout: float | None) -> 
             gate.opened.set()
             with pytest.raises(sagas.Closed):
                 await start
-        async with sagas.open(place, sagas_of) as store:
+        async with sagas.open(location, sagas_of) as store:
             for name in ("until", "key", "child"):
                 assert (await store.wait(name, timeout=60)).ok
             assert await store.get("when") is None
@@ -158,7 +158,7 @@ def test_a_store_that_is_closed_meanwhile(place: str, timeout: float | None) -> 
     run(main())
 
 
-def test_an_abort_meanwhile(place: str) -> None:
+def test_an_abort_meanwhile(location: str) -> None:
     """Their return values are not used, and no function of a step is called."""
     gate, other = Gate(), quick()
     slow = {saga.name: saga for saga in shop(gate)}
@@ -167,7 +167,7 @@ def test_an_abort_meanwhile(place: str) -> None:
         slow[name].steps[0].run.function = lambda task: called.append(task.key)
 
     async def main() -> None:
-        async with sagas.open(place, [other, *slow.values()]) as store:
+        async with sagas.open(location, [other, *slow.values()]) as store:
             for name in ("until", "key"):
                 await store.start(slow[name], name, {})
             await until(lambda: len(gate.inside) == 2)

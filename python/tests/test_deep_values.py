@@ -74,7 +74,7 @@ def test_the_limit() -> None:
         serialization.write_value(endless)
 
 
-def test_by_a_store(place: str) -> None:
+def test_by_a_store(location: str) -> None:
     """Inputs, schedules and reports are refused; a function's result is kept as unstorable."""
     saga = sagas.Saga("deep")
 
@@ -87,7 +87,7 @@ def test_by_a_store(place: str) -> None:
         ...
 
     async def main() -> None:
-        async with sagas.open(place, [saga]) as store:
+        async with sagas.open(location, [saga]) as store:
             for levels in LEVELS[:3]:
                 with pytest.raises(sagas.NotSerializable, match="input: it has more than 64"):
                     await store.start(saga, "k", value_of(levels))
@@ -130,8 +130,12 @@ def post(service: Served, path: str, text: str) -> tuple[int, str, str]:
     """Return the response to a JSON text: its status, the name of its problem and its detail."""
     with service.client() as client:
         answer = client.post(path, content=text, headers={"content-type": "application/json"})
-        told = answer.json()
-    return answer.status_code, error_of(answer) if "type" in told else "", told.get("detail", "")
+        problem = answer.json()
+    return (
+        answer.status_code,
+        error_of(answer) if "type" in problem else "",
+        problem.get("detail", ""),
+    )
 
 
 @pytest.mark.parametrize("levels", LEVELS)
@@ -168,7 +172,7 @@ def test_by_http(service: Served, levels: int) -> None:
         (task,) = take(client, "few/b")
         assert task["results"]["a"] == value_of(MOST_LEVELS)
         assert report(client, task).status_code == 200
-    assert '"level": "error"' not in service.told()
+    assert '"level": "error"' not in service.log_text()
 
 
 def test_by_a_form(service: Served) -> None:
@@ -209,18 +213,18 @@ def far() -> sagas.Saga:
     return saga
 
 
-def put(place: str, key: str, text: str) -> None:
+def put(location: str, key: str, text: str) -> None:
     """Store a value as an earlier release took it."""
-    if place.startswith("postgresql"):
-        with psycopg.connect(place.replace("app@", "owner@"), autocommit=True) as link:
+    if location.startswith("postgresql"):
+        with psycopg.connect(location.replace("app@", "owner@"), autocommit=True) as link:
             link.execute("UPDATE sagas.sagas SET input = %s WHERE key = %s", (text, key))
     else:
-        with contextlib.closing(sqlite3.connect(place)) as file, file:
+        with contextlib.closing(sqlite3.connect(location)) as file, file:
             file.execute("UPDATE sagas SET input = ? WHERE key = ?", (text, key))
 
 
 @pytest.mark.parametrize("levels", [600, 967])
-def test_what_is_stored_already(place: str, tmp_path: pathlib.Path, levels: int) -> None:
+def test_what_is_stored_already(location: str, tmp_path: pathlib.Path, levels: int) -> None:
     """A claim has the other tasks.
 
     The one that fits no reply needs an operator, at the node that executes its saga too, and can be
@@ -229,15 +233,15 @@ def test_what_is_stored_already(place: str, tmp_path: pathlib.Path, levels: int)
     saga = far()
 
     async def begun() -> None:
-        async with sagas.open(place, [saga], node="one") as store:
+        async with sagas.open(location, [saga], node="one") as store:
             for key in ("x", "deep", "y"):
                 await store.start(saga, key, {"key": key})
 
     run(begun())
-    put(place, "deep", nested(levels))
+    put(location, "deep", nested(levels))
     files = {"far.toml": saga.toml()}
     with served(
-        tmp_path, files, "--log", "json", store=place
+        tmp_path, files, "--log", "json", store=location
     ) as service, service.client() as client:
         done: set[str] = set()
         while len(done) < 2:
@@ -251,10 +255,10 @@ def test_what_is_stored_already(place: str, tmp_path: pathlib.Path, levels: int)
         assert [(one["key"], one["step"]) for one in answer] == [("deep", "a")]
         assert take(client, "far/a", wait=0, most=100) == []
         assert client.post("/v1/sagas/deep/steps/a/complete", json={"result": 1}).status_code == 200
-    with served(tmp_path, files, "--log", "json", store=place) as service:
+    with served(tmp_path, files, "--log", "json", store=location) as service:
         for path in ("wait", "log", "timeline", "picture.svg"):  # an answer may be as deep
             httpx.get(f"{service.url}/v1/sagas/deep/{path}", trust_env=False, timeout=LONG)
-    assert "RecursionError" not in service.told() and "Traceback" not in service.told()
+    assert "RecursionError" not in service.log_text() and "Traceback" not in service.log_text()
 
 
 def test_a_claim_at_another_node(url: str, tmp_path: pathlib.Path) -> None:
@@ -270,9 +274,9 @@ def test_a_claim_at_another_node(url: str, tmp_path: pathlib.Path) -> None:
                 put(url, "deep", nested(967))
                 (task,) = take(there, "far/a", most=100)
                 assert task["key"] == "x"
-                while not (found := here.get("/v1/attention").json()["entries"]):
+                while not (entries := here.get("/v1/attention").json()["entries"]):
                     assert there.get("/health/live").status_code == 200
-                assert [(entry["key"], entry["kind"]) for entry in found] == [
+                assert [(entry["key"], entry["kind"]) for entry in entries] == [
                     ("deep", "cannot_decode")
                 ]
                 assert take(there, "far/a", wait=0, most=100) == []

@@ -489,7 +489,7 @@ def chained(receipt: Any = ..., behind: bool = True) -> tuple[sagas.Saga, list[s
     saga, undone = sagas.Saga("order"), list[str]()
     charge = saga.step(name="charge")(lambda task: None)
     charge.compensation(lambda task: undone.append(task.step))
-    said = saga.step(
+    receipt_step = saga.step(
         name="receipt", needs=[charge], **({} if receipt is ... else {"undo": receipt})
     )(lambda task: None)
 
@@ -497,11 +497,11 @@ def chained(receipt: Any = ..., behind: bool = True) -> tuple[sagas.Saga, list[s
         raise sagas.Fail("no such address")
 
     if behind:
-        saga.step(name="send", needs=[said])(send)
+        saga.step(name="send", needs=[receipt_step])(send)
     return saga, undone
 
 
-def test_nothing_to_undo(place: str) -> None:
+def test_nothing_to_undo(location: str) -> None:
     """A step without a compensation keeps the steps that it needs from being undone; with `undo=0`
     it is undone by doing nothing.
     """
@@ -509,14 +509,14 @@ def test_nothing_to_undo(place: str) -> None:
     gone[0].name = "gone"
 
     async def main() -> tuple[sagas.SagaResult, sagas.SagaResult, str, list[str | None]]:
-        async with sagas.open(place, [kept, gone[0]]) as store:
+        async with sagas.open(location, [kept, gone[0]]) as store:
             ends = await ended(store, kept, "kept"), await ended(store, gone[0], "gone")
             plans = await store.plan("kept"), await store.plan("gone")
             assert plans[0] and plans[1]
             return *ends, str(plans[0]), [choice.needed_by for choice in plans[1].choices]
 
-    one, other, told, needed = run(main())
-    assert told.splitlines()[2:] == [
+    one, other, warning, needed = run(main())
+    assert warning.splitlines()[2:] == [
         "  charge   committed             0             0  stands: receipt needs it",
         "  receipt  committed             0         never  stands",
         "  send     failed            never             0  is left out",
@@ -565,8 +565,8 @@ def test_what_keeps_others_is_told_once() -> None:
     hire.compensation(lambda task: None)
     saga.step(name="mail", needs=["send", hire])(lambda task: None)
     saga.step(name="beside")(lambda task: None)
-    told = [warning.split("step ", 1)[1].partition("; say")[0] for warning in saga.warnings()]
-    assert told == [
+    causes = [warning.split("step ", 1)[1].partition("; say")[0] for warning in saga.warnings()]
+    assert causes == [
         (
             "'receipt' has no compensation, so 'charge', which it needs, can never be undone after"
             " it commits. Set undo=0 if there is nothing to undo, or undo=NEVER to confirm"
@@ -767,10 +767,10 @@ def test_types_are_seen(tmp_path: pathlib.Path) -> None:
     """
     path = tmp_path / "typed.py"
     path.write_text(textwrap.dedent(TYPED))
-    words = ["mypy", "--strict", "--cache-dir", types_in(tmp_path), str(path)]
+    arguments = ["mypy", "--strict", "--cache-dir", types_in(tmp_path), str(path)]
     try:
         done = subprocess.run(
-            words,
+            arguments,
             capture_output=True,
             text=True,
             env={"MYPYPATH": str(HERE.parent / "src"), "PATH": "/usr/bin:/bin"},
@@ -778,10 +778,10 @@ def test_types_are_seen(tmp_path: pathlib.Path) -> None:
         )
     except FileNotFoundError:
         done = subprocess.run(
-            [sys.executable, "-m", *words], capture_output=True, text=True, check=False
+            [sys.executable, "-m", *arguments], capture_output=True, text=True, check=False
         )
-    told = [line for line in done.stdout.splitlines() if line.startswith(str(path))]
+    lines = [line for line in done.stdout.splitlines() if line.startswith(str(path))]
     assert ['"builtins.str"', '"builtins.int"'] == [
-        line.split("Revealed type is ")[1] for line in told if "Revealed" in line
+        line.split("Revealed type is ")[1] for line in lines if "Revealed" in line
     ], done.stdout
-    assert len(told) == 2, done.stdout
+    assert len(lines) == 2, done.stdout

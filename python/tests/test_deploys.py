@@ -29,9 +29,9 @@ def waiting(url: str) -> list[str]:
         return [key for (key,) in rows]
 
 
-def nodes(url: str, capsys: pytest.CaptureFixture[str], *words: str) -> str:
+def nodes(url: str, capsys: pytest.CaptureFixture[str], *arguments: str) -> str:
     """Return the command's output about nodes."""
-    assert store_command.main([url, "nodes", *words]) == 0
+    assert store_command.main([url, "nodes", *arguments]) == 0
     return capsys.readouterr().out
 
 
@@ -46,9 +46,9 @@ def test_a_step_is_added(url: str, capsys: pytest.CaptureFixture[str], plain: bo
         if plain:
             with sagas.SyncClient(url) as other:
                 await asyncio.to_thread(other.start, new, "k", 1)
-            found = await client.get("k")
-            assert found
-            return found
+            run = await client.get("k")
+            assert run
+            return run
         return await client.start(new, "k", 1)
 
     async def main() -> None:
@@ -56,10 +56,12 @@ def test_a_step_is_added(url: str, capsys: pytest.CaptureFixture[str], plain: bo
             going = await started(client)
             assert (await (await client.start(old, "before", 1)).wait()).ok  # the node has looked
             assert waiting(url) == ["k"]
-            with pytest.raises(TimeoutError) as told:
+            with pytest.raises(TimeoutError) as error:
                 await going.wait(0.01)
-            said = "no node has its definition of saga 'pair' (version 1): node old has other steps"
-            assert said in str(told.value)
+            message = (
+                "no node has its definition of saga 'pair' (version 1): node old has other steps"
+            )
+            assert message in str(error.value)
             text = await asyncio.to_thread(nodes, url, capsys)
             assert "a node with this definition: old has another one" in text
             text = await asyncio.to_thread(nodes, url, capsys, "--json")
@@ -68,11 +70,11 @@ def test_a_step_is_added(url: str, capsys: pytest.CaptureFixture[str], plain: bo
             async with sagas.open(url, [new], node="new"):
                 assert (await going.wait(60)).states == dict.fromkeys("abc", "committed")
 
-    async def beside() -> None:
+    async def newer_node() -> None:
         async with sagas.open(url, [old], node="old"):
             await main()
 
-    run(beside())
+    run(newer_node())
 
 
 def test_a_start_of_an_older_client(url: str, capsys: pytest.CaptureFixture[str]) -> None:

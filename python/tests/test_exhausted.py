@@ -53,7 +53,7 @@ class Notes:
         return self.path.read_text().splitlines() if self.path.exists() else []
 
 
-def order(notes: Notes, **words: Any) -> sagas.Saga:
+def order(notes: Notes, **options: Any) -> sagas.Saga:
     """Return a saga that charges and sends, with defaults; the send fails, and then the refund."""
     order = sagas.Saga("order")
 
@@ -61,7 +61,7 @@ def order(notes: Notes, **words: Any) -> sagas.Saga:
     def charge(task: Task) -> int:
         return 40
 
-    @charge.compensation(backoff=QUICK, **words)
+    @charge.compensation(backoff=QUICK, **options)
     def refund(task: Task) -> None:
         notes.called(task)
 
@@ -72,11 +72,11 @@ def order(notes: Notes, **words: Any) -> sagas.Saga:
     return order
 
 
-def alone(notes: Notes, **words: Any) -> sagas.Saga:
+def alone(notes: Notes, **options: Any) -> sagas.Saga:
     """Return a saga of one step, which fails as long as it is broken."""
     saga = sagas.Saga("alone")
 
-    @saga.step(name="a", backoff=words.pop("backoff", QUICK), undo=0, **words)
+    @saga.step(name="a", backoff=options.pop("backoff", QUICK), undo=0, **options)
     def call(task: Task) -> str:
         notes.called(task)
         return "done"
@@ -84,14 +84,14 @@ def alone(notes: Notes, **words: Any) -> sagas.Saga:
     return saga
 
 
-def killed(place: str, kind: sagas.Saga, keys: list[str]) -> None:
+def killed(location: str, kind: sagas.Saga, keys: list[str]) -> None:
     """Start sagas in a process that one of their functions kills."""
     child = os.fork()
     if child == 0:
         try:
 
             async def main() -> None:
-                async with sagas.open(place, [kind], node="one", lease=2) as store:
+                async with sagas.open(location, [kind], node="one", lease=2) as store:
                     await asyncio.gather(*(ended(store, kind, key) for key in keys))
 
             asyncio.run(main())
@@ -100,27 +100,27 @@ def killed(place: str, kind: sagas.Saga, keys: list[str]) -> None:
     assert os.waitstatus_to_exitcode(os.waitpid(child, 0)[1]) == -signal.SIGKILL
 
 
-async def asked(store: sagas.Store) -> list[sagas.Attention]:
+async def exhausted_attempts(store: sagas.Store) -> list[sagas.Attention]:
     """Return the attempts that need an operator."""
     return [one for one in await store.attention() if one.why is ASKS]
 
 
 def opened(
-    place: str, kind: sagas.Saga, hook: Callable[[sagas.Event], object] | None = None
+    location: str, kind: sagas.Saga, hook: Callable[[sagas.Event], object] | None = None
 ) -> Any:
     """Open the next program: by its name it has its shards at once, and a case may block
     its loop.
     """
-    return sagas.open(place, [kind], node="one", lease=60, on_event=hook)
+    return sagas.open(location, [kind], node="one", lease=60, on_event=hook)
 
 
 @pytest.mark.parametrize(
-    "place, answer, strike",
+    "location, answer, strike",
     pairs(PLACES, ("retry", "complete", "fail"), (1, 0)),
-    indirect=["place"],
+    indirect=["location"],
 )
 def test_a_refund_that_fails_asks(
-    place: str, tmp_path: pathlib.Path, answer: str, strike: int
+    location: str, tmp_path: pathlib.Path, answer: str, strike: int
 ) -> None:
     """With defaults, it is in the inbox and reported, also if the program was killed during the
     call. A restart does not call it again; one answer counts, and the same answer again is one.
@@ -129,22 +129,22 @@ def test_a_refund_that_fails_asks(
     notes.strike = strike
     kind = order(notes)
     if strike:
-        killed(place, kind, ["k"])
+        killed(location, kind, ["k"])
     notes.strike = 0
 
     async def first() -> None:
-        async with opened(place, kind, lambda one: events.append(one.name)) as store:
+        async with opened(location, kind, lambda one: events.append(one.name)) as store:
             await store.start(kind, "k")
-            (one,) = await until(lambda: asked(store))
-            told = (one.key, one.saga, one.step, one.undo, one.detail)
-            assert told == ("k", "order", "charge", True, "RuntimeError: the bank is closed")
+            (one,) = await until(lambda: exhausted_attempts(store))
+            entry = (one.key, one.saga, one.step, one.undo, one.detail)
+            assert entry == ("k", "order", "charge", True, "RuntimeError: the bank is closed")
             with pytest.raises(TimeoutError, match="retry, complete or fail with undo=True"):
                 await store.wait("k", 0.05)
 
     async def second() -> None:
-        async with opened(place, kind) as store:
+        async with opened(location, kind) as store:
             count = len(notes.lines)
-            (one,) = await until(lambda: asked(store))
+            (one,) = await until(lambda: exhausted_attempts(store))
             with pytest.raises(sagas.StepNotWaiting, match="'send' is not to be retried"):
                 await store.retry("k", "send")
             assert len(notes.lines) == count
@@ -159,7 +159,7 @@ def test_a_refund_that_fails_asks(
             end = await store.wait("k", 60)
             assert end.states["charge"] == ("undo_failed" if answer == "fail" else "undone")
             assert len(notes.lines) == count + (answer == "retry")
-            assert not await asked(store)
+            assert not await exhausted_attempts(store)
             with pytest.raises(sagas.StepNotWaiting):
                 await store.retry("k", "charge", undo=True)
 
@@ -169,7 +169,7 @@ def test_a_refund_that_fails_asks(
     assert len({line.split()[0] for line in notes.lines}) == 1
 
 
-def test_a_step_asks_where_it_says_so(place: str, tmp_path: pathlib.Path) -> None:
+def test_a_step_asks_where_it_says_so(location: str, tmp_path: pathlib.Path) -> None:
     """Each waits by itself, and is answered by itself or with all of a filter.
 
     `Fail` asks no operator; an attempt whose saga is aborted has failed.
@@ -179,10 +179,10 @@ def test_a_step_asks_where_it_says_so(place: str, tmp_path: pathlib.Path) -> Non
     keys = ["a", "b", "c", "d"]
 
     async def main() -> None:
-        async with opened(place, kind) as store:
+        async with opened(location, kind) as store:
 
             async def counted(count: int) -> bool:
-                return len(await asked(store)) == count
+                return len(await exhausted_attempts(store)) == count
 
             runs = [await store.start(kind, key) for key in keys]
             await until(lambda: counted(4))
@@ -201,7 +201,7 @@ def test_a_step_asks_where_it_says_so(place: str, tmp_path: pathlib.Path) -> Non
     run(main())
 
 
-def test_a_step_that_asks_is_not_failed_by_another(place: str, tmp_path: pathlib.Path) -> None:
+def test_a_step_that_asks_is_not_failed_by_another(location: str, tmp_path: pathlib.Path) -> None:
     """An operator was asked, and may do it by hand: its effect is undone.
 
     A step that is retried automatically has failed.
@@ -214,13 +214,15 @@ def test_a_step_that_asks_is_not_failed_by_another(place: str, tmp_path: pathlib
     kind.step(name="other", external=True, undo=sagas.NEVER)
 
     async def main() -> None:
-        async with opened(place, kind) as store:
+        async with opened(location, kind) as store:
             await store.start(kind, "k")
-            await until(lambda: asked(store))
+            await until(lambda: exhausted_attempts(store))
             await until(lambda: len(notes.lines) == 3)
             await store.fail("k", "other", "full")
-        async with opened(place, kind) as store:
-            assert [entry.step for entry in await until(lambda: asked(store))] == ["asks"]
+        async with opened(location, kind) as store:
+            assert [entry.step for entry in await until(lambda: exhausted_attempts(store))] == [
+                "asks"
+            ]
             await store.complete("k", "asks", "by hand")
             end = await store.wait("k", 60)
             assert end.states == {"asks": "undone", "repeats": "failed", "other": "failed"}
@@ -229,7 +231,7 @@ def test_a_step_that_asks_is_not_failed_by_another(place: str, tmp_path: pathlib
     run(main())
 
 
-def test_a_limit_counts_the_steps_that_are_meant(place: str) -> None:
+def test_a_limit_counts_the_steps_that_are_meant(location: str) -> None:
     """Other steps that have waited longer do not count."""
     kind, opens = sagas.Saga("two"), set[str]()
 
@@ -241,23 +243,23 @@ def test_a_limit_counts_the_steps_that_are_meant(place: str) -> None:
     kind.step(once, name="b", needs=[first], on_exhausted="ask", backoff=QUICK)
 
     async def main() -> None:
-        async with opened(place, kind) as store:
+        async with opened(location, kind) as store:
             await store.start(kind, "older")
-            (one,) = await until(lambda: asked(store))
+            (one,) = await until(lambda: exhausted_attempts(store))
             opens.add("a")
             run = await store.start(kind, "newer")
-            await until(lambda: told(store, 2))
+            await until(lambda: has_count(store, 2))
             opens.add("b")
             assert await store.retry_all(step="b", limit=1) == 1
-            assert (await run.wait()).ok and [one] == await asked(store)
+            assert (await run.wait()).ok and [one] == await exhausted_attempts(store)
 
-    async def told(store: sagas.Store, count: int) -> bool:
-        return len(await asked(store)) == count
+    async def has_count(store: sagas.Store, count: int) -> bool:
+        return len(await exhausted_attempts(store)) == count
 
     run(main())
 
 
-def test_how_often_it_failed(place: str, capsys: pytest.CaptureFixture[str]) -> None:
+def test_how_often_it_failed(location: str, capsys: pytest.CaptureFixture[str]) -> None:
     """Each failure is counted, and none of those before an operator's retry."""
     kind, pauses = sagas.Saga("often"), iter((0.01, 3600.0, 3600.0))
 
@@ -266,11 +268,11 @@ def test_how_often_it_failed(place: str, capsys: pytest.CaptureFixture[str]) -> 
         raise sagas.RetryAfter(next(pauses))
 
     def has_failed(times: str) -> bool:
-        assert store_command.main([place, "show", "k"]) == 0
+        assert store_command.main([location, "show", "k"]) == 0
         return f"its next attempt: it failed ({times})" in capsys.readouterr().out
 
     async def main() -> None:
-        async with opened(place, kind) as store:
+        async with opened(location, kind) as store:
             await store.start(kind, "k")
             await until(lambda: has_failed("2 times"))
             await store.retry("k", "a")
@@ -281,7 +283,7 @@ def test_how_often_it_failed(place: str, capsys: pytest.CaptureFixture[str]) -> 
 
 @pytest.mark.parametrize("more", [{"max_attempts": 12}, {"on_exhausted": "retry"}])
 def test_more_attempts_than_a_definition_has(
-    place: str, tmp_path: pathlib.Path, more: dict[str, Any]
+    location: str, tmp_path: pathlib.Path, more: dict[str, Any]
 ) -> None:
     """They are counted over a kill.
 
@@ -291,11 +293,11 @@ def test_more_attempts_than_a_definition_has(
     notes = Notes(tmp_path)
     notes.strike = 6
     kind = alone(notes, tries=3, **more)
-    killed(place, kind, ["k"])
+    killed(location, kind, ["k"])
     notes.strike = 0
 
     async def main() -> None:
-        async with opened(place, kind) as store:
+        async with opened(location, kind) as store:
             started = await store.start(kind, "k")
             if "max_attempts" in more:
                 end = await started.wait(60)
@@ -309,7 +311,7 @@ def test_more_attempts_than_a_definition_has(
     assert {line.split()[1] for line in notes.lines} == {"1", "2", "3"}
 
 
-def test_a_function_says_when(place: str, tmp_path: pathlib.Path) -> None:
+def test_a_function_says_when(location: str, tmp_path: pathlib.Path) -> None:
     """`RetryAfter` precedes the back-off, in attempts of the definition and after them, and before
     one of an earlier program.
     """
@@ -324,7 +326,7 @@ def test_a_function_says_when(place: str, tmp_path: pathlib.Path) -> None:
         return len(seen)
 
     async def main(is_last: bool) -> None:
-        async with opened(place, saga) as store:
+        async with opened(location, saga) as store:
             started = await store.start(saga, "k")
             if is_last:
                 assert (await started.wait(60)).results == {"a": 4}
@@ -337,21 +339,21 @@ def test_a_function_says_when(place: str, tmp_path: pathlib.Path) -> None:
     assert seen == [1, 2, 2, 2] and str(sagas.RetryAfter(2)) == "in 2 s"
 
 
-def test_work_of_a_worker(place: str) -> None:
+def test_work_of_a_worker(location: str) -> None:
     """An external worker's failure also needs an operator, and is offered again."""
     saga = sagas.Saga("far")
     saga.step(name="a", external=True, undo=0, on_exhausted="ask")
     word = [("far", "a", "run")]
 
     async def main() -> None:
-        store = opened(place, saga)
+        store = opened(location, saga)
         store.leased = True
         async with store:
             started = await store.start(saga, "k")
             (task,) = await store.workers.claim(word, wait=30)
             assert await store.workers.report(task.attempt_id, task.lease, error="no")
             assert not await store.workers.report(task.attempt_id, task.lease, error="no")
-            await until(lambda: asked(store))
+            await until(lambda: exhausted_attempts(store))
             assert await store.workers.claim(word) == []
             await store.retry("k", "a")
             (again,) = await store.workers.claim(word, wait=30)
@@ -372,7 +374,7 @@ def test_from_elsewhere(url: str, tmp_path: pathlib.Path) -> None:
     async def main() -> None:
         async with opened(url, kind) as store, sagas.Client(url) as client:
             started = await store.start(kind, "k")
-            await until(lambda: asked(store))
+            await until(lambda: exhausted_attempts(store))
             assert [one.why for one in await client.attention()] == [ASKS]
             with pytest.raises(sagas.StepNotWaiting, match="no step 'b'"):
                 await client.retry("k", "b")
@@ -387,39 +389,45 @@ def test_from_elsewhere(url: str, tmp_path: pathlib.Path) -> None:
 
 def test_the_command(tmp_path: pathlib.Path, capsys: pytest.CaptureFixture[str]) -> None:
     """Waiting attempts are listed, and retried one by one or all of a name."""
-    notes, place = Notes(tmp_path), str(tmp_path / "store.db")
+    notes, location = Notes(tmp_path), str(tmp_path / "store.db")
     kind = alone(notes, on_exhausted="ask")
 
-    def said(*words: str) -> str:
-        assert store_command.main([place, *words]) == 0
+    def run_command(*arguments: str) -> str:
+        assert store_command.main([location, *arguments]) == 0
         return capsys.readouterr().out
 
     async def main() -> None:
-        async with opened(place, kind) as store:
+        async with opened(location, kind) as store:
             runs = [await store.start(kind, key) for key in ("a", "b")]
 
-            async def are_asked() -> bool:
-                return len(await asked(store)) == 2
+            async def are_waiting() -> bool:
+                return len(await exhausted_attempts(store)) == 2
 
-            await until(are_asked)
-            assert "attempts used up" in said("attention") and "a person: its" in said("pending")
-            assert '"exhausted"' in said("pending", "--json")
+            await until(are_waiting)
+            assert "attempts used up" in run_command(
+                "attention"
+            ) and "a person: its" in run_command("pending")
+            assert '"exhausted"' in run_command("pending", "--json")
             notes.broken.unlink()
-            done = await asyncio.to_thread(said, "retry", "a", "a")
+            done = await asyncio.to_thread(run_command, "retry", "a", "a")
             assert done == "a: a is attempted again\n" and (await runs[0].wait()).ok
             every = "retry", "--all", "--saga", "alone"
-            assert said(*every) == "1 step: --yes retries it\n" == said(*every, "--step", "a")
             assert (
-                said(*every, "--step", "b")
-                == said("retry", "--all", "--label", "x=1")
+                run_command(*every)
+                == "1 step: --yes retries it\n"
+                == run_command(*every, "--step", "a")
+            )
+            assert (
+                run_command(*every, "--step", "b")
+                == run_command("retry", "--all", "--label", "x=1")
                 == "0 steps\n"
             )
-            done = await asyncio.to_thread(said, *every, "--yes")
+            done = await asyncio.to_thread(run_command, *every, "--yes")
             assert done == "b: a is attempted again\n" and (await runs[1].wait()).ok
-            assert await asyncio.to_thread(said, "retry", "--all", "--yes") == ""
+            assert await asyncio.to_thread(run_command, "retry", "--all", "--yes") == ""
 
     run(main())
-    for words in (
+    for arguments in (
         ["retry"],
         ["retry", "a"],
         ["retry", "a", "a", "--all"],
@@ -431,69 +439,88 @@ def test_the_command(tmp_path: pathlib.Path, capsys: pytest.CaptureFixture[str])
         ["fail", "--all"],
         ["fail", "a", "a", "no", "--error", "no"],
     ):
-        assert store_command.main([place, *words]) == 2
+        assert store_command.main([location, *arguments]) == 2
 
 
-def all_asked(place: str, count: int) -> None:
+def wait_for_commands(location: str, count: int) -> None:
     """Wait, in the thread of the program, until this many commands are in the store."""
     end = time.monotonic() + 60
-    with contextlib.closing(admin.connect(place)) as link:
+    with contextlib.closing(admin.connect(location)) as link:
         while link.ask("SELECT count(*) FROM operator_commands WHERE answer IS NULL") != [(count,)]:
             assert time.monotonic() < end, "they are not asked at once"
             time.sleep(0.01)
 
 
 def test_the_command_reports_all(
-    place: str, tmp_path: pathlib.Path, capsys: pytest.CaptureFixture[str]
+    location: str, tmp_path: pathlib.Path, capsys: pytest.CaptureFixture[str]
 ) -> None:
     """A count comes first; then each attempt of the filter has the result, or has failed."""
     notes = Notes(tmp_path)
-    kind, lots = alone(notes, on_exhausted="ask"), {"x": "done", "y": "failed", "z": "left"}
+    kind, outcomes = alone(notes, on_exhausted="ask"), {"x": "done", "y": "failed", "z": "left"}
 
-    def said(*words: str) -> str:
-        assert store_command.main([place, *words]) == 0
+    def run_command(*arguments: str) -> str:
+        assert store_command.main([location, *arguments]) == 0
         return capsys.readouterr().out
 
     async def main() -> None:
-        async with opened(place, kind) as store:
+        async with opened(location, kind) as store:
             runs = {
-                f"{lot}-{number}": await store.start(kind, f"{lot}-{number}", labels={"lot": lot})
-                for lot in lots
+                f"{outcome}-{number}": await store.start(
+                    kind, f"{outcome}-{number}", labels={"lot": outcome}
+                )
+                for outcome in outcomes
                 for number in range(2)
             }
 
-            async def are_asked() -> bool:
-                return len(await asked(store)) == 6
+            async def are_waiting() -> bool:
+                return len(await exhausted_attempts(store)) == 6
 
-            await until(are_asked)
+            await until(are_waiting)
             done = "complete", "--all", "--label", "lot=x", "--result", "7"
-            assert said(*done) == "2 steps: --yes completes them\n"
-            assert json.loads(said(*done, "--json")) == {"count": 2}
+            assert run_command(*done) == "2 steps: --yes completes them\n"
+            assert json.loads(run_command(*done, "--json")) == {"count": 2}
             failed = "fail", "--all", "--label", "lot=y", "--error", "it is down"
-            assert said(*failed) == "2 steps: --yes fails them\n" and len(await asked(store)) == 6
-            words = [*done, "--yes", "--note", "seen", "--timeout", "60"]
-            job = asyncio.create_task(asyncio.to_thread(said, *words))
+            assert (
+                run_command(*failed) == "2 steps: --yes fails them\n"
+                and len(await exhausted_attempts(store)) == 6
+            )
+            arguments = [*done, "--yes", "--note", "seen", "--timeout", "60"]
+            job = asyncio.create_task(asyncio.to_thread(run_command, *arguments))
             await asyncio.sleep(0)
             # while no command here can be answered: no step waits for another one's answer
-            all_asked(place, 2)
+            wait_for_commands(location, 2)
             assert sorted((await job).splitlines()) == ["x-0: a succeeded", "x-1: a succeeded"]
-            told = json.loads(await asyncio.to_thread(said, *failed, "--yes", "--json"))
+            failed_reports = json.loads(
+                await asyncio.to_thread(run_command, *failed, "--yes", "--json")
+            )
             entry = {"step": "a", "kind": "run", "asked": "fail", "answer": True}
-            assert sorted(told, key=lambda one: one["key"]) == [
+            assert sorted(failed_reports, key=lambda one: one["key"]) == [
                 {"key": key} | entry for key in ("y-0", "y-1")
             ]
-            assert json.loads(await asyncio.to_thread(said, *failed, "--yes", "--json")) == []
+            assert (
+                json.loads(await asyncio.to_thread(run_command, *failed, "--yes", "--json")) == []
+            )
             for number in range(2):
                 assert (await runs[f"x-{number}"].wait()).results == {"a": 7}
                 assert (await runs[f"y-{number}"].wait()).errors == {"a": "it is down"}
-            assert sorted({one.key for one in await asked(store)}) == ["z-0", "z-1"]
+            assert sorted({one.key for one in await exhausted_attempts(store)}) == ["z-0", "z-1"]
             rest = ["--all", "--yes", "--json", "--timeout", "60"]
-            job = asyncio.create_task(asyncio.to_thread(said, "complete", *rest))
+            job = asyncio.create_task(asyncio.to_thread(run_command, "complete", *rest))
             await asyncio.sleep(0)
-            all_asked(place, 2)
-            words = [sys.executable, "-m", "sagas", "store", place, "fail", *rest, "--error", "no"]
-            with subprocess.Popen(words, stdout=subprocess.PIPE, env=environment()) as late:
-                all_asked(place, 4)
+            wait_for_commands(location, 2)
+            arguments = [
+                sys.executable,
+                "-m",
+                "sagas",
+                "store",
+                location,
+                "fail",
+                *rest,
+                "--error",
+                "no",
+            ]
+            with subprocess.Popen(arguments, stdout=subprocess.PIPE, env=environment()) as late:
+                wait_for_commands(location, 4)
                 answers = [one["answer"] for one in json.loads(await job)]
                 out = await asyncio.to_thread(late.communicate)
             refused = [one["answer"] for one in json.loads(out[0])]
@@ -529,7 +556,7 @@ def test_in_a_simulation() -> None:
 
 
 @pytest.mark.parametrize(
-    ("words", "told"),
+    ("options", "message"),
     [
         (
             {"on_exhausted": "again"},
@@ -543,6 +570,6 @@ def test_in_a_simulation() -> None:
         ),
     ],
 )
-def test_wrong_words(words: dict[str, Any], told: str, tmp_path: pathlib.Path) -> None:
-    with pytest.raises(sagas.DefinitionError, match=told):
-        alone(Notes(tmp_path), **words)
+def test_wrong_words(options: dict[str, Any], message: str, tmp_path: pathlib.Path) -> None:
+    with pytest.raises(sagas.DefinitionError, match=message):
+        alone(Notes(tmp_path), **options)

@@ -28,10 +28,10 @@ def test_each_has_the_same_time() -> None:
     for number in range(20):
         queue.put("other", f"o{number}")
     for _ in range(40):
-        found = queue.take()
-        assert found and queue.take() is None
-        order.append(found[0])
-        done(queue, found[0], 1.0 if found[0] == "evil" else 0.1)
+        piece = queue.take()
+        assert piece and queue.take() is None
+        order.append(piece[0])
+        done(queue, piece[0], 1.0 if piece[0] == "evil" else 0.1)
     assert order.count("other") == 20 and order.index("other") <= 1
     assert "evil" in order[3:15]  # and it is not starved either
 
@@ -45,12 +45,12 @@ def test_who_takes_long_leaves_a_thread() -> None:
     for _ in range(10):
         queue.put("evil", "e")
         queue.put("quick", "q")
-    taken = [found[0] for _ in range(3) if (found := queue.take())]
+    taken = [piece[0] for _ in range(3) if (piece := queue.take())]
     for name in taken:
         done(queue, name, 1.0 if name == "evil" else LONG / 100)
-    while (found := queue.take()) and found[0] == "quick":
+    while (piece := queue.take()) and piece[0] == "quick":
         done(queue, "quick", LONG / 100)
-    assert found and found[0] == "evil"  # no other caller is left
+    assert piece and piece[0] == "evil"  # no other caller is left
     assert queue.take() and queue.take() is None
     queue.put("other", "o")
     assert queue.take() == ("other", "o")
@@ -88,8 +88,8 @@ def test_all_is_done_in_order(jobs: list[tuple[str, float]], threads: int) -> No
     running: list[tuple[str, float]] = []
     order: dict[str, list[int]] = {}
     while True:
-        while found := queue.take():
-            name, (number, seconds) = found
+        while piece := queue.take():
+            name, (number, seconds) = piece
             order.setdefault(name, []).append(number)
             running.append((name, seconds))
         assert len(running) <= threads
@@ -130,8 +130,10 @@ def test_a_pool() -> None:
         may.set()
         assert await other == "o"
         assert len(order) <= 4
-        found = await asyncio.gather(*evil, raises, gone, return_exceptions=True)
-        assert isinstance(found[-2], ValueError) and isinstance(found[-1], asyncio.CancelledError)
+        results = await asyncio.gather(*evil, raises, gone, return_exceptions=True)
+        assert isinstance(results[-2], ValueError) and isinstance(
+            results[-1], asyncio.CancelledError
+        )
         assert "gone" not in order
         pool.close()
 

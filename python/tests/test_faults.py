@@ -51,7 +51,7 @@ from sagas.storage.sqlite import store_file, writer
 HERE = pathlib.Path(__file__).resolve().parent
 
 
-def script(path: pathlib.Path, text: str, *words: str) -> subprocess.Popen[str]:
+def script(path: pathlib.Path, text: str, *arguments: str) -> subprocess.Popen[str]:
     """Start a Python program, with the package and the tests in its path."""
     path.write_text(textwrap.dedent(text))
     environment = os.environ | {
@@ -59,14 +59,14 @@ def script(path: pathlib.Path, text: str, *words: str) -> subprocess.Popen[str]:
         "SAGAS_PROGRAM": program(),
     }
     return subprocess.Popen(
-        [sys.executable, "-u", str(path), *words],
+        [sys.executable, "-u", str(path), *arguments],
         stdout=subprocess.PIPE,
         text=True,
         env=environment,
     )
 
 
-def test_is_killed_with_the_program(tmp_path: pathlib.Path, place: str) -> None:
+def test_is_killed_with_the_program(tmp_path: pathlib.Path, location: str) -> None:
     """Running attempts run again with the same token, finished ones do not, and acknowledged ones
     exist.
     """
@@ -84,7 +84,7 @@ def test_is_killed_with_the_program(tmp_path: pathlib.Path, place: str) -> None:
                 os.kill(os.getpid(), signal.SIGKILL)
             return task.result_of(a) + 1
         async def main():
-            async with sagas.open({place!r}, [saga], node="one") as store:
+            async with sagas.open({location!r}, [saga], node="one") as store:
                 run = await store.start(saga, key="k", input="once")
                 print("started")
                 print((await run.wait()).results)
@@ -92,11 +92,11 @@ def test_is_killed_with_the_program(tmp_path: pathlib.Path, place: str) -> None:
     """
     first, _ = script(tmp_path / "first.py", program, "kill").communicate(timeout=60)
     then, _ = script(tmp_path / "then.py", program).communicate(timeout=60)
-    told = [line.split() for line in first.splitlines()]
-    assert sorted(told)[-1] == ["started"] and [
-        line[0] for line in told if line != ["started"]
+    printed = [line.split() for line in first.splitlines()]
+    assert sorted(printed)[-1] == ["started"] and [
+        line[0] for line in printed if line != ["started"]
     ] == ["a", "b"]
-    b = next(" ".join(line) for line in told if line[0] == "b")
+    b = next(" ".join(line) for line in printed if line[0] == "b")
     assert sorted(then.splitlines()) == sorted([b, "started", "{'a': 1, 'b': 2}"])
 
 
@@ -119,9 +119,9 @@ def test_serves_without_async_until_it_is_told_to_end(tmp_path: pathlib.Path) ->
         print("is closed", signal.getsignal(signal.SIGTERM) is signal.SIG_DFL)
     """
     process = script(tmp_path / "serves.py", program)
-    told, _ = process.communicate(timeout=60)
+    output, _ = process.communicate(timeout=60)
     assert (
-        told.splitlines() == ["serves no more", "a has ended", "is closed True"]
+        output.splitlines() == ["serves no more", "a has ended", "is closed True"]
         and process.returncode == 0
     )
 
@@ -262,7 +262,7 @@ def test_a_store_that_is_cut(tmp_path: pathlib.Path, capsys: pytest.CaptureFixtu
             assert f"{path}: " in capsys.readouterr().err
 
 
-def test_a_log_handler_raises(place: str, capsys: pytest.CaptureFixture[str]) -> None:
+def test_a_log_handler_raises(location: str, capsys: pytest.CaptureFixture[str]) -> None:
     """It stops no saga: each is reported, and the exception goes to standard error."""
 
     class Raising(logging.Handler):
@@ -278,7 +278,7 @@ def test_a_log_handler_raises(place: str, capsys: pytest.CaptureFixture[str]) ->
         saga, handler = simple(fails, tries=2), Raising()
         logging.getLogger("sagas").addHandler(handler)
         try:
-            async with sagas.open(place, [saga], concurrency=2) as store:
+            async with sagas.open(location, [saga], concurrency=2) as store:
                 ends = await asyncio.gather(
                     *(ended(store, saga, f"k{number}") for number in range(8))
                 )
@@ -297,13 +297,13 @@ exec {program} "$@"
 
 
 def test_an_audit_is_killed(
-    tmp_path: pathlib.Path, place: str, monkeypatch: pytest.MonkeyPatch
+    tmp_path: pathlib.Path, location: str, monkeypatch: pytest.MonkeyPatch
 ) -> None:
     """It has reported nothing about the log, which is audited again, and is closed as a
     valid one.
     """
     monkeypatch.setattr("sagas.definition.shelf.SHARD_CAPACITY", 2)
-    killed, once, told = tmp_path / "killed", tmp_path / "once", list[str]()
+    killed, once, event_names = tmp_path / "killed", tmp_path / "once", list[str]()
     killed.write_text(KILLED_ONCE.format(once=once, program=program()))
     killed.chmod(0o755)
     once.touch()
@@ -311,16 +311,19 @@ def test_an_audit_is_killed(
 
     async def main() -> None:
         async with sagas.open(
-            place, [saga], program=str(killed), on_event=lambda event: told.append(event.name)
+            location,
+            [saga],
+            program=str(killed),
+            on_event=lambda event: event_names.append(event.name),
         ) as store:
             for number in range(3):
                 assert (await ended(store, saga, f"k{number}")).ok
-            await until(lambda: "shard_closed" in told)
+            await until(lambda: "shard_closed" in event_names)
 
     run(main())
     assert (
-        [log.closed for log in records.read(place).logs.values()] == [True, False]
-        and "audit_failed" not in told
+        [log.closed for log in records.read(location).logs.values()] == [True, False]
+        and "audit_failed" not in event_names
         and not once.exists()
     )
 
@@ -424,11 +427,11 @@ def test_the_program_goes_elsewhere(
 
 def test_an_older_copy_in_place_of_the_store(tmp_path: pathlib.Path) -> None:
     """Its open sagas continue under their tokens; no other saga gets the tokens of lost ones."""
-    saga, whose, waits = sagas.Saga("row"), defaultdict[str, set[str]](set), ["open"]
+    saga, keys_of, waits = sagas.Saga("row"), defaultdict[str, set[str]](set), ["open"]
 
     @saga.step
     async def a(task: Task) -> None:
-        whose[task.idempotency_key].add(task.key)
+        keys_of[task.idempotency_key].add(task.key)
         if task.key in waits:
             await asyncio.Event().wait()
 
@@ -452,9 +455,9 @@ def test_an_older_copy_in_place_of_the_store(tmp_path: pathlib.Path) -> None:
     run(before(tmp_path / "store.db"))
     waits.clear()
     run(after(tmp_path / "copy.db"))
-    assert {frozenset(keys) for keys in whose.values()} == {
-        frozenset({key}) for keys in whose.values() for key in keys
-    } and len(whose) == 8
+    assert {frozenset(keys) for keys in keys_of.values()} == {
+        frozenset({key}) for keys in keys_of.values() for key in keys
+    } and len(keys_of) == 8
 
 
 @pytest.mark.parametrize("times", [1, 2])
@@ -564,7 +567,7 @@ async def heard(event: sagas.Event) -> None:
 
 
 @pytest.mark.parametrize(
-    "words, kind, text",
+    "options, kind, text",
     [
         (
             {"shutdown_timeout": "30s"},
@@ -608,12 +611,12 @@ async def heard(event: sagas.Event) -> None:
     ],
 )
 def test_what_a_store_is_not_opened_with(
-    tmp_path: pathlib.Path, words: dict[str, Any], kind: type[Exception], text: str
+    tmp_path: pathlib.Path, options: dict[str, Any], kind: type[Exception], text: str
 ) -> None:
     """Each is refused at once, by its name, and nothing is made or locked."""
     for way in (sagas.open, sagas.open_sync):
         with pytest.raises(kind, match=f"^{text}"):
-            way(tmp_path / "store.db", [simple(lambda task: 1)], **words)
+            way(tmp_path / "store.db", [simple(lambda task: 1)], **options)
     assert [*tmp_path.iterdir()] == []
 
 
@@ -665,7 +668,7 @@ def test_the_other_kind_of_with(tmp_path: pathlib.Path) -> None:
     assert not path.exists()
 
 
-def test_a_function_forks(place: str) -> None:
+def test_a_function_forks(location: str) -> None:
     """Lock and pipes are closed in the child: it outlives the store, and the store opens again."""
     alive, leave = os.pipe()
     forked: list[int] = []
@@ -681,9 +684,9 @@ def test_a_function_forks(place: str) -> None:
 
     async def main() -> None:
         saga = simple(fork)
-        async with sagas.open(place, [saga]) as store:
+        async with sagas.open(location, [saga]) as store:
             assert (await ended(store, saga, "one")).phase == "completed"
-        async with sagas.open(place, [saga]) as store:
+        async with sagas.open(location, [saga]) as store:
             assert (await ended(store, saga, "two")).phase == "completed"
 
     try:
@@ -696,7 +699,7 @@ def test_a_function_forks(place: str) -> None:
         os.close(alive)
 
 
-def test_a_store_in_a_forked_child(place: str) -> None:
+def test_a_store_in_a_forked_child(location: str) -> None:
     """With async and without it, it raises at once that it is another process's.
 
     Closing it there does not affect that one.
@@ -705,7 +708,7 @@ def test_a_store_in_a_forked_child(place: str) -> None:
     text = "was opened in another process, before a fork. Create and open one in this process"
 
     async def main() -> None:
-        async with sagas.open(place, [saga]) as store:
+        async with sagas.open(location, [saga]) as store:
             calls: list[Any] = [
                 lambda: store.start(saga, "c"),
                 lambda: store.wait("k"),
@@ -721,7 +724,7 @@ def test_a_store_in_a_forked_child(place: str) -> None:
             assert in_child(lambda: asyncio.run(store.close())) == "None"
             assert (await ended(store, saga, "async")).ok
 
-    with sagas.open_sync(place, [saga]) as store:
+    with sagas.open_sync(location, [saga]) as store:
         assert store.start(saga, "k").wait(240).ok
         calls: list[Any] = [
             lambda: store.start(saga, "c"),
@@ -730,21 +733,21 @@ def test_a_store_in_a_forked_child(place: str) -> None:
             store.__enter__,
         ]
         for call in calls:
-            said = in_child(call)
-            assert said.startswith("Closed: ") and text in said
+            result = in_child(call)
+            assert result.startswith("Closed: ") and text in result
         assert in_child(store.close) == "None"
         assert store.start(saga, "sync").wait(240).ok and len(store.list()) == 2
     run(main())
 
 
-def test_a_program_that_forks_under_an_open_store(tmp_path: pathlib.Path, place: str) -> None:
+def test_a_program_that_forks_under_an_open_store(tmp_path: pathlib.Path, location: str) -> None:
     """The child ends as a program does, and frees its part of the store: the parent continues."""
     program = f"""
         import os, sagas, sys
         saga = sagas.Saga("simple")
         @saga.step
         def a(task): ...
-        with sagas.open_sync({place!r}, [saga]) as store:
+        with sagas.open_sync({location!r}, [saga]) as store:
             assert store.start(saga, "one").wait(120).ok
             child = os.fork()
             if child == 0:
@@ -757,21 +760,21 @@ def test_a_program_that_forks_under_an_open_store(tmp_path: pathlib.Path, place:
             print([row.key for row in store.list()])
     """
     process = script(tmp_path / "forks.py", program)
-    told, _ = process.communicate(timeout=240)
+    output, _ = process.communicate(timeout=240)
     assert (
-        told.splitlines() == ["the child's status: 7", "['one', 'three']"]
+        output.splitlines() == ["the child's status: 7", "['one', 'three']"]
         and process.returncode == 0
     )
 
 
-def test_a_store_that_is_entered_twice(place: str) -> None:
+def test_a_store_that_is_entered_twice(location: str) -> None:
     """The second entry is an error that says so, and the first one continues; a closed store is
     opened again.
     """
     saga = simple(lambda task: 1)
 
     async def main() -> None:
-        store = sagas.open(place, [saga])
+        store = sagas.open(location, [saga])
         async with store:
             with pytest.raises(RuntimeError, match="the store is already open. Enter it once"):
                 async with store:
@@ -781,7 +784,7 @@ def test_a_store_that_is_entered_twice(place: str) -> None:
             assert (await ended(store, saga, "two")).ok
 
     run(main())
-    store = sagas.open_sync(place, [saga])
+    store = sagas.open_sync(location, [saga])
     with store:
         with pytest.raises(RuntimeError, match="the store is already open. Enter it once"), store:
             pass
@@ -792,7 +795,7 @@ def test_a_store_that_is_entered_twice(place: str) -> None:
 
 
 @pytest.mark.parametrize("in_thread", [False, True])
-def test_a_fork_that_comes_back(place: str, in_thread: bool) -> None:
+def test_a_fork_that_comes_back(location: str, in_thread: bool) -> None:
     """A function forks, and its child returns from it too: the child ends there, and does nothing
     to the saga.
     """
@@ -809,7 +812,7 @@ def test_a_fork_that_comes_back(place: str, in_thread: bool) -> None:
 
     async def main() -> None:
         saga = simple(fork if in_thread else fork_in_loop)
-        async with sagas.open(place, [saga]) as store:
+        async with sagas.open(location, [saga]) as store:
             assert (await ended(store, saga)).results == {"a": "parent"}
         (child,) = children_of_functions
         try:
@@ -822,7 +825,7 @@ def test_a_fork_that_comes_back(place: str, in_thread: bool) -> None:
     run(main())
 
 
-def test_a_fork_that_comes_back_calls_nothing_else(place: str, tmp_path: pathlib.Path) -> None:
+def test_a_fork_that_comes_back_calls_nothing_else(location: str, tmp_path: pathlib.Path) -> None:
     """One of the functions that are called in a row forks: its child ends before the next one is
     called, and none of its work counts.
     """
@@ -839,7 +842,7 @@ def test_a_fork_that_comes_back_calls_nothing_else(place: str, tmp_path: pathlib
 
     async def main() -> None:
         saga = simple(fork)
-        async with sagas.open(place, [saga]) as store:
+        async with sagas.open(location, [saga]) as store:
             ends = await asyncio.gather(*(ended(store, saga, f"k{number}") for number in range(6)))
             assert all(end.results == {"a": os.getpid()} for end in ends)
         assert ends_of_children == [70]
@@ -848,7 +851,7 @@ def test_a_fork_that_comes_back_calls_nothing_else(place: str, tmp_path: pathlib
     run(main())
 
 
-def test_the_child_is_killed_again_and_again(place: str) -> None:
+def test_the_child_is_killed_again_and_again(location: str) -> None:
     """It is started again from the database; uncommitted requests never happened."""
     tokens: Counter[str] = Counter()
 
@@ -882,7 +885,7 @@ def test_the_child_is_killed_again_and_again(place: str) -> None:
                     return await run.wait()
 
         others = set(children(os.getpid()))  # servers that other tests use
-        async with sagas.open(place, [saga]) as store:
+        async with sagas.open(location, [saga]) as store:
             work = [asyncio.create_task(surely_new(store, f"k{number}")) for number in range(60)]
             for _ in range(8):
                 await asyncio.sleep(0.03)
@@ -907,13 +910,13 @@ def no_descriptors() -> Iterator[None]:
 
 
 @pytest.mark.parametrize("idle", [0.01, 60], ids=["let go", "killed"])
-def test_the_child_cannot_be_started_for_a_while(place: str, idle: float) -> None:
+def test_the_child_cannot_be_started_for_a_while(location: str, idle: float) -> None:
     """Callers that start a saga get the error; once it can be started, its log continues."""
 
     async def main() -> None:
         saga, others = simple(lambda task: task.key), set(children(os.getpid()))
         saga.approval(name="ok", needs=["a"])(lambda task: None)
-        async with sagas.open(place, [saga], idle=idle) as store:
+        async with sagas.open(location, [saga], idle=idle) as store:
             first = await store.start(saga, "first")
             await until(lambda: "ok" in (one.step for one in store.active_attempts("first")))
             if idle < 1:
@@ -933,13 +936,13 @@ def test_the_child_cannot_be_started_for_a_while(place: str, idle: float) -> Non
     run(main())
 
 
-def test_the_child_hangs(place: str, monkeypatch: pytest.MonkeyPatch) -> None:
+def test_the_child_hangs(location: str, monkeypatch: pytest.MonkeyPatch) -> None:
     """An engine that does not reply for long is ended, and another one continues with its log."""
     monkeypatch.setattr("sagas.engine.process.HUNG", 0.5)
     saga, others = simple(lambda task: 1), set(children(os.getpid()))
 
     async def main() -> None:
-        async with sagas.open(place, [saga]) as store:
+        async with sagas.open(location, [saga]) as store:
             assert (await ended(store, saga, "before")).ok
             (child,) = set(children(os.getpid())) - others
             os.kill(child, signal.SIGSTOP)
@@ -974,7 +977,7 @@ for line in sys.stdin.buffer:
 
 @pytest.mark.parametrize("event", ["open", "missed", "commit", "fail", "undone", "abort"])
 def test_the_child_dies_between_log_and_reply(
-    tmp_path: pathlib.Path, place: str, event: str
+    tmp_path: pathlib.Path, location: str, event: str
 ) -> None:
     """It has decided, and dies before it replies: the outcome is reported again, for its
     attempt.
@@ -1005,7 +1008,7 @@ def test_the_child_dies_between_log_and_reply(
         return 2
 
     async def main() -> sagas.SagaResult:
-        async with sagas.open(place, [saga], program=str(between)) as store:
+        async with sagas.open(location, [saga], program=str(between)) as store:
             wanted = {"fail": "fails", "undone": "fails", "abort": "waits"}.get(event)
             run = await store.start(saga, key="k", input=wanted)
             if event == "abort":
@@ -1027,7 +1030,7 @@ def test_the_child_dies_between_log_and_reply(
 
 @pytest.mark.parametrize("refused", ["other-attempt", "no-such-step"])
 def test_a_report_that_the_child_does_not_know(
-    place: str, monkeypatch: pytest.MonkeyPatch, caplog: pytest.LogCaptureFixture, refused: str
+    location: str, monkeypatch: pytest.MonkeyPatch, caplog: pytest.LogCaptureFixture, refused: str
 ) -> None:
     """The log is recovered from the store; then the function's result is reported, and it is not
     called again.
@@ -1049,14 +1052,14 @@ def test_a_report_that_the_child_does_not_know(
 
     async def main() -> sagas.SagaResult:
         saga = simple(lambda task: calls.append(task.attempt_id))
-        async with sagas.open(place, [saga]) as store:
+        async with sagas.open(location, [saga]) as store:
             return await ended(store, saga)
 
     assert run(main()).ok and len(calls) == 1
     assert refused in caplog.text and "Recovering" in caplog.text
 
 
-def test_a_function_hangs(place: str) -> None:
+def test_a_function_hangs(location: str) -> None:
     """Its outcome is unknown: the same attempt runs again, with the same token; no other saga waits
     for it.
     """
@@ -1071,7 +1074,7 @@ def test_a_function_hangs(place: str) -> None:
 
         slow, quick = simple(hang, timeout=0.1), sagas.Saga("quick")
         quick.step(name="a")(lambda task: 1)
-        async with sagas.open(place, [slow, quick], concurrency=1) as store:
+        async with sagas.open(location, [slow, quick], concurrency=1) as store:
             first = await store.start(slow, key="slow")
             assert (await ended(store, quick, "quick")).phase == "completed"
             assert (await first.wait()).results == {"a": 1}
@@ -1080,7 +1083,7 @@ def test_a_function_hangs(place: str) -> None:
     assert len(tokens) == 3 and len(set(tokens)) == 1
 
 
-def test_a_thread_ends_after_its_time(place: str) -> None:
+def test_a_thread_ends_after_its_time(location: str) -> None:
     """A thread that ends well after its time has succeeded, and is not called again."""
     calls: list[int] = []
 
@@ -1091,14 +1094,14 @@ def test_a_thread_ends_after_its_time(place: str) -> None:
 
     async def main() -> None:
         saga = simple(late, timeout=0.05)
-        async with sagas.open(place, [saga]) as store:
+        async with sagas.open(location, [saga]) as store:
             assert (await ended(store, saga)).results == {"a": 7}
 
     run(main())
     assert calls == [1]
 
 
-def test_a_function_blocks_the_loop(place: str) -> None:
+def test_a_function_blocks_the_loop(location: str) -> None:
     """Everything else is late, and nothing is lost."""
 
     async def block(task: Task) -> int:
@@ -1107,7 +1110,7 @@ def test_a_function_blocks_the_loop(place: str) -> None:
 
     async def main() -> None:
         saga = simple(block, timeout=0.1)
-        async with sagas.open(place, [saga]) as store:
+        async with sagas.open(location, [saga]) as store:
             ends = await asyncio.gather(*(ended(store, saga, f"k{number}") for number in range(5)))
             assert {end.phase for end in ends} <= {"completed", "recovered"}
 
@@ -1118,10 +1121,10 @@ ODD = (SystemExit, KeyboardInterrupt, GeneratorExit, asyncio.CancelledError, Sto
 
 
 @pytest.mark.parametrize(
-    "place, kind, in_thread", pairs(PLACES, ODD, (False, True)), indirect=["place"]
+    "location, kind, in_thread", pairs(PLACES, ODD, (False, True)), indirect=["location"]
 )
 def test_a_function_raises_what_it_should_not(
-    place: str, kind: type[BaseException], in_thread: bool
+    location: str, kind: type[BaseException], in_thread: bool
 ) -> None:
     """The program continues; the attempt is made again with its token, or fails if the exception is
     an ordinary one.
@@ -1139,7 +1142,7 @@ def test_a_function_raises_what_it_should_not(
 
     async def main() -> None:
         saga = simple(odd if in_thread else odd_in_loop, tries=2)
-        async with sagas.open(place, [saga]) as store:
+        async with sagas.open(location, [saga]) as store:
             assert (await ended(store, saga)).results == {"a": 1}
 
     run(main())
@@ -1160,7 +1163,7 @@ class Jumping:
 
 
 @pytest.mark.parametrize("jump", [-7 * 86400.0, 7 * 86400.0])
-def test_a_clock_that_jumps(place: str, jump: float) -> None:
+def test_a_clock_that_jumps(location: str, jump: float) -> None:
     """It is set forward or back by a week between tries and programs: no attempt waits a week, and
     none is repeated.
     """
@@ -1175,17 +1178,17 @@ def test_a_clock_that_jumps(place: str, jump: float) -> None:
 
     async def main() -> None:
         saga = simple(fails, tries=3)
-        async with sagas.open(place, [saga], clock=clock) as store:
+        async with sagas.open(location, [saga], clock=clock) as store:
             assert (await ended(store, saga, "one")).phase == "completed"
         clock.by += jump
-        async with sagas.open(place, [saga], clock=clock) as store:
+        async with sagas.open(location, [saga], clock=clock) as store:
             assert (await ended(store, saga, "two")).phase == "completed"
 
     run(main())
     assert len(calls) == 6 and set(calls.values()) == {1}
 
 
-def test_a_wait_is_over_while_nothing_runs(place: str) -> None:
+def test_a_wait_is_over_while_nothing_runs(location: str) -> None:
     """Three days pass between two programs; the wait is over when the second opens the store."""
     clock, called = Jumping(), asyncio.Event()
     saga = sagas.Saga("late")
@@ -1196,11 +1199,11 @@ def test_a_wait_is_over_while_nothing_runs(place: str) -> None:
         return "waited"
 
     async def main() -> None:
-        async with sagas.open(place, [saga], clock=clock) as store:
+        async with sagas.open(location, [saga], clock=clock) as store:
             await store.start(saga, key="k")
         assert not called.is_set()
         clock.by = 3 * 86400
-        async with sagas.open(place, [saga], clock=clock) as store:
+        async with sagas.open(location, [saga], clock=clock) as store:
             assert (await store.wait("k")).results == {"wait": "waited"}
 
     run(main())
@@ -1245,23 +1248,23 @@ def test_the_disk_is_full(tmp_path: pathlib.Path) -> None:
     run(main())
 
 
-@pytest.mark.parametrize("words", [("list",), ("abort", "k")])
+@pytest.mark.parametrize("arguments", [("list",), ("abort", "k")])
 def test_the_command_on_a_full_disk(
-    tmp_path: pathlib.Path, capsys: pytest.CaptureFixture[str], words: tuple[str, ...]
+    tmp_path: pathlib.Path, capsys: pytest.CaptureFixture[str], arguments: tuple[str, ...]
 ) -> None:
     """It reports the disk's error, and not that the file is not a store."""
-    saga, place = simple(lambda task: 1), tmp_path / "store.db"
+    saga, location = simple(lambda task: 1), tmp_path / "store.db"
 
     async def main() -> None:
-        async with sagas.open(place, [saga]) as store:
+        async with sagas.open(location, [saga]) as store:
             assert (await ended(store, saga, "k")).ok
 
     run(main())
     with full(0):
-        assert store_command.main([str(place), *words]) == 4
+        assert store_command.main([str(location), *arguments]) == 4
     assert (
         capsys.readouterr().err
-        == f"sagas store: {place}: disk I/O error. Make room if the disk is full, and check it"
+        == f"sagas store: {location}: disk I/O error. Make room if the disk is full, and check it"
         " otherwise\n"
     )
 
@@ -1326,7 +1329,7 @@ def test_a_commit_fails_again_and_again(
 
 def test_a_failure_for_good_is_not_kept_at_first(tmp_path: pathlib.Path) -> None:
     """Its commit fails: the failure is reported again, and the step is not called again."""
-    gate, told, calls = asyncio.Event(), Counter[str](), list[int]()
+    gate, event_counts, calls = asyncio.Event(), Counter[str](), list[int]()
     saga = sagas.Saga("one")
 
     @saga.step(tries=3)
@@ -1337,20 +1340,20 @@ def test_a_failure_for_good_is_not_kept_at_first(tmp_path: pathlib.Path) -> None
 
     async def main() -> None:
         async with sagas.open(
-            tmp_path / "store.db", [saga], on_event=lambda event: told.update([event.name])
+            tmp_path / "store.db", [saga], on_event=lambda event: event_counts.update([event.name])
         ) as store:
             going = await store.start(saga, "k")
             await until(lambda: calls)
             with full():
                 gate.set()
-                await until(lambda: told["commit_failed"])
+                await until(lambda: event_counts["commit_failed"])
             assert (await going.wait()).states == {"once": "failed"}
 
     run(main())
     assert calls == [1]
 
 
-def test_closing(place: str) -> None:
+def test_closing(location: str) -> None:
     """No attempt starts, running functions end and their results are stored, waiting callers get
     Closed; the next program continues.
     """
@@ -1371,7 +1374,7 @@ def test_closing(place: str) -> None:
         return 2
 
     async def main() -> None:
-        async with sagas.open(place, [saga]) as store:
+        async with sagas.open(location, [saga]) as store:
             run = await store.start(saga, key="k")
             waiter = asyncio.create_task(run.wait())
             await begun.wait()
@@ -1381,9 +1384,9 @@ def test_closing(place: str) -> None:
         with pytest.raises(sagas.Closed):
             await store.start(saga, key="late")
         assert calls == ["a"]
-        kept = records.read(place)
+        kept = records.read(location)
         assert [result.outcome for result in kept.results.values()] == ["commit"]
-        async with sagas.open(place, [saga]) as store:
+        async with sagas.open(location, [saga]) as store:
             assert (await store.wait("k")).results == {"a": 1, "b": 2}
         assert calls == ["a", "b"]
 
@@ -1391,28 +1394,28 @@ def test_closing(place: str) -> None:
 
 
 def test_closing_writes_what_waits_for_a_commit(
-    place: str, monkeypatch: pytest.MonkeyPatch
+    location: str, monkeypatch: pytest.MonkeyPatch
 ) -> None:
     """This holds also if no caller waits for it any more: no commit fails because the database is
     closed.
     """
-    told: list[sagas.Event] = []
+    events: list[sagas.Event] = []
     monkeypatch.setattr("sagas.storage.sqlite.writer.AT_ONCE", 0.0)
 
     async def main() -> None:
         saga = simple(lambda task: None)
-        async with sagas.open(place, [saga], on_event=told.append) as store:
+        async with sagas.open(location, [saga], on_event=events.append) as store:
             jobs = [asyncio.create_task(store.deliveries.due("shop")) for _ in range(3)]
             await asyncio.sleep(0)
             for job in jobs:
                 job.cancel()
 
     run(main())
-    assert [event for event in told if event.name == "commit_failed"] == []
+    assert [event for event in events if event.name == "commit_failed"] == []
 
 
 def test_an_abort_of_a_saga_that_ends_is_answered(
-    place: str, monkeypatch: pytest.MonkeyPatch
+    location: str, monkeypatch: pytest.MonkeyPatch
 ) -> None:
     """This holds also if its shard is closed in the meantime."""
     monkeypatch.setattr("sagas.definition.shelf.SHARD_CAPACITY", 1)
@@ -1425,7 +1428,7 @@ def test_an_abort_of_a_saga_that_ends_is_answered(
                 await asyncio.sleep(0)
 
         saga = simple(work)
-        async with sagas.open(place, [saga], concurrency=1) as store:
+        async with sagas.open(location, [saga], concurrency=1) as store:
             ends = [await ended(store, saga, str(number)) for number in range(12)]
             aborted = await asyncio.gather(*jobs)
         assert aborted == [end.aborted for end in ends]
@@ -1433,7 +1436,7 @@ def test_an_abort_of_a_saga_that_ends_is_answered(
     run(main())
 
 
-def test_closing_while_starts_wait(place: str, monkeypatch: pytest.MonkeyPatch) -> None:
+def test_closing_while_starts_wait(location: str, monkeypatch: pytest.MonkeyPatch) -> None:
     """Sagas that wait for a log, and logs that wait for an engine, do not delay it: callers whose
     start was not acknowledged get Closed.
     """
@@ -1452,7 +1455,7 @@ def test_closing_while_starts_wait(place: str, monkeypatch: pytest.MonkeyPatch) 
         return 2
 
     async def main() -> None:
-        async with sagas.open(place, [saga], concurrency=1, engine_processes=2) as store:
+        async with sagas.open(location, [saga], concurrency=1, engine_processes=2) as store:
             starts = [
                 asyncio.create_task(store.start(saga, key=f"k{number}")) for number in range(60)
             ]
@@ -1460,11 +1463,11 @@ def test_closing_while_starts_wait(place: str, monkeypatch: pytest.MonkeyPatch) 
             gate.set()
             async with asyncio.timeout(20):
                 await store.close()
-            told = await asyncio.gather(*starts, return_exceptions=True)
-        assert all(isinstance(one, (sagas.Run, sagas.Closed)) for one in told)
-        kept = records.read(place)
+            results = await asyncio.gather(*starts, return_exceptions=True)
+        assert all(isinstance(one, (sagas.Run, sagas.Closed)) for one in results)
+        kept = records.read(location)
         assert {
-            f"k{number}" for number, one in enumerate(told) if isinstance(one, sagas.Run)
+            f"k{number}" for number, one in enumerate(results) if isinstance(one, sagas.Run)
         } <= set(kept.sagas)
 
     run(main())
@@ -1499,7 +1502,7 @@ def test_closing_says_what_it_waits_for(
 
 
 @pytest.mark.parametrize("seconds", [None, 0])
-def test_closing_goes_on_where_its_caller_is_cancelled(place: str, seconds: int | None) -> None:
+def test_closing_goes_on_where_its_caller_is_cancelled(location: str, seconds: int | None) -> None:
     """A further call waits for that, or cancels the running functions; then the store is free for
     other programs. A caller that waits until no saga is open is notified that it is closed.
     """
@@ -1514,7 +1517,7 @@ def test_closing_goes_on_where_its_caller_is_cancelled(place: str, seconds: int 
     async def main() -> None:
         kind = simple(slow)
         kind.step(name="b", external=True, needs=[kind.parts[0]])
-        async with sagas.open(place, [kind]) as store:
+        async with sagas.open(location, [kind]) as store:
             await store.start(kind, "k")
             await begun.wait()
             idle, closing = asyncio.create_task(store.wait_idle()), asyncio.create_task(
@@ -1534,7 +1537,7 @@ def test_closing_goes_on_where_its_caller_is_cancelled(place: str, seconds: int 
             with pytest.raises(sagas.Closed):
                 await idle
         gate.set()
-        async with sagas.open(place, [kind]) as store:
+        async with sagas.open(location, [kind]) as store:
             await until(lambda: [one for one in store.active_attempts("k") if one.step == "b"])
         assert calls == (["k"] if seconds is None else ["k", "k"])
 
@@ -1566,12 +1569,12 @@ def test_a_retry_that_cannot_be_stored_hears_that_the_store_is_closed(
                 sqlite3.connect(tmp_path / "store.db", isolation_level=None)
             ) as other:
                 other.execute("BEGIN IMMEDIATE")
-                asked = asyncio.create_task(store.retry("k", "a"))
+                retrying = asyncio.create_task(store.retry("k", "a"))
                 await failed.wait()
                 await store.close()
             async with asyncio.timeout(60):
                 with pytest.raises(sagas.Closed):
-                    await asked
+                    await retrying
 
     run(main())
 
@@ -1580,12 +1583,12 @@ def test_a_closing_that_is_refused_closes_nothing(tmp_path: pathlib.Path) -> Non
     """Without async: with an invalid time, or in the store's own thread, which would wait for
     itself.
     """
-    said: list[str] = []
+    keys: list[str] = []
 
     async def closes(task: Task) -> int:
         with pytest.raises(RuntimeError, match="would wait for its own event loop"):
             store.close()
-        said.append(task.key)
+        keys.append(task.key)
         return 1
 
     kind = simple(closes)
@@ -1595,10 +1598,10 @@ def test_a_closing_that_is_refused_closes_nothing(tmp_path: pathlib.Path) -> Non
         assert store.start(kind, "k").wait(60).ok
     with sagas.open_sync(tmp_path / "store.db", [kind]) as store:
         assert store.start(kind, "k").wait(60).ok
-    assert said == ["k"]
+    assert keys == ["k"]
 
 
-def test_closing_cancels_after_its_grace(place: str) -> None:
+def test_closing_cancels_after_its_grace(location: str) -> None:
     """A cancelled function runs again, with its token, when the store is opened again."""
     tokens: list[str] = []
 
@@ -1610,10 +1613,10 @@ def test_closing_cancels_after_its_grace(place: str) -> None:
     async def main() -> None:
         saga = simple(hang)
         began = time.monotonic()
-        async with sagas.open(place, [saga], shutdown_timeout=0.1) as store:
+        async with sagas.open(location, [saga], shutdown_timeout=0.1) as store:
             await store.start(saga, key="k")
         assert time.monotonic() - began < 20
-        async with sagas.open(place, [saga]) as store:
+        async with sagas.open(location, [saga]) as store:
             assert (await store.wait("k")).ok
 
     run(main())
@@ -1621,7 +1624,7 @@ def test_closing_cancels_after_its_grace(place: str) -> None:
 
 
 @pytest.mark.parametrize("must", [False, True])
-def test_a_compensation_fails_for_good(place: str, must: bool) -> None:
+def test_a_compensation_fails_for_good(location: str, must: bool) -> None:
     """The plan continues with the step kept; or no plan is left, and the saga is stuck with its
     chain until an operator resolves it.
     """
@@ -1640,7 +1643,7 @@ def test_a_compensation_fails_for_good(place: str, must: bool) -> None:
         raise sagas.Fail("no")
 
     async def main() -> None:
-        async with sagas.open(place, [saga]) as store:
+        async with sagas.open(location, [saga]) as store:
             end = await ended(store, saga)
             assert end.states == {"a": "undo_failed", "b": "failed"} and end.results == {"a": 1}
             if must:
@@ -1655,7 +1658,7 @@ def test_a_compensation_fails_for_good(place: str, must: bool) -> None:
     run(main())
 
 
-def test_a_fork_while_a_program_is_started(place: str, monkeypatch: pytest.MonkeyPatch) -> None:
+def test_a_fork_while_a_program_is_started(location: str, monkeypatch: pytest.MonkeyPatch) -> None:
     """It waits. So its child keeps no pipe of an engine or of an audit open."""
     alive, leave = os.pipe()
     forked: list[int] = []
@@ -1670,17 +1673,17 @@ def test_a_fork_while_a_program_is_started(place: str, monkeypatch: pytest.Monke
             os._exit(0)
         forked.append(child)
 
-    def started(*words: Any, **more: Any) -> None:  # the pipes are there
+    def started(*arguments: Any, **more: Any) -> None:  # the pipes are there
         forks.append(threading.Thread(target=fork))
         forks[-1].start()
         forks[-1].join(0.2)
-        start(*words, **more)
+        start(*arguments, **more)
 
     async def main() -> None:
         saga = simple(lambda task: 1)
-        async with sagas.open(place, [saga]) as store:
+        async with sagas.open(location, [saga]) as store:
             assert (await ended(store, saga)).phase == "completed"
-            assert all(told.startswith("yes") for told in (await store.audit()).values())
+            assert all(verdict.startswith("yes") for verdict in (await store.audit()).values())
 
     monkeypatch.setattr(subprocess.Popen, "_execute_child", started)
     try:

@@ -34,25 +34,25 @@ def has_begun(store: sagas.Store, step: str) -> bool:
     return any(one.step == step and one.waits in waits for one in store.active_attempts("k"))
 
 
-async def asked(store: sagas.Store, step: str) -> None:
+async def waiting_for_report(store: sagas.Store, step: str) -> None:
     """Wait until the step needs a report."""
     await until(lambda: has_begun(store, step))
 
 
 by_anybody = pytest.mark.parametrize(
-    ("place", "who"),
+    ("location", "who"),
     [("sqlite", "store"), *(("postgresql", who) for who in ("store", "node", "client"))],
-    indirect=["place"],
+    indirect=["location"],
 )
 """The caller: the program that has the saga, another one, or a client; a file is one program's."""
 
 
-async def teller(stack: AsyncExitStack, who: str, place: str, store: sagas.Store) -> Say:
+async def teller(stack: AsyncExitStack, who: str, location: str, store: sagas.Store) -> Say:
     if who == "store":
         return saying(store)
     if who == "client":
-        return saying(await stack.enter_async_context(sagas.Client(place)))
-    node = sagas.open(place, [signed()], node="other")
+        return saying(await stack.enter_async_context(sagas.Client(location)))
+    node = sagas.open(location, [signed()], node="other")
     return saying(await stack.enter_async_context(node))
 
 
@@ -71,26 +71,26 @@ def saying(who: sagas.Store | sagas.Client) -> Say:
 
 
 @by_anybody
-def test_the_same_again_is_one(place: str, who: str) -> None:
+def test_the_same_again_is_one(location: str, who: str) -> None:
     """Concurrently, while the saga continues, and when it is over; success or failure."""
     saga = signed()
 
-    async def differs(say: Say, step: str, told: str, *words: Any, **more: Any) -> None:
+    async def differs(say: Say, step: str, message: str, *arguments: Any, **more: Any) -> None:
         with pytest.raises(
-            sagas.ConflictingReport, match=f"'{step}': {told}. This is a different outcome"
+            sagas.ConflictingReport, match=f"'{step}': {message}. This is a different outcome"
         ) as error:
-            await say("k", step, *words, **more)
+            await say("k", step, *arguments, **more)
         assert isinstance(error.value, sagas.StepNotWaiting) and "secret" not in str(error.value)
 
     async def main() -> None:
         async with AsyncExitStack() as stack:
-            store = await stack.enter_async_context(sagas.open(place, [saga]))
+            store = await stack.enter_async_context(sagas.open(location, [saga]))
             await store.start(saga, "k")
-            await asked(store, "print")
-            say = await teller(stack, who, place, store)
+            await waiting_for_report(store, "print")
+            say = await teller(stack, who, location, store)
             twice = await asyncio.gather(*(say("k", "print", {"page": 1}) for _ in range(3)))
             assert twice == [None] * 3
-            await asked(store, "sign")
+            await waiting_for_report(store, "sign")
             await say("k", "print", {"page": 1})
             await differs(say, "print", "it has succeeded", {"page": "secret"})
             await differs(say, "print", "it has succeeded", error="secret")
@@ -112,16 +112,16 @@ def test_the_same_again_is_one(place: str, who: str) -> None:
 
 
 @by_anybody
-def test_two_answers_at_once(place: str, who: str) -> None:
+def test_two_answers_at_once(location: str, who: str) -> None:
     """One of them counts, and the other one gets that as its error."""
     saga = signed()
 
     async def main() -> None:
         async with AsyncExitStack() as stack:
-            store = await stack.enter_async_context(sagas.open(place, [saga]))
+            store = await stack.enter_async_context(sagas.open(location, [saga]))
             await store.start(saga, "k")
-            await asked(store, "print")
-            say = await teller(stack, who, place, store)
+            await waiting_for_report(store, "print")
+            say = await teller(stack, who, location, store)
             both = await asyncio.gather(
                 *(say("k", "print", n) for n in range(2)), return_exceptions=True
             )
@@ -188,10 +188,10 @@ def test_the_second_of_two_is_answered_once_the_first_is_stored(
     async def main() -> None:
         async with sagas.open(url, [saga], lease=2) as store:
             await store.start(saga, "k")
-            await asked(store, "print")
+            await waiting_for_report(store, "print")
             if step == "sign":
                 await store.complete("k", "print", 1)
-                await asked(store, "sign")
+                await waiting_for_report(store, "sign")
 
             async def say() -> bool:
                 await store.complete("k", step, "yes")
@@ -318,10 +318,10 @@ def test_a_retry_is_called_whatever_is_stored_first(url: str, size: int) -> None
     """The tenant of its saga is computed, and the input read for that, while its row is being
     stored.
     """
-    asked, calls = list[str](), list[int]()
+    waiting_for_report, calls = list[str](), list[int]()
 
     def tenant(given: dict[str, str]) -> str:
-        asked.append(given["of"])
+        waiting_for_report.append(given["of"])
         return given["of"]
 
     saga = sagas.Saga("retried", fair_by=tenant)
@@ -338,12 +338,12 @@ def test_a_retry_is_called_whatever_is_stored_first(url: str, size: int) -> None
             await store.start(saga, "k", {"of": "a", "fill": "x" * size})
             while not await store.attention():
                 await asyncio.sleep(0.01)
-        asked.clear()
+        waiting_for_report.clear()
         async with sagas.open(url, [saga]) as store:
             with held(url) as reached:
                 says = asyncio.create_task(store.retry("k", "call"))
                 await reached()
-                await until(lambda: bool(asked))
+                await until(lambda: bool(waiting_for_report))
                 await asyncio.sleep(0.1)  # the reply exists by then, or soon after
             await asyncio.wait_for(says, 60)
             assert (await store.wait("k", 60)).results["call"] == "done"

@@ -53,16 +53,16 @@ class Count:
         self.now -= 1
 
 
-def counted(count: Count, name: str = "here", seconds: float = 0.005, **words: Any) -> sagas.Saga:
+def counted(count: Count, name: str = "here", seconds: float = 0.005, **options: Any) -> sagas.Saga:
     """Return a step that is counted while it runs."""
 
     async def step(task: Task) -> None:
         await count.inside(name, seconds)
 
-    return simple(step, **words)
+    return simple(step, **options)
 
 
-def test_no_more_than_its_limit_at_once(place: str) -> None:
+def test_no_more_than_its_limit_at_once(location: str) -> None:
     """Of one program, in a file and in a database; all slots are used, and each call gets one in
     the end.
     """
@@ -70,7 +70,7 @@ def test_no_more_than_its_limit_at_once(place: str) -> None:
     kind = counted(count, fleet_concurrency=3)
 
     async def main() -> None:
-        async with sagas.open(place, [kind], concurrency=16) as store:
+        async with sagas.open(location, [kind], concurrency=16) as store:
             ends = await asyncio.gather(*(ended(store, kind, f"k{number}") for number in range(40)))
             assert all(end.ok for end in ends)
 
@@ -104,7 +104,7 @@ def test_a_limit_holds_over_all_nodes(url: str) -> None:
     assert count.most == 4 and count.by == {f"n{number}": 20 for number in range(3)}
 
 
-def test_a_held_step_keeps_nobody_back(place: str) -> None:
+def test_a_held_step_keeps_nobody_back(location: str) -> None:
     """Attempts that wait for a slot of the limit take no slot of the program: another step runs
     past them with the only other one.
     """
@@ -117,7 +117,7 @@ def test_a_held_step_keeps_nobody_back(place: str) -> None:
     quick.step(name="a")(lambda task: 1)
 
     async def main() -> None:
-        async with sagas.open(place, [slow, quick], concurrency=2) as store:
+        async with sagas.open(location, [slow, quick], concurrency=2) as store:
             held = [await store.start(slow, f"slow-{number}") for number in range(10)]
             await asyncio.gather(*(ended(store, quick, f"quick-{number}") for number in range(10)))
             assert await held[9].abort() and (await held[9].wait()).aborted  # it was never called
@@ -173,7 +173,7 @@ def test_a_killed_nodes_places_are_free_after_its_lease(url: str, tmp_path: path
 PERIOD = 0.6
 
 
-def test_no_more_than_its_rate(place: str) -> None:
+def test_no_more_than_its_rate(location: str) -> None:
     """In any period no more calls start than its rate, including retries and a restart of the
     program.
     """
@@ -187,9 +187,9 @@ def test_no_more_than_its_rate(place: str) -> None:
     kind = simple(step, rate_limit=(4, PERIOD), tries=2, backoff=QUICK)
 
     async def main() -> None:
-        async with sagas.open(place, [kind]) as store:
+        async with sagas.open(location, [kind]) as store:
             await asyncio.gather(*(ended(store, kind, f"k{number}") for number in range(2)))
-        async with sagas.open(place, [kind]) as store:
+        async with sagas.open(location, [kind]) as store:
             await asyncio.gather(*(ended(store, kind, f"more-{number}") for number in range(4)))
 
     began = time.monotonic()
@@ -227,19 +227,19 @@ def test_a_rate_holds_over_all_nodes(url: str) -> None:
     assert time.monotonic() - began >= 2.75 * PERIOD
 
 
-def test_a_clock_that_jumped_back_stops_no_rate(place: str) -> None:
+def test_a_clock_that_jumped_back_stops_no_rate(location: str) -> None:
     """Slots that are taken until a time beyond any period are free."""
     kind = counted(Count(), rate_limit=(2, 3.0))
 
     async def main() -> None:
-        async with sagas.open(place, [kind]) as store:
+        async with sagas.open(location, [kind]) as store:
             await asyncio.gather(*(ended(store, kind, f"k{number}") for number in range(2)))
             statement = "UPDATE limit_slots SET until = until + 86400 WHERE kind = 'rate'"
-            if place.startswith("postgresql:"):
-                with psycopg.connect(place, options="-csearch_path=sagas") as link:
+            if location.startswith("postgresql:"):
+                with psycopg.connect(location, options="-csearch_path=sagas") as link:
                     link.execute(statement)
             else:
-                with contextlib.closing(sqlite3.connect(place)) as db:
+                with contextlib.closing(sqlite3.connect(location)) as db:
                     db.execute(statement)
                     db.commit()
             async with asyncio.timeout(2.5):
@@ -256,8 +256,8 @@ def test_places_are_not_lost_with_their_answers(url: str, monkeypatch: pytest.Mo
     kind = counted(count, fleet_concurrency=2)
     right = Places.take
 
-    async def take(self: Places, *words: Any) -> Grant:
-        grant = await right(self, *words)
+    async def take(self: Places, *arguments: Any) -> Grant:
+        grant = await right(self, *arguments)
         if next(turns) in (0, 4, 9):
             raise sagas.StoreUnavailable("the answer is lost")
         return grant
@@ -289,13 +289,13 @@ def test_what_is_in_doubt_is_told_by_its_own_gate(
     monkeypatch.setattr(fleet_limits, "MOST_GATES", 1)
     monkeypatch.setattr(fleet_limits, "LOOK", 0.05)
     monkeypatch.setattr(fleet_limits, "DOUBT", 1.0)
-    told: list[tuple[str, int]] = []
+    takes: list[tuple[str, int]] = []
     right = Places.take
 
     async def take(self: Places, name: str, bounds: Bounds, want: int, *more: Any) -> Grant:
         grant = await right(self, name, bounds, want, *more)
-        told.append((name, want))
-        if len(told) == 1:
+        takes.append((name, want))
+        if len(takes) == 1:
             raise sagas.StoreUnavailable("the answer is lost")
         return grant
 
@@ -310,8 +310,8 @@ def test_what_is_in_doubt_is_told_by_its_own_gate(
 
     async def step(task: Task) -> None:
         if task.key == "second":
-            begun = len(told)
-            await until(lambda: (told[0][0], 0) in told[begun:], 30)
+            begun = len(takes)
+            await until(lambda: (takes[0][0], 0) in takes[begun:], 30)
             assert is_taken()
 
     kind = simple(step, fleet_concurrency=1, concurrency_by=lambda key: key)
@@ -327,15 +327,15 @@ def test_what_is_in_doubt_is_told_by_its_own_gate(
 
 def test_what_is_no_limit_is_refused() -> None:
     """The error has the step, and the allowed values."""
-    for words, said in (
+    for options, message in (
         ({"fleet_concurrency": 0}, "fleet_concurrency=0"),
         ({"fleet_concurrency": True}, "fleet_concurrency=True"),
         ({"rate_limit": (10, 0)}, "rate_limit="),
         ({"rate_limit": 5}, "rate_limit=5"),
         ({"rate_limit": (10_001, 60)}, "10,000 calls"),
     ):
-        with pytest.raises(sagas.DefinitionError, match=said):
-            simple(lambda task: 1, **words)
+        with pytest.raises(sagas.DefinitionError, match=message):
+            simple(lambda task: 1, **options)
     saga = sagas.Saga("elsewhere")
     with pytest.raises(
         sagas.DefinitionError, match="step is external.* Remove fleet_concurrency and rate_limit"

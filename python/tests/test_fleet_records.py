@@ -30,14 +30,14 @@ async def done(task: Task) -> str:
     return "done"
 
 
-def words_of(path: pathlib.Path) -> list[list[str]]:
+def fields_of(path: pathlib.Path) -> list[list[str]]:
     """Return the lines of a record, each split into its fields."""
     return [line.split(" ") for line in path.read_text().splitlines()]
 
 
-def told(path: pathlib.Path) -> set[str]:
+def edges_of(path: pathlib.Path) -> set[str]:
     """Return the edges at which something was acknowledged."""
-    return {words[-1] for words in words_of(path) if words[0] in ("told", "seen")}
+    return {fields[-1] for fields in fields_of(path) if fields[0] in ("told", "seen")}
 
 
 @pytest.fixture
@@ -60,11 +60,11 @@ def judge(
 ) -> Callable[..., list[Json]]:
     """Return the command over that store, with its output for programs."""
 
-    def call(*words: str, status: int = 0) -> list[Json]:
+    def call(*arguments: str, status: int = 0) -> list[Json]:
         capsys.readouterr()
-        assert store_command.main([store, "record", "--json", *words]) == status
-        found: list[Json] = json.loads(capsys.readouterr().out)
-        return found
+        assert store_command.main([store, "record", "--json", *arguments]) == status
+        shards: list[Json] = json.loads(capsys.readouterr().out)
+        return shards
 
     return call
 
@@ -89,7 +89,7 @@ def test_a_record_is_judged(
     (alone,) = judge()
     assert alone["good"] and alone["events"] < one["events"]
     assert (
-        told(path) == {"call", "wake"}
+        edges_of(path) == {"call", "wake"}
         and "secret" not in path.read_text()
         and "done" not in path.read_text()
     )
@@ -173,7 +173,7 @@ def test_an_end_that_was_told_and_is_not_there(
 
     run(main())
     files = [str(tmp_path / "node"), str(tmp_path / "client")]
-    assert judge(*files)[0]["good"] and words_of(tmp_path / "client")[1][2:] == ["1", "client"]
+    assert judge(*files)[0]["good"] and fields_of(tmp_path / "client")[1][2:] == ["1", "client"]
     change(store, "UPDATE sagas SET phase = NULL WHERE key = 'secret-2'")
     (one,) = judge(*files, status=1)
     assert one["good"] and one["ends_lost"] == [1]
@@ -183,21 +183,21 @@ def test_an_end_that_was_told_and_is_not_there(
 
 def test_what_a_service_acknowledges(url: str, tmp_path: pathlib.Path, receiver: Receiver) -> None:
     """Starts by its replies, ends by its webhooks, and to waiting callers."""
-    words = [
+    options = [
         "--local-webhooks",
         "--webhooks",
         written(tmp_path, table(receiver.url)),
         "--record",
         str(tmp_path / "record"),
     ]
-    with served(tmp_path, DEFINITIONS, *words, store=url) as service, service.client() as client:
+    with served(tmp_path, DEFINITIONS, *options, store=url) as service, service.client() as client:
         assert start(client, "trip", "t").status_code == 201
         all_done(client, "trip/flight", "trip/car", "trip/tour")
         assert client.get("/v1/sagas/t/wait").json()["over"]
         receiver.wait(1)
     shards, faults = fleet.judged(url, [tmp_path / "record"])
     assert len(shards) == 1 and faults == []
-    assert {"wake", "reply", "webhook"} <= told(tmp_path / "record")
+    assert {"wake", "reply", "webhook"} <= edges_of(tmp_path / "record")
 
 
 def test_a_shard_that_was_deleted_is_not_judged(url: str, tmp_path: pathlib.Path) -> None:
@@ -212,7 +212,7 @@ def test_a_shard_that_was_deleted_is_not_judged(url: str, tmp_path: pathlib.Path
                 await asyncio.sleep(0.05)
 
     run(main())
-    assert any(words[0] == "closed" for words in words_of(tmp_path / "record"))
+    assert any(fields[0] == "closed" for fields in fields_of(tmp_path / "record"))
     assert fleet.judged(url, [tmp_path / "record"]) == ([], [])
 
 
@@ -254,7 +254,7 @@ def test_records_that_cannot_be(
 
 
 @pytest.mark.parametrize(
-    ("text", "told"),
+    ("text", "edges_of"),
     [
         (None, "No such file or directory. Name the file of a record"),
         ("sagas-record 1 a\nwhat\n", "line 2: it is no event. Name a file that a program wrote"),
@@ -266,13 +266,13 @@ def test_files_that_are_none(
     tmp_path: pathlib.Path,
     capsys: pytest.CaptureFixture[str],
     text: str | None,
-    told: str,
+    edges_of: str,
 ) -> None:
     path = tmp_path / "other"
     if text is not None:
         path.write_text(text)
     assert store_command.main([store, "record", str(path)]) == 4
-    assert told in capsys.readouterr().err
+    assert edges_of in capsys.readouterr().err
 
 
 def test_a_last_line_that_is_not_whole(
@@ -386,8 +386,8 @@ def test_an_answer_of_an_older_epoch_that_comes_late(tmp_path: pathlib.Path) -> 
     record.read((7, 10, line), 2, "a\nb\n")
     record.read((7, 10, "00000002"), 2, "a\nb\n")  # of another server: its session is not known
     record.close()
-    found = [words for words in words_of(tmp_path / "record") if words[0] in ("took", "told")]
-    assert [(words[0], words[3], words[4]) for words in found] == [
+    edges = [fields for fields in fields_of(tmp_path / "record") if fields[0] in ("took", "told")]
+    assert [(fields[0], fields[3], fields[4]) for fields in edges] == [
         ("took", "9", line),
         ("took", "10", line),
         ("told", "9", line),

@@ -42,11 +42,11 @@ def test_none_is_lost(data: st.DataObject) -> None:
     looks = data.draw(st.lists(st.sampled_from("ab"), min_size=count, max_size=count))
     boxes = folded(needs, looks)
     assert sorted(step for one in boxes for step in one.steps) == [*range(count)]
-    place = {step: number for number, one in enumerate(boxes) for step in one.steps}
+    box_of = {step: number for number, one in enumerate(boxes) for step in one.steps}
     for one in boxes:
         assert len(one.steps) == 1 or len(one.steps) >= FEW
         for step in one.steps:
-            assert {place[need] for need in needs[step]} == set(one.needs)
+            assert {box_of[need] for need in needs[step]} == set(one.needs)
             assert looks[step] == looks[one.steps[0]]
 
 

@@ -74,14 +74,14 @@ def finish(drive: Drive, follower: Follower) -> None:
 
 @EXAMPLES
 @given(st.lists(steps(), min_size=1, max_size=2), st.data())
-def test_drive_does_what_the_rules_say(shelf: list[Any], data: st.DataObject) -> None:
+def test_drive_does_what_the_rules_say(definitions: list[Any], data: st.DataObject) -> None:
     """Each reply is the model's; the log is the replies' events; an audit and a restart agree with
     both.
     """
     with tempfile.TemporaryDirectory() as name:
         folder = pathlib.Path(name)
         log = folder / "log"
-        texts = [toml(f"d{number}", drawn) for number, drawn in enumerate(shelf)]
+        texts = [toml(f"d{number}", drawn) for number, drawn in enumerate(definitions)]
         follower = Follower([Definition.read(text) for text in texts])
         events: list[Json] = []
         with Drive(folder, texts, log) as drive:
@@ -100,11 +100,11 @@ def test_drive_does_what_the_rules_say(shelf: list[Any], data: st.DataObject) ->
         again = follow(texts, lines)
         assert [saga.states for saga in again.sagas] == [saga.states for saga in follower.sagas]
         ended = sum(saga.phase == "ended" for saga in again.sagas)
-        said = (
+        verdict = (
             f"yes sagas {len(again.sagas)} ended {ended} stuck {len(again.sagas) - ended} events"
             f" {len(lines) - 1}"
         )
-        assert audit(log, sorted(folder.glob("*.toml"))) == said
+        assert audit(log, sorted(folder.glob("*.toml"))) == verdict
 
 
 TRIP = """format = 2
@@ -123,7 +123,7 @@ tries = 2
 
 def trip_log() -> list[Json]:
     """Return a whole history of the trip, with a failed attempt."""
-    words = [
+    steps = [
         ("start_run", 0),
         ("commit", 0),
         ("start_run", 1),
@@ -132,7 +132,7 @@ def trip_log() -> list[Json]:
         ("commit", 1),
     ]
     return [{"def": 0, "event": "open", "saga": 0}] + [
-        {"event": word, "saga": 0, "step": step} for word, step in words
+        {"event": word, "saga": 0, "step": step} for word, step in steps
     ]
 
 

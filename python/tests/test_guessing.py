@@ -37,7 +37,7 @@ def looks(monkeypatch: pytest.MonkeyPatch) -> list[str]:
         keys.append(key)
         return await find(self, key)
 
-    async def refused(self: Writer, *words: Any) -> None:
+    async def refused(self: Writer, *arguments: Any) -> None:
         raise AssertionError("a key was refused by the server")
 
     here, many = Sqlite.find, Sqlite.find_many
@@ -68,17 +68,17 @@ def step(gate: asyncio.Event | None = None) -> sagas.Saga:
     return simple(a)
 
 
-def count(place: str) -> int:
+def count(location: str) -> int:
     """Return how many sagas there are."""
-    return len(records.read(place).sagas)
+    return len(records.read(location).sagas)
 
 
-def test_a_new_key_is_not_looked_for(place: str, looks: list[str]) -> None:
+def test_a_new_key_is_not_looked_for(location: str, looks: list[str]) -> None:
     """A lone start's, and those of many at once."""
     kind = step()
 
     async def main() -> None:
-        async with sagas.open(place, [kind]) as store:
+        async with sagas.open(location, [kind]) as store:
             for number in range(5):
                 assert (await ended(store, kind, f"k{number}", number)).results == {"a": number}
             ends = await asyncio.gather(
@@ -88,11 +88,11 @@ def test_a_new_key_is_not_looked_for(place: str, looks: list[str]) -> None:
             assert looks == []
 
     run(main())
-    assert count(place) == 205
+    assert count(location) == 205
 
 
 @pytest.mark.parametrize("old", [1, 20])
-def test_keys_that_are_there_among_new_ones(place: str, looks: list[str], old: int) -> None:
+def test_keys_that_are_there_among_new_ones(location: str, looks: list[str], old: int) -> None:
     """They return their sagas.
 
     The others are started, and open sagas next to them continue: no function is called twice, and
@@ -109,11 +109,11 @@ def test_keys_that_are_there_among_new_ones(place: str, looks: list[str], old: i
     kind = simple(a)
 
     async def main() -> None:
-        async with sagas.open(place, [kind]) as store:
+        async with sagas.open(location, [kind]) as store:
             await asyncio.gather(
                 *(ended(store, kind, f"old-{number}", number) for number in range(old))
             )
-        async with sagas.open(place, [kind]) as store:
+        async with sagas.open(location, [kind]) as store:
             waiting = [await store.start(kind, f"open-{number}", "waits") for number in range(10)]
             keys = [f"new-{number}" for number in range(30)] + [
                 f"old-{number}" for number in range(old)
@@ -126,13 +126,15 @@ def test_keys_that_are_there_among_new_ones(place: str, looks: list[str], old: i
             gate.set()
             assert [(await run.wait()).results["a"] for run in runs] == given
             assert [(await run.wait()).results["a"] for run in waiting] == ["waits"] * 10
-            assert all(said.startswith("yes") for said in (await store.audit()).values())
+            assert all(verdict.startswith("yes") for verdict in (await store.audit()).values())
 
     run(main())
-    assert count(place) == old + 40 and len(calls) == old + 40 and set(calls.values()) == {1}
+    assert count(location) == old + 40 and len(calls) == old + 40 and set(calls.values()) == {1}
 
 
-def test_a_key_that_is_over(place: str, looks: list[str], monkeypatch: pytest.MonkeyPatch) -> None:
+def test_a_key_that_is_over(
+    location: str, looks: list[str], monkeypatch: pytest.MonkeyPatch
+) -> None:
     """It is in the same log: its saga is returned, the next keys are looked for, and after enough
     new ones no more. It is the same after a restart.
     """
@@ -140,9 +142,9 @@ def test_a_key_that_is_over(place: str, looks: list[str], monkeypatch: pytest.Mo
     kind = step()
 
     async def main() -> None:
-        async with sagas.open(place, [kind]) as store:
+        async with sagas.open(location, [kind]) as store:
             assert (await ended(store, kind, "k", 1)).results == {"a": 1}
-        async with sagas.open(place, [kind]) as store:
+        async with sagas.open(location, [kind]) as store:
             for _ in range(2):
                 again = await store.start(kind, "k", 1)
                 assert not again.new and (await again.wait()).results == {"a": 1}
@@ -154,10 +156,10 @@ def test_a_key_that_is_over(place: str, looks: list[str], monkeypatch: pytest.Mo
             with pytest.raises(sagas.KeyConflict, match="another input"):
                 await store.start(kind, "k", 2)
             await ended(store, kind, "last")
-            assert all(said.startswith("yes") for said in (await store.audit()).values())
+            assert all(verdict.startswith("yes") for verdict in (await store.audit()).values())
 
     run(main())
-    assert count(place) == 7
+    assert count(location) == 7
 
 
 def test_a_key_of_another_node(url: str, looks: list[str]) -> None:
@@ -256,7 +258,7 @@ def test_who_asks_meanwhile(url: str, looks: list[str]) -> None:
             starting = asyncio.create_task(store.start(kind, "k", 1))
             await asyncio.sleep(0)  # it has started
             assert store._inside and "k" in store._inside.sagas.by_key
-            told = await asyncio.gather(
+            replies = await asyncio.gather(
                 store.abort("k"),
                 store.wait("k"),
                 store.start(kind, "k", 2),
@@ -265,18 +267,20 @@ def test_who_asks_meanwhile(url: str, looks: list[str]) -> None:
                 return_exceptions=True,
             )
             assert (
-                told[0] is False
-                and isinstance(told[1], sagas.SagaResult)
-                and told[1].results == {"a": 1}
+                replies[0] is False
+                and isinstance(replies[1], sagas.SagaResult)
+                and replies[1].results == {"a": 1}
             )
             assert (
-                isinstance(told[2], sagas.KeyConflict)
-                and isinstance(told[3], sagas.Run)
-                and not told[3].new
+                isinstance(replies[2], sagas.KeyConflict)
+                and isinstance(replies[3], sagas.Run)
+                and not replies[3].new
             )
-            assert isinstance(told[4], sagas.StepNotWaiting) and "it has succeeded" in str(told[4])
+            assert isinstance(replies[4], sagas.StepNotWaiting) and "it has succeeded" in str(
+                replies[4]
+            )
             assert not (await starting).new
-            assert all(said.startswith("yes") for said in (await store.audit()).values())
+            assert all(verdict.startswith("yes") for verdict in (await store.audit()).values())
 
     run(main())
     assert count(url) == 1
@@ -321,10 +325,10 @@ def test_a_wrong_guess_in_a_file(
     put = writer.Writer._put
 
     def noted(self: writer.Writer, batches: Sequence[Batch], patient: bool) -> Any:
-        told = put(self, batches, patient)
-        lost.update(told[1])
-        assert not told[1] & told[0].keys()
-        return told
+        result = put(self, batches, patient)
+        lost.update(result[1])
+        assert not result[1] & result[0].keys()
+        return result
 
     monkeypatch.setattr(writer.Writer, "_put", noted)
 
@@ -338,7 +342,7 @@ def test_a_wrong_guess_in_a_file(
             )
             assert [end.results["a"] for end in ends] == [*range(35), 1]
             assert lost and looks
-            assert all(said.startswith("yes") for said in (await store.audit()).values())
+            assert all(verdict.startswith("yes") for verdict in (await store.audit()).values())
 
     run(main())
     assert count(path) == 36

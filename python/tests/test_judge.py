@@ -29,9 +29,9 @@ class Copy:
         self.notes: Notes = [json.loads(line) for line in self.path.read_text().splitlines()]
         self.db = sqlite3.connect(self.store, isolation_level=None)
 
-    def write(self, *words: Any) -> None:
+    def write(self, *arguments: Any) -> None:
         """Change the database, which must change something."""
-        assert self.db.execute(*words).rowcount > 0, words
+        assert self.db.execute(*arguments).rowcount > 0, arguments
 
     def first(self, **wanted: Any) -> Json:
         """Return the first note that has these values."""
@@ -82,11 +82,11 @@ def lose_a_result(copy: Copy) -> None:
     )
 
 
-def tell_too_early(copy: Copy) -> None:
+def report_too_early(copy: Copy) -> None:
     copy.first(what="started")["there"] = False
 
 
-def tell_another_end(copy: Copy) -> None:
+def report_another_end(copy: Copy) -> None:
     note = copy.first(what="over")
     note["states"] = {step: "another" for step in note["states"]}
 
@@ -164,8 +164,8 @@ SPOILT: list[tuple[Callable[[Copy], None], str]] = [
     (change_an_end, "end"),
     (change_an_end, "told-otherwise"),
     (lose_a_result, "results"),
-    (tell_too_early, "told-early"),
-    (tell_another_end, "told-otherwise"),
+    (report_too_early, "told-early"),
+    (report_another_end, "told-otherwise"),
     (begin_too_early, "begun-early"),
     (change_a_token, "tokens"),
     (miss_without_a_call, "not-called"),

@@ -89,11 +89,11 @@ def bank(inside: Inside, in_thread: bool, **limits: Any) -> sagas.Saga:
 
 
 @pytest.mark.parametrize(
-    "place, limit, in_thread",
+    "location, limit, in_thread",
     pairs(PLACES, ("concurrency", "fleet_concurrency"), (False, True)),
-    indirect=["place"],
+    indirect=["location"],
 )
-def test_a_limit_holds_for_each_key_by_itself(place: str, limit: str, in_thread: bool) -> None:
+def test_a_limit_holds_for_each_key_by_itself(location: str, limit: str, in_thread: bool) -> None:
     """Calls of one account run one after the other, and those of others in parallel; no state of a
     key is kept after it.
     """
@@ -101,7 +101,7 @@ def test_a_limit_holds_for_each_key_by_itself(place: str, limit: str, in_thread:
     saga = bank(inside, in_thread, **{limit: 1})
 
     async def main() -> None:
-        async with sagas.open(place, [saga], concurrency=8) as store:
+        async with sagas.open(location, [saga], concurrency=8) as store:
             runs = [await store.start(saga, f"k{n}", Order(f"a{n % 3}", n)) for n in range(12)]
             for one in runs:
                 assert (await one.wait()).ok
@@ -111,8 +111,8 @@ def test_a_limit_holds_for_each_key_by_itself(place: str, limit: str, in_thread:
 
     run(main())
     assert set(inside.most.values()) == {1} and inside.all == 3, inside.most
-    if place.startswith("postgresql") and limit == "fleet_concurrency":
-        with psycopg.connect(place) as link:
+    if location.startswith("postgresql") and limit == "fleet_concurrency":
+        with psycopg.connect(location) as link:
             assert link.execute("SELECT count(*) FROM sagas.limit_slots").fetchone() == (0,)
 
 
@@ -207,7 +207,7 @@ def test_a_key_is_of_all_nodes(url: str) -> None:
     assert set(inside.most.values()) == {1} and inside.all == 2
 
 
-def test_a_key_that_cannot_be_said_fails_the_step(place: str) -> None:
+def test_a_key_that_cannot_be_said_fails_the_step(location: str) -> None:
     """Its function is not called; a key is JSON."""
 
     def account(given: Any) -> Any:
@@ -222,7 +222,7 @@ def test_a_key_that_cannot_be_said_fails_the_step(place: str) -> None:
         assert task.input == {"account": None}
 
     async def main() -> None:
-        async with sagas.open(place, [saga]) as store:
+        async with sagas.open(location, [saga]) as store:
             errors = []
             for number, given in enumerate([{}, "odd", {"account": None}]):
                 end = await (await store.start(saga, f"k{number}", given)).wait()
@@ -246,7 +246,7 @@ def test_what_is_no_limit_with_a_key_is_refused() -> None:
     def by(given: Any) -> Any:
         ...
 
-    for words, text in [
+    for options, text in [
         ({"concurrency_by": "account", "concurrency": 1}, "a plain function of the input"),
         ({"concurrency_by": move, "concurrency": 1}, "a plain function of the input"),
         ({"concurrency_by": by}, "Set concurrency or fleet_concurrency"),
@@ -256,7 +256,7 @@ def test_what_is_no_limit_with_a_key_is_refused() -> None:
         ),
     ]:
         with pytest.raises(sagas.DefinitionError, match=text):
-            sagas.Saga("s").step(name="a", **words)(move)  # type: ignore[call-overload]
+            sagas.Saga("s").step(name="a", **options)(move)  # type: ignore[call-overload]
     with pytest.raises(sagas.DefinitionError, match="needs a function in this program"):
         saga.step(name="b", external=True, concurrency=1, concurrency_by=by)  # type: ignore[call-overload]
     with pytest.raises(sagas.DefinitionError, match="fair_by=1: must be a plain function"):
@@ -264,12 +264,12 @@ def test_what_is_no_limit_with_a_key_is_refused() -> None:
 
 
 @pytest.mark.parametrize(
-    "place, again, codec",
+    "location, again, codec",
     pairs(PLACES, (False, True), (None, Encryption(a=OLD))),
-    indirect=["place"],
+    indirect=["location"],
 )
 def test_a_small_tenant_does_not_wait_for_a_large_one(
-    place: str, again: bool, codec: Encryption | None
+    location: str, again: bool, codec: Encryption | None
 ) -> None:
     """This holds also after a restart with running attempts.
 
@@ -297,12 +297,12 @@ def test_a_small_tenant_does_not_wait_for_a_large_one(
         nonlocal opened
         if again:
             async with sagas.open(
-                place, [saga], concurrency=1, shutdown_timeout=0, codec=codec
+                location, [saga], concurrency=1, shutdown_timeout=0, codec=codec
             ) as store:
                 await start(store)
                 await until(lambda: called)
             called.clear()
-        async with sagas.open(place, [saga], concurrency=1, codec=codec) as store:
+        async with sagas.open(location, [saga], concurrency=1, codec=codec) as store:
             if not again:
                 await start(store)
             await until(lambda: called and len(store._inside.slots._queued) == 10)
@@ -357,7 +357,9 @@ asyncio.run(main())
 """
 
 
-def test_a_program_that_is_killed_while_keys_are_taken(place: str, tmp_path: pathlib.Path) -> None:
+def test_a_program_that_is_killed_while_keys_are_taken(
+    location: str, tmp_path: pathlib.Path
+) -> None:
     """No key stays taken, and in each run of the program one saga of an account is called at a
     time.
     """
@@ -370,8 +372,8 @@ def test_a_program_that_is_killed_while_keys_are_taken(place: str, tmp_path: pat
 
     async def main() -> None:
         for kill in (3, 9, None):
-            words = [sys.executable, "-c", KILLED, place, str(tmp_path / "witness")]
-            process = subprocess.Popen(words, env=environment)
+            command = [sys.executable, "-c", KILLED, location, str(tmp_path / "witness")]
+            process = subprocess.Popen(command, env=environment)
             if kill:
                 await until(lambda: sum(note["what"] == "end" for note in notes_of(notes)) >= kill)
                 process.send_signal(signal.SIGKILL)

@@ -22,7 +22,7 @@ def test_nothing_is_lost_and_nothing_is_done_twice(kind: str, number: int) -> No
     """
     for again in range(AGAIN):
         one = play(kind, 1000 * number + 100 * again + KINDS.index(kind), 40)
-        assert not one.found, f"{one.folder}: {one.found[:5]}"
+        assert not one.problems, f"{one.folder}: {one.problems[:5]}"
         if one.kills:
             break
     assert sum(one.kills.values()) > 0

@@ -22,5 +22,5 @@ def test_nothing_is_lost_and_nothing_is_done_twice(
 ) -> None:
     """Witness, database and logs agree in the end."""
     one = play(kind, 1000 * number + KINDS.index(kind), SAGAS, postgresql)
-    assert not one.found, f"{one.folder}: {one.found[:5]}"
+    assert not one.problems, f"{one.folder}: {one.problems[:5]}"
     assert sum(one.kills.values()) > 0

@@ -120,7 +120,7 @@ def attributes(node: ast.ClassDef) -> set[str]:
     """Return the attributes that a class declares, and those of `self` that its own
     functions set.
     """
-    found = {
+    declared = {
         one.target.id
         for one in node.body
         if isinstance(one, ast.AnnAssign) and isinstance(one.target, ast.Name)
@@ -128,8 +128,8 @@ def attributes(node: ast.ClassDef) -> set[str]:
     for one in ast.walk(node):
         if isinstance(one, ast.Attribute) and isinstance(one.ctx, ast.Store):
             if isinstance(one.value, ast.Name) and one.value.id == "self":
-                found.add(one.attr)
-    return found
+                declared.add(one.attr)
+    return declared
 
 
 def body_lines(node: ast.FunctionDef | ast.AsyncFunctionDef) -> int:

@@ -70,11 +70,11 @@ async def loading(url: str) -> AsyncIterator[Loads]:
     await asker.close()
 
 
-def is_whole(loaded: Loaded | None, place: int, epoch: int) -> bool:
+def is_whole(loaded: Loaded | None, index: int, epoch: int) -> bool:
     """Return whether the loaded log is complete, under a new epoch."""
     assert loaded
     ids = [id for id, *_ in loaded.open]
-    numbers = [*range(place * ROOM, place * ROOM + ROOM)]
+    numbers = [*range(index * ROOM, index * ROOM + ROOM)]
     open = [(key, json.loads(text), until) for _, key, _, text, until, *_ in loaded.open]
     assert open == [(f"k{number}", {"n": number}, 8200.0) for number in numbers]
     assert all(type(until) is float for *_, until, _, _ in loaded.open)
@@ -110,7 +110,7 @@ def test_all_that_are_wanted_go_together(url: str, logs: list[int]) -> None:
                     *(loads.load(log, 0, None) for log in logs)
                 )
                 assert others is None and closed is None
-                assert all(is_whole(loaded, place, epoch) for place, loaded in enumerate(mine, 2))
+                assert all(is_whole(loaded, index, epoch) for index, loaded in enumerate(mine, 2))
             gone, unborn, there, born = await asyncio.gather(
                 loads.load(10**6, 7, None),
                 loads.load(10**6 + 1, 7, BORN),
@@ -163,9 +163,9 @@ def test_a_commit_behind_a_chunk_that_is_not_there(
                 f" WHERE shard = {differs} AND {last}".encode()
             )
         lost = set[int]()
-        for lot in [batches] if together else [[one] for one in batches]:
+        for group in [batches] if together else [[one] for one in batches]:
             written = asyncio.get_running_loop().create_future()
-            writer.commit(lot, lambda *told, written=written: written.set_result(told))
+            writer.commit(group, lambda *result, written=written: written.set_result(result))
             _, fault, refused = await written
             assert fault is None
             lost |= refused
@@ -221,12 +221,12 @@ def test_locked_logs_hold_up_nobody(url: str, logs: list[int]) -> None:
     """
 
     async def main() -> None:
-        with psycopg.connect(url) as stranger, psycopg.connect(url, autocommit=True) as eye:
+        with psycopg.connect(url) as stranger, psycopg.connect(url, autocommit=True) as observer:
             async with loading(url) as loads:
                 stranger.execute("SELECT 1 FROM sagas.shards FOR UPDATE")
                 waits = [asyncio.create_task(loads.load(log, 1, None)) for log in logs]
                 await until(
-                    lambda: eye.execute(
+                    lambda: observer.execute(
                         "SELECT 1 FROM pg_stat_activity WHERE datname = current_database() AND"
                         " wait_event_type = 'Lock'"
                     ).fetchall()
@@ -235,7 +235,7 @@ def test_locked_logs_hold_up_nobody(url: str, logs: list[int]) -> None:
                 assert await loads._asker.ask("SELECT 1") == [(1,)]
                 assert not any(wait.done() for wait in waits)
                 stranger.rollback()
-                assert all([is_whole(await wait, place, 2) for place, wait in enumerate(waits)])
+                assert all([is_whole(await wait, index, 2) for index, wait in enumerate(waits)])
 
     run(main())
 
@@ -247,12 +247,14 @@ def test_a_log_that_cannot_be_taken_up(url: str, logs: list[int]) -> None:
         with psycopg.connect(url, autocommit=True) as link:
             link.execute(REFUSES.format(logs[3]))
         async with loading(url) as loads:
-            found = await asyncio.gather(
+            loaded_logs = await asyncio.gather(
                 *(loads.load(log, 1, None) for log in logs), return_exceptions=True
             )
-            assert isinstance(found[3], StoreUnavailable) and "it is not read" in str(found[3])
+            assert isinstance(loaded_logs[3], StoreUnavailable) and "it is not read" in str(
+                loaded_logs[3]
+            )
             assert all(
-                is_whole(loaded, place, 2) for place, loaded in enumerate(found) if place != 3
+                is_whole(loaded, index, 2) for index, loaded in enumerate(loaded_logs) if index != 3
             )
             with psycopg.connect(url, autocommit=True) as link:
                 link.execute("DROP TRIGGER refuses ON sagas.shards")
@@ -273,8 +275,8 @@ def test_the_server_does_not_answer(url: str, logs: list[int]) -> None:
             assert [type(fault) for fault in faults] == [StoreUnavailable] * LOGS
             assert all(
                 [
-                    is_whole(await loads.load(log, 1, None), place, 2)
-                    for place, log in enumerate(logs)
+                    is_whole(await loads.load(log, 1, None), index, 2)
+                    for index, log in enumerate(logs)
                 ]
             )
 

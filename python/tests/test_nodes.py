@@ -121,9 +121,9 @@ async def is_open(process: subprocess.Popen[str], called: int = 0) -> dict[str, 
     assert process.stdout
     opened, tokens = False, dict[str, str]()
     while line := await asyncio.to_thread(process.stdout.readline):
-        word, *told = line.split()
+        word, *fields = line.split()
         if word == "called":
-            tokens[told[0]] = told[1]
+            tokens[fields[0]] = fields[1]
         opened = opened or word == "open"
         if opened and len(tokens) >= called:
             return tokens
@@ -236,7 +236,7 @@ def test_a_node_that_slept_past_its_lease_writes_nothing(tmp_path: pathlib.Path,
                 assert {
                     key: row for key, row in after.sagas.items() if key != "after"
                 } == before.sagas
-                assert all(said.startswith("yes") for said in (await store.audit()).values())
+                assert all(verdict.startswith("yes") for verdict in (await store.audit()).values())
 
     run(main())
 
@@ -292,14 +292,16 @@ def test_a_node_that_opens_keeps_its_lease(url: str, tmp_path: pathlib.Path) -> 
     """Its context takes longer than a lease: no other node takes the shards that it has
     just taken.
     """
-    told, tell = list[str](), lambda event: told.append(event.name)
+    event_names, collect = list[str](), lambda event: event_names.append(event.name)
 
     async def main() -> None:
         with node(tmp_path, url, "web", 1, lease=600) as process:
             await is_open(process, called=1)
             process.kill()
             process.wait()
-            async with sagas.open(url, [pair()], node="other", lease=2.0, on_event=tell) as other:
+            async with sagas.open(
+                url, [pair()], node="other", lease=2.0, on_event=collect
+            ) as other:
                 beats = other._inside.store.lease  # type: ignore[attr-defined]
 
                 @contextlib.asynccontextmanager
@@ -309,12 +311,12 @@ def test_a_node_that_opens_keeps_its_lease(url: str, tmp_path: pathlib.Path) -> 
                     yield
 
                 async with sagas.open(
-                    url, [pair()], node="web", lease=2.0, context=slow, on_event=tell
+                    url, [pair()], node="web", lease=2.0, context=slow, on_event=collect
                 ) as store:
                     assert (await store.wait("web-0")).ok
 
     run(main())
-    assert not {"lease_expired", "shard_taken", "shard_lost"} & {*told}
+    assert not {"lease_expired", "shard_taken", "shard_lost"} & {*event_names}
 
 
 def test_two_nodes_of_one_name(url: str) -> None:
@@ -423,7 +425,7 @@ def test_what_no_node_drives_is_told(url: str, caplog: pytest.LogCaptureFixture)
     as no node has driven them for a lease. To find that out it does not give up its own shards,
     even if a table is locked. The report of a log that was left is dropped once it is closed.
     """
-    gate, calls, told = asyncio.Event(), list[str](), list[sagas.Event]()
+    gate, calls, events = asyncio.Event(), list[str](), list[sagas.Event]()
     old, new = pair(gate, calls), simple(lambda task: 1)
     says = (
         f"/{url.rpartition('/')[2]}: no node executes 1 shard, because none has the functions of"
@@ -440,7 +442,7 @@ def test_what_no_node_drives_is_told(url: str, caplog: pytest.LogCaptureFixture)
             for number in range(3):
                 await store.start(old, f"old {number}")
             await until(lambda: len(calls) == 3)
-        async with sagas.open(url, [new], lease=6.0, on_event=told.append) as store:
+        async with sagas.open(url, [new], lease=6.0, on_event=events.append) as store:
             lease = store._inside.store.lease  # type: ignore[attr-defined]
             (log,) = lease.left
             with psycopg.connect(url) as stranger:
@@ -463,7 +465,7 @@ def test_what_no_node_drives_is_told(url: str, caplog: pytest.LogCaptureFixture)
             assert len(warnings()) == 1
 
     run(main())
-    assert "lease_expired" not in {event.name for event in told}
+    assert "lease_expired" not in {event.name for event in events}
 
 
 class Nowhere:
@@ -504,7 +506,7 @@ def test_nothing_is_kept_of_reports_that_another_node_waits_for(url: str) -> Non
             for number in range(3):
                 await store.start(first, f"k{number}")
             waiting = store._inside.external._reports
-            await until(lambda: asked_all(store, 3))
+            await until(lambda: all_reported_unknown(store, 3))
             await until(lambda: len(waiting) == 3)
             tokens = {held.attempt_id for held in await store.unknown()}
             async with sagas.open(url, [second], node="same", shutdown_timeout=0.0) as other:
@@ -515,23 +517,23 @@ def test_nothing_is_kept_of_reports_that_another_node_waits_for(url: str) -> Non
     run(main())
 
 
-async def asked_all(store: sagas.Store, count: int) -> bool:
+async def all_reported_unknown(store: sagas.Store, count: int) -> bool:
     """Return whether `count` attempts are recorded as unknown."""
     return len(await store.unknown()) == count
 
 
 def test_a_lost_connection_is_no_childs_death(postgresql: Server, url: str) -> None:
     """The server cannot be reached as logs are to be loaded: the error names the database."""
-    gate, calls, told = asyncio.Event(), list[str](), list[sagas.Event]()
+    gate, calls, events = asyncio.Event(), list[str](), list[sagas.Event]()
     kind = pair(gate, calls)
 
     def not_taken_up() -> int:
-        return sum("is not open yet" in (event.detail or "") for event in told)
+        return sum("is not open yet" in (event.detail or "") for event in events)
 
     async def main() -> None:
         with relaying(postgresql.port) as relay:
-            place = postgresql.url(url.rpartition("/")[2], port=relay.port)
-            async with sagas.open(place, [kind], lease=60, on_event=told.append) as store:
+            location = postgresql.url(url.rpartition("/")[2], port=relay.port)
+            async with sagas.open(location, [kind], lease=60, on_event=events.append) as store:
                 await store.start(kind, "k")
                 await until(lambda: calls)
                 relay.before = 1.0
@@ -542,8 +544,8 @@ def test_a_lost_connection_is_no_childs_death(postgresql: Server, url: str) -> N
                 assert (await store.wait("k")).ok
 
     run(main())
-    assert "engine_died" not in {event.name for event in told}
-    assert "commit_failed" in {event.name for event in told}
+    assert "engine_died" not in {event.name for event in events}
+    assert "commit_failed" in {event.name for event in events}
 
 
 def test_a_rolling_deploy_of_a_changed_definition(url: str) -> None:
@@ -608,7 +610,7 @@ def test_a_large_commit_is_taken_apart_piece_by_piece(
     async def main() -> None:
         async with sagas.open(url, [kind]) as store:
             assert (await ended(store, kind, "k")).ok
-            assert all(said.startswith("yes") for said in (await store.audit()).values())
+            assert all(verdict.startswith("yes") for verdict in (await store.audit()).values())
 
     run(main())
 
@@ -677,7 +679,7 @@ def test_behind_its_lease_a_node_keeps_what_is_still_its_own(
     releases that one, and continues with the other.
     """
     monkeypatch.setattr("sagas.definition.shelf.SHARD_CAPACITY", 1)
-    gate, calls, said = asyncio.Event(), list[str](), list[tuple[str, str | None]]()
+    gate, calls, events = asyncio.Event(), list[str](), list[tuple[str, str | None]]()
     kind = pair(gate, calls)
 
     async def main() -> None:
@@ -686,7 +688,7 @@ def test_behind_its_lease_a_node_keeps_what_is_still_its_own(
             [kind],
             lease=1.5,
             shutdown_timeout=0.0,
-            on_event=lambda event: said.append((event.name, event.detail)),
+            on_event=lambda event: events.append((event.name, event.detail)),
         ) as store:
             for key in ("kept", "taken"):
                 await store.start(kind, key)
@@ -699,11 +701,11 @@ def test_behind_its_lease_a_node_keeps_what_is_still_its_own(
                 await until(lambda: not inside.store.holds())
                 stranger.execute(OTHER)
                 taken = stranger.execute(TAKEN).fetchall()
-            await until(lambda: "shard_lost" in dict(said))
-            assert [(detail,) for name, detail in said if name == "shard_lost"] == taken and (
+            await until(lambda: "shard_lost" in dict(events))
+            assert [(detail,) for name, detail in events if name == "shard_lost"] == taken and (
                 "lease_expired",
                 None,
-            ) in said
+            ) in events
             assert len(before) == 2
             await until(lambda: all(child and child.buried.done() for child in before))
             gate.set()
@@ -818,9 +820,9 @@ def test_a_node_says_between_two_lots_that_it_lives(
     async def main() -> None:
         take = node_lease.Lease.take
 
-        async def noted(self: node_lease.Lease, *words: Any) -> Any:
+        async def noted(self: node_lease.Lease, *arguments: Any) -> Any:
             turns.append(self._turn)
-            return await take(self, *words)
+            return await take(self, *arguments)
 
         async with sagas.open(url, [mine]) as store:
             async with sagas.open(url, [mine, others], shutdown_timeout=0.0) as both:
@@ -923,10 +925,12 @@ def test_a_start_that_comes_late(postgresql: Server, url: str, is_born: bool) ->
                 assert inside
                 if not is_born:
                     inside.shards._placement.current.clear()
-                with psycopg.connect(url) as stranger, psycopg.connect(url, autocommit=True) as eye:
+                with psycopg.connect(url) as stranger, psycopg.connect(
+                    url, autocommit=True
+                ) as observer:
                     stranger.execute("LOCK TABLE sagas.sagas IN EXCLUSIVE MODE")
                     start = asyncio.create_task(store.start(kind, "late"))
-                    ((late,),) = await until(lambda: eye.execute(waits).fetchall())
+                    ((late,),) = await until(lambda: observer.execute(waits).fetchall())
                     relay.cut()
                     with pytest.raises(
                         sagas.StoreUnavailable, match="with the same key|Nothing was started"
@@ -935,13 +939,13 @@ def test_a_start_that_comes_late(postgresql: Server, url: str, is_born: bool) ->
                     again = asyncio.create_task(surely_ended(store, kind, "late"))
                     stranger.rollback()
                     await until(
-                        lambda: not eye.execute(
+                        lambda: not observer.execute(
                             "SELECT 1 FROM pg_stat_activity WHERE pid = %s", (late,)
                         ).fetchall()
                     )
                     assert (await asyncio.wait_for(again, 60)).ok
                     await until(
-                        lambda: eye.execute(
+                        lambda: observer.execute(
                             "SELECT count(*), count(phase) FROM sagas.sagas"
                         ).fetchone()
                         == (3, 3)
@@ -949,8 +953,8 @@ def test_a_start_that_comes_late(postgresql: Server, url: str, is_born: bool) ->
                     owners = (
                         "SELECT count(*) FROM sagas.shards WHERE closed = 0 AND shard <> ALL(%s)"
                     )
-                    assert eye.execute(owners, (inside.logs(),)).fetchone() == (0,)
-                assert all(said.startswith("yes") for said in (await store.audit()).values())
+                    assert observer.execute(owners, (inside.logs(),)).fetchone() == (0,)
+                assert all(verdict.startswith("yes") for verdict in (await store.audit()).values())
 
     run(main())
     assert sorted(set(calls)) == ["k0", "k1", "late"]
@@ -962,16 +966,16 @@ def test_a_log_that_could_not_be_given_back(url: str, monkeypatch: pytest.Monkey
     """
     ask, is_lost = connections.Asker.ask, True
 
-    async def loses(self: connections.Asker, text: str, **words: Any) -> list[Any]:
+    async def loses(self: connections.Asker, text: str, **options: Any) -> list[Any]:
         nonlocal is_lost
         if text == node_lease.LEAVE and is_lost:
             is_lost = False
             raise sagas.StoreUnavailable("it does not answer")
-        return await ask(self, text, **words)
+        return await ask(self, text, **options)
 
     async def main() -> None:
         gate, calls = asyncio.Event(), list[str]()
-        kind, said = pair(gate, calls), iter([None, "it lacks b", "it lacks b"])
+        kind, reasons = pair(gate, calls), iter([None, "it lacks b", "it lacks b"])
         async with sagas.open(url, [kind], shutdown_timeout=0.0) as store:
             await store.start(kind, "k")
             await until(lambda: calls)
@@ -981,10 +985,10 @@ def test_a_log_that_could_not_be_given_back(url: str, monkeypatch: pytest.Monkey
         lease = node_lease.Lease(asker, "n", 10.0, "")
         await lease.begin()
         with pytest.raises(sagas.StoreUnavailable):
-            await lease.take(lambda *_: next(said), [])
+            await lease.take(lambda *_: next(reasons), [])
         owner = "SELECT owner FROM sagas.shards WHERE closed = 0"
         assert await asker.ask(owner) == [(lease.node,)] and not lease.left
-        assert await lease.take(lambda *_: next(said), []) == []
+        assert await lease.take(lambda *_: next(reasons), []) == []
         assert await asker.ask(owner) == [(None,)] and lease.left
         await asker.close()
 
@@ -1029,24 +1033,24 @@ def test_what_was_heard_before_a_connection_broke_counts_no_more(url: str) -> No
     """
 
     async def main() -> None:
-        looks, told = asyncio.Queue[str](), asyncio.Event()
-        news = notifications.News(url, looks.put_nowait)
+        looks, sent = asyncio.Queue[str](), asyncio.Event()
+        listener = notifications.News(url, looks.put_nowait)
         await looks.get()
-        news.say(["ended 17", "look"], told.set)
+        listener.say(["ended 17", "look"], sent.set)
         assert await looks.get() == "look"
-        await asyncio.wait_for(news.of(17, 16), 5)
+        await asyncio.wait_for(listener.of(17, 16), 5)
         with psycopg.connect(url, autocommit=True) as stranger:
             stranger.execute(
                 "SELECT pg_terminate_backend(pid) FROM pg_stat_activity WHERE datname ="
                 " current_database() AND pid <> pg_backend_pid()"
             )
         assert await looks.get() == ""
-        waiting = asyncio.create_task(news.of(17, 16))
+        waiting = asyncio.create_task(listener.of(17, 16))
         await asyncio.sleep(0.1)
         assert not waiting.done()
-        news.say(["ended 17"], told.set)
+        listener.say(["ended 17"], sent.set)
         await waiting
-        await news.close()
+        await listener.close()
 
     run(main())
 
@@ -1056,7 +1060,7 @@ def test_an_end_is_heard_of_without_a_word(url: str, monkeypatch: pytest.MonkeyP
     intervals.
     """
     monkeypatch.setattr(
-        "sagas.storage.postgresql.announcer.Announcer.say", lambda self, words: None
+        "sagas.storage.postgresql.announcer.Announcer.say", lambda self, messages: None
     )
     monkeypatch.setattr(notifications, "FIRST_LOOK", 0.01)
     gate = asyncio.Event()
@@ -1126,15 +1130,17 @@ def test_a_start_without_a_server_is_refused(url: str, monkeypatch: pytest.Monke
 
     async def main() -> None:
         async with sagas.open(url, [kind]) as store:
-            told = await asyncio.gather(
+            results = await asyncio.gather(
                 *(ended(store, kind, f"k{number}") for number in range(200)), return_exceptions=True
             )
             refused = [
-                number for number, one in enumerate(told) if isinstance(one, sagas.StoreUnavailable)
+                number
+                for number, one in enumerate(results)
+                if isinstance(one, sagas.StoreUnavailable)
             ]
             assert (
                 refused
-                and len(refused) + sum(isinstance(one, sagas.SagaResult) for one in told) == 200
+                and len(refused) + sum(isinstance(one, sagas.SagaResult) for one in results) == 200
             )
             assert (await surely_ended(store, kind, f"k{refused[0]}")).ok
 
@@ -1151,24 +1157,24 @@ def test_who_looks_for_a_key_hears_that_the_store_is_closed(
 
     async def main() -> None:
         with relaying(postgresql.port) as relay:
-            place = postgresql.url(url.rpartition("/")[2], port=relay.port)
-            async with sagas.open(place, [kind]) as store:
+            location = postgresql.url(url.rpartition("/")[2], port=relay.port)
+            async with sagas.open(location, [kind]) as store:
                 keys = store._inside.store._keys  # type: ignore[attr-defined]
                 relay.cut()
                 await until(lambda: not keys._link.is_open)
                 relay._loop.call_soon_threadsafe(silent.wait)
-                asked = [asyncio.create_task(store.get("k"))]
+                requests = [asyncio.create_task(store.get("k"))]
                 await until(lambda: keys.sought == 1)
-                asked += [
+                requests += [
                     asyncio.create_task(work) for work in (store.get("k"), store.wait("other"))
                 ]
                 await until(lambda: keys.sought == 3)
                 monkeypatch.setattr(connections, "CONNECT", 0.1)
                 closing = asyncio.create_task(store.close())
-                await asyncio.wait(asked, timeout=10)
+                await asyncio.wait(requests, timeout=10)
                 silent.set()
                 await closing
-                assert {type(one.exception()) if one.done() else None for one in asked} == {
+                assert {type(one.exception()) if one.done() else None for one in requests} == {
                     sagas.Closed
                 }
 
@@ -1207,12 +1213,12 @@ def test_a_node_is_gone_in_the_middle_of_a_claim(
     """The server does not notice it, as when a machine loses its power: others wait for its locks
     no longer than a statement may take.
     """
-    kind, words = sagas.Saga("outside"), [("outside", "a", "run")]
+    kind, task_names = sagas.Saga("outside"), [("outside", "a", "run")]
     kind.step(name="a", external=True, concurrency=1)
 
     async def claimed(store: sagas.Store) -> bool:
         with contextlib.suppress(sagas.StoreUnavailable):
-            return bool(await store.workers.claim(words))
+            return bool(await store.workers.claim(task_names))
         return False
 
     async def main() -> None:
@@ -1354,15 +1360,15 @@ def test_who_reads_holds_up_nobody(url: str, table: str) -> None:
     The loop continues while the store reads, the node keeps its lease, and each reply comes once
     the table is free.
     """
-    kind, told = pair(), list[str]()
+    kind, event_names = pair(), list[str]()
 
     async def main() -> None:
         async with sagas.open(url, [kind], node="other") as other:
             assert (await ended(other, kind, "other's")).ok
-        lease, told_of = 1.5, lambda event: told.append(event.name)
-        async with sagas.open(url, [kind], lease=lease, on_event=told_of) as store:
+        lease, collect = 1.5, lambda event: event_names.append(event.name)
+        async with sagas.open(url, [kind], lease=lease, on_event=collect) as store:
             assert (await ended(store, kind, "k")).ok
-            await until(lambda: "shard_closed" in told)
+            await until(lambda: "shard_closed" in event_names)
             node = store._inside.store.lease  # type: ignore[attr-defined]
             with psycopg.connect(url) as stranger:
                 stranger.execute(f"LOCK TABLE sagas.{table} IN ACCESS EXCLUSIVE MODE")
@@ -1376,14 +1382,14 @@ def test_who_reads_holds_up_nobody(url: str, table: str) -> None:
                     assert store.holds() and not answers.done()
                 assert turns.longest < 1.0
                 stranger.rollback()
-                found = dict(zip(reads, await answers))
-        assert found["get"] and {one.key for one in found["list"]} == {"k", "other's"}
-        assert found["log"] == found["log of a run"] and found["wait"].ok
-        assert found["plan"] is found["plan of a run"] is None
-        assert found["stuck"] == found["unknown"] == []
+                results = dict(zip(reads, await answers))
+        assert results["get"] and {one.key for one in results["list"]} == {"k", "other's"}
+        assert results["log"] == results["log of a run"] and results["wait"].ok
+        assert results["plan"] is results["plan of a run"] is None
+        assert results["stuck"] == results["unknown"] == []
 
     run(main())
-    assert "lease_expired" not in told and "commit_failed" not in told
+    assert "lease_expired" not in event_names and "commit_failed" not in event_names
 
 
 def test_the_ends_of_many_sagas_at_once(postgresql: Server, url: str) -> None:
@@ -1397,8 +1403,8 @@ def test_the_ends_of_many_sagas_at_once(postgresql: Server, url: str) -> None:
         async with sagas.open(url, [kind], node="other") as other:
             await asyncio.gather(*(ended(other, kind, key, {"of": key}) for key in keys))
         with relaying(postgresql.port, 3) as relay:
-            place = postgresql.url(url.rpartition("/")[2], port=relay.port)
-            async with sagas.open(place, [kind], lease=60) as store:
+            location = postgresql.url(url.rpartition("/")[2], port=relay.port)
+            async with sagas.open(location, [kind], lease=60) as store:
                 for chance in (0.0, 0.2):
                     relay.before = relay.after = chance
                     ends = await asyncio.gather(*(store.wait(key) for key in keys))
@@ -1408,9 +1414,9 @@ def test_the_ends_of_many_sagas_at_once(postgresql: Server, url: str) -> None:
                 assert row
                 with pytest.raises(sagas.NoSuchSaga, match="'k0' was deleted meanwhile"):
                     await store._inside.store.known(row._replace(id=row.id + 990))
-                asked = [asyncio.ensure_future(store.wait(key)) for key in keys]
+                waits = [asyncio.ensure_future(store.wait(key)) for key in keys]
                 await asyncio.sleep(0)
-            over = await asyncio.wait_for(asyncio.gather(*asked, return_exceptions=True), 60)
+            over = await asyncio.wait_for(asyncio.gather(*waits, return_exceptions=True), 60)
             assert {type(one) for one in over} <= {
                 sagas.SagaResult,
                 sagas.Closed,
@@ -1430,10 +1436,10 @@ def test_an_audit_in_the_background_holds_up_nobody(url: str) -> None:
     than a lease: the loop continues, the lease is kept, and the log is closed once the table is
     free.
     """
-    kind, told = pair(), list[str]()
+    kind, event_names = pair(), list[str]()
 
-    def tell(event: sagas.Event) -> None:
-        told.append(event.name)
+    def collect(event: sagas.Event) -> None:
+        event_names.append(event.name)
 
     async def main() -> None:
         async with sagas.open(url, [kind]) as store:
@@ -1442,17 +1448,17 @@ def test_an_audit_in_the_background_holds_up_nobody(url: str) -> None:
         with psycopg.connect(url) as stranger:
             stranger.execute("LOCK TABLE sagas.event_log IN ACCESS EXCLUSIVE MODE")
             async with Turns() as turns:
-                async with sagas.open(url, [kind], lease=lease, on_event=tell) as store:
+                async with sagas.open(url, [kind], lease=lease, on_event=collect) as store:
                     node = store._inside.store.lease  # type: ignore[attr-defined]
                     await until(lambda: asyncio.to_thread(waits_in, url))
                     since = node._until
                     await until(lambda: node._until > since + lease + 0.5)
-                    assert not told and turns.longest < 0.2
+                    assert not event_names and turns.longest < 0.2
                     stranger.rollback()
-                    await until(lambda: "shard_closed" in told)
+                    await until(lambda: "shard_closed" in event_names)
 
     run(main())
-    assert told == ["shard_closed"]
+    assert event_names == ["shard_closed"]
 
 
 # -- clocks
@@ -1520,7 +1526,7 @@ def test_clocks_a_minute_apart_that_jump(url: str) -> None:
                 ("late", "early"),
                 ("early", "early"),
             }
-            assert all(said.startswith("yes") for said in (await other.audit()).values())
+            assert all(verdict.startswith("yes") for verdict in (await other.audit()).values())
 
     run(main())
     assert all(count == 1 or "-b-run-" in token for token, count in calls.items())

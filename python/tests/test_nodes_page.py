@@ -26,9 +26,9 @@ PAGE = (TOP / "docs/tutorials/cluster.md").read_text()
 
 def code(name: str) -> str:
     """Return the block of the page that is to be saved under this name."""
-    found = re.search(rf"as `{name}`:\n\n```python\n(.*?)^```$", PAGE, re.S | re.M)
-    assert found, name
-    return found[1]
+    match = re.search(rf"as `{name}`:\n\n```python\n(.*?)^```$", PAGE, re.S | re.M)
+    assert match, name
+    return match[1]
 
 
 def test_two_nodes_and_a_client(url: str, postgresql: Server, tmp_path: pathlib.Path) -> None:
@@ -42,9 +42,9 @@ def test_two_nodes_and_a_client(url: str, postgresql: Server, tmp_path: pathlib.
         "PYTHONUNBUFFERED": "1",
     }
 
-    def start(*words: str) -> subprocess.Popen[str]:
+    def start(*arguments: str) -> subprocess.Popen[str]:
         return subprocess.Popen(
-            [sys.executable, *words],
+            [sys.executable, *arguments],
             cwd=tmp_path,
             env=environment,
             stdout=subprocess.PIPE,
@@ -74,8 +74,8 @@ def test_two_nodes_and_a_client(url: str, postgresql: Server, tmp_path: pathlib.
         out, _ = client.communicate(timeout=200)
         assert out == re.search(r"prints:\n\n```text\n(.*?)```", PAGE, re.S)[1]  # type: ignore[index]
         words = [sys.executable, "-m", "sagas", "store", url, "nodes"]
-        said = subprocess.check_output(words, env=environment, text=True)
+        output = subprocess.check_output(words, env=environment, text=True)
         other = "two" if owner == "one" else "one"
-        assert other in [line.split()[0] for line in said.splitlines()[1:] if line]
+        assert other in [line.split()[0] for line in output.splitlines()[1:] if line]
         nodes[other].send_signal(signal.SIGTERM)
         assert nodes[other].wait(120) == 0

@@ -48,36 +48,38 @@ def prose(document: Any) -> Iterator[str]:
     templates = [re.sub(r"{\w+}", "{}", path) for path in document["paths"]]
     if len(templates) != len({*templates}):
         yield "paths: two differ in the names of their parameters alone"
-    for place, told in operations(document):
-        ids.append(told.get("operationId", place))
-        for need in told.get("security", document["security"]):
+    for location, operation in operations(document):
+        ids.append(operation.get("operationId", location))
+        for need in operation.get("security", document["security"]):
             for name in need:
                 if name not in components["securitySchemes"]:
-                    yield f"{place}: there is no security scheme {name}"
-        some = [contract.resolved(one) for one in told.get("parameters", ())]
+                    yield f"{location}: there is no security scheme {name}"
+        some = [contract.resolved(one) for one in operation.get("parameters", ())]
         names = [(one["name"], one["in"]) for one in some]
         if len(names) != len({*names}):
-            yield f"{place}: a parameter is there twice"
-        if {name for name, where in names if where == "path"} != {*re.findall(r"{(\w+)}", place)}:
-            yield f"{place}: its path has other parameters"
+            yield f"{location}: a parameter is there twice"
+        if {name for name, where in names if where == "path"} != {
+            *re.findall(r"{(\w+)}", location)
+        }:
+            yield f"{location}: its path has other parameters"
         for one in some:
             if one["in"] not in ("query", "header", "path", "cookie"):
-                yield f"{place}: {one['name']} is in {one['in']}"
+                yield f"{location}: {one['name']} is in {one['in']}"
             if one["in"] == "path" and one.get("required") is not True:
-                yield f"{place}: {one['name']} must be required"
+                yield f"{location}: {one['name']} must be required"
             if one["in"] == "header" and one["name"].lower() in (
                 "accept",
                 "content-type",
                 "authorization",
             ):
-                yield f"{place}: {one['name']} is ignored as a parameter"
+                yield f"{location}: {one['name']} is ignored as a parameter"
             if ("schema" in one) is ("content" in one) or ("example" in one and "examples" in one):
-                yield f"{place}: {one['name']} has both, or neither, of what excludes each other"
-        if not told["responses"]:
-            yield f"{place}: there is no response"
-        for content in contents(told):
+                yield f"{location}: {one['name']} has both, or neither, of what excludes each other"
+        if not operation["responses"]:
+            yield f"{location}: there is no response"
+        for content in contents(operation):
             if "example" in content and "examples" in content:
-                yield f"{place}: example and examples exclude each other"
+                yield f"{location}: example and examples exclude each other"
     if len(ids) != len({*ids}):
         yield "paths: an operationId is there twice"
 
@@ -155,9 +157,9 @@ WRONG: dict[str, tuple[str, Any, str]] = {
 @pytest.mark.parametrize("what", WRONG)
 def test_what_is_wrong_is_found(what: str) -> None:
     """Each rule finds a document that breaks it."""
-    place, value, text = WRONG[what]
+    location, value, text = WRONG[what]
     document = copy.deepcopy(DOCUMENT)
-    *parts, last = [part.replace("~", "/v1/sagas") for part in place.split("/")]
+    *parts, last = [part.replace("~", "/v1/sagas") for part in location.split("/")]
     inner = document
     for part in parts:
         inner = inner[part]
@@ -165,6 +167,6 @@ def test_what_is_wrong_is_found(what: str) -> None:
         del inner[last]
     else:
         inner[last] = value
-    found = structure(document)
-    found += [*prose(document)] if not found else []
-    assert any(text in one for one in found), found[:3]
+    faults = structure(document)
+    faults += [*prose(document)] if not faults else []
+    assert any(text in one for one in faults), faults[:3]

@@ -47,7 +47,7 @@ def build(drawn: list[StepDraw], failures: Failures) -> sagas.Saga:
         return act(task)
 
     for number, one in enumerate(drawn):
-        words: dict[str, Any] = {
+        options: dict[str, Any] = {
             "run": price(one.run),
             "skip": price(one.skip),
             "keep": price(one.keep),
@@ -55,8 +55,8 @@ def build(drawn: list[StepDraw], failures: Failures) -> sagas.Saga:
         }
         needs = [drawn[need].name for need in one.needs]
         if one.undo != "never":
-            words["undo"] = price(one.undo)
-        step = saga.step(name=one.name, needs=needs, backoff=NO_WAIT, **words)(
+            options["undo"] = price(one.undo)
+        step = saga.step(name=one.name, needs=needs, backoff=NO_WAIT, **options)(
             act if number % 2 else act_in_loop
         )
         if one.undo != "never":
@@ -126,7 +126,7 @@ def test_a_store_keeps_the_rules(data: st.DataObject) -> None:
     follower = follow(log.texts, log.events)
     for number, end in enumerate(ends):
         state = follower.sagas[kept.sagas[f"k{number}"].number]
-        assert (end.phase, list(end.states.values()), end.aborted) == told(state)
+        assert (end.phase, list(end.states.values()), end.aborted) == seen_end(state)
         answer = state.answer or {"cost": 0}
         assert (end.cost or 0) == answer.get("cost", 0)
         assert set(end.results) == {
@@ -135,7 +135,7 @@ def test_a_store_keeps_the_rules(data: st.DataObject) -> None:
         assert all(value == f"{step} is done" for step, value in end.results.items())
 
 
-def told(state: Any) -> tuple[str, list[str], bool]:
+def seen_end(state: Any) -> tuple[str, list[str], bool]:
     """Return the model's saga in the words of the package."""
     phase = (
         "stuck"
@@ -177,5 +177,5 @@ def test_a_saga_in_memory_keeps_the_rules(data: st.DataObject) -> None:
             abort=abort,
         )
     (state,) = follower.sagas
-    assert (trial.phase, list(trial.states.values()), trial.aborted) == told(state)
+    assert (trial.phase, list(trial.states.values()), trial.aborted) == seen_end(state)
     assert trial.phase in ("completed", "recovered", "stuck")

@@ -38,7 +38,7 @@ def folder(tmp_path_factory: pytest.TempPathFactory) -> pathlib.Path:
         [sys.executable, "-m", "venv", "--without-pip", "environment"], cwd=folder, check=True
     )
     (folder / "python").symlink_to(PACKAGE)
-    words = [
+    command = [
         sys.executable,
         "-m",
         "pip",
@@ -49,7 +49,7 @@ def folder(tmp_path_factory: pytest.TempPathFactory) -> pathlib.Path:
         "-q",
         "./python",
     ]
-    subprocess.run(words, cwd=folder, check=True, env=clean(), capture_output=True)
+    subprocess.run(command, cwd=folder, check=True, env=clean(), capture_output=True)
     return folder
 
 
@@ -78,18 +78,18 @@ def shell(folder: pathlib.Path, command: str) -> str:
 
 def blocks(language: str, page: str = PAGE) -> list[str]:
     """Return the blocks of a page that are of this language."""
-    found = re.findall(r"^```(\w*)\n(.*?)^```$", page, re.S | re.M)
-    return [text for told, text in found if told == language]
+    matches = re.findall(r"^```(\w*)\n(.*?)^```$", page, re.S | re.M)
+    return [text for block_language, text in matches if block_language == language]
 
 
 def commands() -> list[tuple[str, str]]:
     """Return each command of the page, with its output."""
-    found = []
+    pairs = []
     for block in blocks(""):
         for part in re.split(r"^\$ ", block, flags=re.M)[1:]:
             command, _, output = part.partition("\n")
-            found.append((command, output))
-    return found
+            pairs.append((command, output))
+    return pairs
 
 
 def test_the_page(folder: pathlib.Path) -> None:
@@ -137,7 +137,7 @@ def test_the_commands(folder: pathlib.Path) -> None:
 
 def test_the_help(folder: pathlib.Path) -> None:
     """This holds also if the dependencies for PostgreSQL and Celery are not installed."""
-    told = shell(
+    output = shell(
         folder,
         (
             "python -m pydoc sagas; python -c 'from sagas import *; import inspect, sagas;"
@@ -145,10 +145,10 @@ def test_the_help(folder: pathlib.Path) -> None:
         ),
     )
     assert (
-        "NAME\n    sagas" in told
-        and "SyncStore" in told
-        and "Error" not in told.splitlines()[-1]
-        and "<function open_sync" in told.splitlines()[-1]
+        "NAME\n    sagas" in output
+        and "SyncStore" in output
+        and "Error" not in output.splitlines()[-1]
+        and "<function open_sync" in output.splitlines()[-1]
     )
 
 
@@ -168,8 +168,8 @@ def test_a_wheel_and_an_archive(
     same bytes. The wheel is for glibc and musl, and has its processor's files.
     """
     first, second = (tmp_path / name for name in ("first", "second"))
-    for place in (first, second):
-        place.mkdir()
+    for folder in (first, second):
+        folder.mkdir()
     name = wheels.build_wheel(str(first), {"processor": processor})
     assert wheels.build_wheel(str(second), {"processor": processor}) == name
     assert name.endswith(f"-py3-none-manylinux_2_17_{processor}.musllinux_1_1_{processor}.whl")
@@ -178,8 +178,8 @@ def test_a_wheel_and_an_archive(
     is_other = processor != platform.machine()
     settings = [f"--config-settings=processor={processor}"] if is_other else []
     places = ["-w", str(tmp_path / "again"), str(tmp_path / archive)]
-    words = [sys.executable, "-m", "pip", "wheel", "--no-index", "-q", *settings, *places]
-    subprocess.run(words, check=True, env=clean(), capture_output=True)
+    command = [sys.executable, "-m", "pip", "wheel", "--no-index", "-q", *settings, *places]
+    subprocess.run(command, check=True, env=clean(), capture_output=True)
     assert (tmp_path / "again" / name).read_bytes() == (first / name).read_bytes()
     check_license(first / name)
     with tarfile.open(tmp_path / archive) as packed:
@@ -187,8 +187,8 @@ def test_a_wheel_and_an_archive(
     assert {"sagas.c.xz", "engine.c", "sagas.h", "sagas", "aarch64/sagas"} <= files
     with zipfile.ZipFile(first / name) as wheel:
         carried = [wheel.read(f"sagas/bin/{part}") for part in ("sagas", "libsagas.so")]
-        told = wheel.read(f"{name.partition('-py3')[0]}.dist-info/WHEEL").decode().splitlines()
-    tags = [line.removeprefix("Tag: py3-none-") for line in told if line.startswith("Tag: ")]
+        metadata = wheel.read(f"{name.partition('-py3')[0]}.dist-info/WHEEL").decode().splitlines()
+    tags = [line.removeprefix("Tag: py3-none-") for line in metadata if line.startswith("Tag: ")]
     assert [struct.unpack_from("<H", data, 18)[0] for data in carried] == [machine, machine]
     assert not asks_for_a_loader(carried[0])
     assert tags == [f"manylinux_2_17_{processor}", f"musllinux_1_1_{processor}"]
@@ -208,9 +208,9 @@ def check_license(wheel: pathlib.Path) -> None:
     authors.
     """
     with zipfile.ZipFile(wheel) as archive:
-        told = "-".join(wheel.name.split("-")[:2]) + ".dist-info"
-        metadata = archive.read(f"{told}/METADATA").decode().partition("\n\n")[0].splitlines()
-        assert archive.read(f"{told}/LICENSE") == (PACKAGE.parent / "LICENSE").read_bytes()
+        folder = "-".join(wheel.name.split("-")[:2]) + ".dist-info"
+        metadata = archive.read(f"{folder}/METADATA").decode().partition("\n\n")[0].splitlines()
+        assert archive.read(f"{folder}/LICENSE") == (PACKAGE.parent / "LICENSE").read_bytes()
     wanted = {"License: Apache-2.0", "License-File: LICENSE", "Author: The sagas developers"}
     assert wanted <= set(metadata)
 
@@ -231,7 +231,7 @@ OTHERS = [
 ]
 
 
-@pytest.mark.parametrize(("system", "machine", "compiler", "said"), OTHERS)
+@pytest.mark.parametrize(("system", "machine", "compiler", "message"), OTHERS)
 def test_a_machine_that_gets_no_engine(
     tmp_path: pathlib.Path,
     wheels: Any,
@@ -239,12 +239,12 @@ def test_a_machine_that_gets_no_engine(
     system: str,
     machine: str,
     compiler: str,
-    said: str,
+    message: str,
 ) -> None:
     """No wheel is left, and a sentence gives the reason and the remedy."""
-    told = elsewhere(monkeypatch, system, machine)
+    name = elsewhere(monkeypatch, system, machine)
     monkeypatch.setenv("CC", compiler)
-    with pytest.raises(SystemExit, match=said.format(told)):
+    with pytest.raises(SystemExit, match=message.format(name)):
         wheels.build_wheel(str(tmp_path))
     assert list(tmp_path.iterdir()) == []
 
@@ -280,12 +280,14 @@ def test_a_machine_that_compiles_its_engine(
     name = wheels.build_wheel(str(tmp_path))
     monkeypatch.undo()
     assert name.endswith(f"-py3-none-linux_{platform.machine()}.whl")
-    place = tmp_path / "environment"
-    subprocess.run([sys.executable, "-m", "venv", "--without-pip", str(place)], check=True)
-    python = [sys.executable, "-m", "pip", "--python", str(place / "bin/python")]
-    words = [*python, "install", "--no-index", "-q", str(tmp_path / name)]
-    subprocess.run(words, check=True, env=clean(), capture_output=True)
+    target = tmp_path / "environment"
+    subprocess.run([sys.executable, "-m", "venv", "--without-pip", str(target)], check=True)
+    python = [sys.executable, "-m", "pip", "--python", str(target / "bin/python")]
+    command = [*python, "install", "--no-index", "-q", str(tmp_path / name)]
+    subprocess.run(command, check=True, env=clean(), capture_output=True)
     (tmp_path / "order.py").write_text(SAGA)
-    told = shell(tmp_path, "sagas --version; python order.py")
+    output = shell(tmp_path, "sagas --version; python order.py")
     line = "{'charge': 'undone', 'send': 'failed'}"
-    assert told.startswith("sagas ") and told.count(line) == 2 and told.endswith("True\n"), told
+    assert (
+        output.startswith("sagas ") and output.count(line) == 2 and output.endswith("True\n")
+    ), output

@@ -23,7 +23,7 @@ import sagas
 SECONDS = 60
 """The limit in which all sagas of a store are over; they take about two seconds."""
 TOO_LONG = 0.05
-WORDS: dict[str, dict[str, Any]] = {
+STEP_OPTIONS: dict[str, dict[str, Any]] = {
     "tries": {"tries": 3},
     "backoff": {"backoff": sagas.Backoff(initial=0.03, maximum=0.05)},
     "timeout": {"timeout": TOO_LONG},
@@ -37,7 +37,7 @@ WORDS: dict[str, dict[str, Any]] = {
 }
 KINDS = ("wait", "approval", "elsewhere")
 UNDO = ("tries", "timeout", "unknown", "most", "plain", "elsewhere", "inside")
-OPTIONS = (*WORDS, "plain", *KINDS, *(f"undo_{word}" for word in UNDO))
+OPTIONS = (*STEP_OPTIONS, "plain", *KINDS, *(f"undo_{word}" for word in UNDO))
 STEP = ("unknown", "max_unknown", "unknown_time", "fleet_concurrency", "rate_limit", "transaction")
 """Options that need a function here."""
 REFUSED: dict[str, tuple[str, ...]] = {
@@ -126,21 +126,21 @@ class Case:
     def saga(self) -> sagas.Saga:
         """Return its definition: `a` has the options, and `z` fails if the input says so."""
         saga = sagas.Saga(self.name)
-        words: dict[str, Any] = {"backoff": QUICK, "name": "a"}
-        for option in self.options & WORDS.keys():
-            words |= WORDS[option]
+        settings: dict[str, Any] = {"backoff": QUICK, "name": "a"}
+        for option in self.options & STEP_OPTIONS.keys():
+            settings |= STEP_OPTIONS[option]
         function = self.act_in_thread if "plain" in self.options else self.act
         wrapped = as_plain(function) if "plain" in self.options else as_async(function)
         if "elsewhere" in self.options:
-            first = saga.step(external=True, **words)
+            first = saga.step(external=True, **settings)
         elif "wait" in self.options:
-            first = saga.wait(until=datetime.timedelta(seconds=0.02), **words)(wrapped)
+            first = saga.wait(until=datetime.timedelta(seconds=0.02), **settings)(wrapped)
         elif "approval" in self.options:
-            if "timeout" in words:
-                words["call_timeout"] = words.pop("timeout")
-            first = saga.approval(**words)(wrapped)
+            if "timeout" in settings:
+                settings["call_timeout"] = settings.pop("timeout")
+            first = saga.approval(**settings)(wrapped)
         else:
-            first = saga.step(**words)(wrapped)
+            first = saga.step(**settings)(wrapped)
         self._compensate(first)
 
         @saga.step(needs=[first])
@@ -151,16 +151,16 @@ class Case:
         return saga
 
     def _compensate(self, first: sagas.Step[Any]) -> None:
-        words: dict[str, Any] = {"backoff": QUICK, "transaction": "undo_inside" in self.options}
-        words |= {"tries": 3} if "undo_tries" in self.options else {}
-        words |= {"timeout": TOO_LONG} if "undo_timeout" in self.options else {}
-        words |= {"max_unknown": 0} if "undo_most" in self.options else {}
+        settings: dict[str, Any] = {"backoff": QUICK, "transaction": "undo_inside" in self.options}
+        settings |= {"tries": 3} if "undo_tries" in self.options else {}
+        settings |= {"timeout": TOO_LONG} if "undo_timeout" in self.options else {}
+        settings |= {"max_unknown": 0} if "undo_most" in self.options else {}
         if "undo_elsewhere" in self.options:
-            first.compensation(external=True, backoff=QUICK, tries=words.get("tries", 1))
+            first.compensation(external=True, backoff=QUICK, tries=settings.get("tries", 1))
         elif "undo_plain" in self.options:
-            first.compensation(**words)(as_plain(self.act_in_thread))
+            first.compensation(**settings)(as_plain(self.act_in_thread))
         else:
-            first.compensation(**words)(as_async(self.act))
+            first.compensation(**settings)(as_async(self.act))
 
 
 def as_async(function: Any) -> Any:
@@ -207,18 +207,18 @@ async def answer(store: sagas.Store, keys: list[str]) -> None:
         await asyncio.sleep(0.01)
 
 
-def lots(cases: list[Case], most: int = 60) -> Iterator[list[Case]]:
+def batches(cases: list[Case], most: int = 60) -> Iterator[list[Case]]:
     """Return batches of as many as a store takes."""
     for at in range(0, len(cases), most):
         yield cases[at : at + most]
 
 
 @pytest.mark.parametrize(
-    "place, concurrency", [("sqlite", 6), ("postgresql", 32)], indirect=["place"]
+    "location, concurrency", [("sqlite", 6), ("postgresql", 32)], indirect=["location"]
 )
-def test_options_in_pairs(place: str, concurrency: int, tmp_path: Any) -> None:
+def test_options_in_pairs(location: str, concurrency: int, tmp_path: Any) -> None:
     """Five sagas of each at once: three end well, one fails after the step, one is aborted."""
-    inside = place.startswith("postgresql")
+    inside = location.startswith("postgresql")
     cases = [Case(f"s{number}", options) for number, options in enumerate(drawn(inside))]
 
     async def one(store: sagas.Store, case: Case, saga: sagas.Saga, key: str) -> None:
@@ -233,8 +233,8 @@ def test_options_in_pairs(place: str, concurrency: int, tmp_path: Any) -> None:
         elif key.endswith("fails"):
             assert states == {"a": "undone", "z": "failed"}, (case.options, str(end))
 
-    async def lot(number: int, some: list[Case]) -> None:
-        where = place if inside else str(tmp_path / f"store-{number}.db")
+    async def run_batch(number: int, some: list[Case]) -> None:
+        where = location if inside else str(tmp_path / f"store-{number}.db")
         kinds = {case.name: case.saga() for case in some}
         async with sagas.open(
             where, kinds.values(), concurrency=concurrency, shutdown_timeout=1
@@ -255,8 +255,8 @@ def test_options_in_pairs(place: str, concurrency: int, tmp_path: Any) -> None:
             await asyncio.gather(*jobs.values())
 
     async def main() -> None:
-        for number, some in enumerate(lots(cases)):
-            await lot(number, some)
+        for number, some in enumerate(batches(cases)):
+            await run_batch(number, some)
 
     run(main())
     for case in cases:

@@ -95,26 +95,26 @@ def test_a_system_that_lacks(
     assert [record.getMessage() for record in caplog.records if record.name == "asyncio"] == []
 
 
-def of_other_processor(place: pathlib.Path) -> None:
+def of_other_processor(program_path: pathlib.Path) -> None:
     """Replace the program by one for ARM64 on x86-64, and the other way round."""
     data = bytearray(pathlib.Path(program()).read_bytes())
     struct.pack_into("<H", data, 18, 243)  # of RISC-V
-    place.write_bytes(data)
-    place.chmod(0o755)
+    program_path.write_bytes(data)
+    program_path.chmod(0o755)
 
 
-def without_its_loader(place: pathlib.Path) -> None:
+def without_its_loader(program_path: pathlib.Path) -> None:
     """Replace the program by one without its loader."""
     data = pathlib.Path(shutil.which("true") or "/bin/true").read_bytes()
     assert data.count(b"/ld-linux") == 1
-    place.write_bytes(data.replace(b"/ld-linux", b"/ld-nobody"[:9]))
-    place.chmod(0o755)
+    program_path.write_bytes(data.replace(b"/ld-linux", b"/ld-nobody"[:9]))
+    program_path.chmod(0o755)
 
 
-def without_rights(place: pathlib.Path) -> None:
+def without_rights(program_path: pathlib.Path) -> None:
     """Make the program not executable."""
-    shutil.copyfile(program(), place)
-    place.chmod(0o644)
+    shutil.copyfile(program(), program_path)
+    program_path.chmod(0o644)
 
 
 @pytest.mark.parametrize(
@@ -132,15 +132,15 @@ def test_a_program_that_cannot_be_run(
     """The store does not open: a specific error gives the reason and the remedy; a repeated call
     does not help.
     """
-    place = tmp_path / "sagas"
-    make(place)
-    words = {"program": str(place)} if how == "word" else {}
+    program_path = tmp_path / "sagas"
+    make(program_path)
+    options = {"program": str(program_path)} if how == "word" else {}
     if how == "variable":
-        monkeypatch.setenv("SAGAS_PROGRAM", str(place))
+        monkeypatch.setenv("SAGAS_PROGRAM", str(program_path))
     with pytest.raises(
         sagas.EngineNotRunnable, match="this machine .* cannot run it.*SAGAS_PROGRAM"
     ):
-        with sagas.open_sync(tmp_path / "orders.db", [order()], **words):
+        with sagas.open_sync(tmp_path / "orders.db", [order()], **options):
             pass
     assert not isinstance(sagas.EngineNotRunnable("x"), sagas.StoreUnavailable)
 
@@ -158,8 +158,8 @@ def test_a_program_that_seems_to_be_for_another_machine_and_runs(
 def test_the_package_and_its_engine_have_one_version() -> None:
     """`__version__` is that of the wheel; the program and the library of `dist/` have the same."""
     top = pathlib.Path(__file__).resolve().parents[2]
-    said = subprocess.run([program(), "--version"], capture_output=True, text=True, check=True)
-    assert said.stdout == f"sagas {sagas.__version__}\n"
+    done = subprocess.run([program(), "--version"], capture_output=True, text=True, check=True)
+    assert done.stdout == f"sagas {sagas.__version__}\n"
     assert f"Version: {sagas.__version__}\n" in (top / "dist/sagas.pc").read_text()
     rust = tomllib.loads((top / "examples/library/rust/Cargo.toml").read_text())
     assert rust["package"]["version"] == sagas.__version__

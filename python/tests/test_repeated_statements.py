@@ -41,10 +41,10 @@ def test_what_is_under_way_is_answered_before_the_end(url: str) -> None:
     async def main() -> None:
         asker, kept = await opened(url)
         await kept.open()
-        asked = [asyncio.create_task(kept.ask(SLOW, word)) for word in (b"a", b"b")]
+        requests = [asyncio.create_task(kept.ask(SLOW, word)) for word in (b"a", b"b")]
         await asyncio.sleep(0)
         await asker.close()
-        assert await asyncio.gather(*asked) == [[(b"a",)], [(b"b",)]]
+        assert await asyncio.gather(*requests) == [[(b"a",)], [(b"b",)]]
         with pytest.raises(sagas.StoreUnavailable, match="closed"):
             await kept.ask(SLOW, b"c")
 
@@ -56,11 +56,11 @@ def test_one_that_is_closed_while_it_connects(url: str) -> None:
 
     async def main() -> None:
         asker, kept = await opened(url)
-        asked = asyncio.create_task(kept.ask(SLOW, b"a"))
+        request = asyncio.create_task(kept.ask(SLOW, b"a"))
         await asyncio.sleep(0)  # it connects now
         kept.close()
         with pytest.raises(sagas.StoreUnavailable, match="closed"):
-            await asked
+            await request
         assert await until(lambda: are_gone(asker))
         await asker.close()
 
@@ -73,11 +73,11 @@ def test_another_server_has_taken_over(url: str) -> None:
     async def main() -> None:
         asker, kept = await opened(url)
         await kept.open()
-        asked = asyncio.create_task(kept.ask(SLOW, b"a"))
+        request = asyncio.create_task(kept.ask(SLOW, b"a"))
         await asyncio.sleep(0)
         await asker.renew()
         with pytest.raises(sagas.StoreUnavailable):
-            await asked
+            await request
         assert await kept.ask(SLOW, b"b") == [(b"b",)]
         await asker.close()
 

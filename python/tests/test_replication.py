@@ -81,11 +81,11 @@ def server() -> Iterator[Server]:
 
 @pytest.fixture
 def away(server: Server) -> Iterator[Away]:
-    found = Away(server)
+    standby = Away(server)
     try:
-        yield found
+        yield standby
     finally:
-        found.come()
+        standby.come()
 
 
 @pytest.fixture
@@ -106,7 +106,7 @@ def store(server: Server, kind: sagas.Saga) -> str:
     return url
 
 
-async def cancels(self: Any, gen: Any, *words: Any) -> Any:
+async def cancels(self: Any, gen: Any, *arguments: Any) -> Any:
     """Wait as psycopg 3.2 does: a cancelled caller cancels the statement."""
     try:
         return await waiting.wait_async(gen, self.pgconn.socket)
@@ -244,10 +244,10 @@ def test_a_canceled_wait_of_a_node(away: Away, store: str) -> None:
     async def step(task: Task) -> None:
         called.append(task.key)
 
-    kind, told = simple(step), list[str]()
+    kind, event_names = simple(step), list[str]()
 
     async def main() -> None:
-        hook = lambda event: told.append(event.name)
+        hook = lambda event: event_names.append(event.name)
         async with sagas.open(store, [kind], lease=60, on_event=hook) as one:
             async with sagas.open(store, [kind], lease=60, accept_new=False) as two:
                 assert (await (await one.start(kind, "first")).wait()).ok
@@ -255,7 +255,7 @@ def test_a_canceled_wait_of_a_node(away: Away, store: str) -> None:
                 mine = asyncio.create_task(one.start(kind, "k"))
                 await until(lambda: away.rows(f"SELECT 1 {WAITS} AND query LIKE '%event_log%'"))
                 away.cancel()
-                await until(lambda: "commit_failed" in told)
+                await until(lambda: "commit_failed" in event_names)
                 await until(
                     lambda: away.rows(
                         f"SELECT 1 {WAITS} AND (query = 'COMMIT' OR query LIKE '%takeovers%')"
@@ -278,13 +278,13 @@ def test_a_start_over_http_has_a_limit(
     """The response is 503, and the start is kept anyway once the standby is back."""
     monkeypatch.setenv("SAGAS_PROGRAM", program())
     Served(tmp_path)
-    told = Settings(store, definition_files.read(tmp_path / "definitions"), patience=1.0)
+    settings = Settings(store, definition_files.read(tmp_path / "definitions"), patience=1.0)
     body = {"definition": "trip", "key": "k"}
 
     async def main() -> None:
         opened = asyncio.Event()
         with socket.create_server((host(), 0)) as listening:
-            at_work = asyncio.create_task(uvicorn_server.run(told, listening, opened.set))
+            at_work = asyncio.create_task(uvicorn_server.run(settings, listening, opened.set))
             await opened.wait()
             name, port = listening.getsockname()
             async with httpx.AsyncClient(base_url=f"http://{name}:{port}", timeout=15) as client:

@@ -59,7 +59,7 @@ def one(link: psycopg.Connection[Any], text: str) -> Any:
     return row[0]
 
 
-def asked(link: psycopg.Connection[Any]) -> int:
+def pending_requests(link: psycopg.Connection[Any]) -> int:
     """Return how many requests have no reply."""
     of_sagas = "SELECT count(*) FROM operator_commands WHERE answer IS NULL"
     of_starts = "SELECT coalesce(sum(jsonb_array_length(commands)), 0) FROM pending_starts"
@@ -111,7 +111,7 @@ def test_who_asked_is_gone_when_another_saga_has_the_key(
             async with sagas.open(url, [kind]) as node:
                 await until(lambda: one(link, "SELECT count(*) FROM sagas"), 30)
                 await waits_for_a_person(url, node, "k")
-        assert asked(link) == 0
+        assert pending_requests(link) == 0
 
     run(main())
 
@@ -129,7 +129,7 @@ def test_a_start_of_the_same_key_is_not_taken_back(
             await client.start(kind, "k", "first")
             link.execute("UPDATE pending_starts SET node = 'gone'")
             abort = asyncio.create_task(client.abort("k"))
-            await until(lambda: asked(link))
+            await until(lambda: pending_requests(link))
             async with await psycopg.AsyncConnection.connect(url) as stranger:
                 await stranger.execute("DELETE FROM sagas.pending_starts")
                 await client.start(kind, "k", "second", connection=stranger)
@@ -153,12 +153,14 @@ def test_what_is_asked_of_a_start_is_asked_of_its_saga(
             link.execute("UPDATE pending_starts SET node = 'gone'")
             done = client.complete("k", "sign", "yes") if what == "complete" else client.abort("k")
             asking = asyncio.create_task(done)
-            await until(lambda: asked(link))
+            await until(lambda: pending_requests(link))
             asking.cancel()
             async with sagas.open(url, [kind]) as store, asyncio.timeout(60):
                 end = await store.wait("k")
                 assert end.aborted if what == "abort" else end.results == {"sign": "yes"}
-        assert asked(link) == 0 and one(link, "SELECT count(*) FROM operator_commands") == 1
+        assert (
+            pending_requests(link) == 0 and one(link, "SELECT count(*) FROM operator_commands") == 1
+        )
 
     run(main())
 
@@ -178,7 +180,7 @@ def test_what_is_asked_while_a_start_is_opened(
                 await client.start(kind, "k")
                 await until(lambda: one(link, BLOCKED))
                 finish = asyncio.create_task(client.complete("k", "sign", "yes"))
-                await until(lambda: finish.done() or asked(link))
+                await until(lambda: finish.done() or pending_requests(link))
                 await stranger.commit()
                 async with asyncio.timeout(60):
                     await finish
@@ -238,7 +240,7 @@ def test_who_asks_of_a_saga_that_is_let_go(
             async with sagas.open(url, [kind]) as other:
                 await until(lambda: one(link, "SELECT count(*) FROM sagas"))
                 await waits_for_a_person(url, other, "k")
-        assert asked(link) == 0
+        assert pending_requests(link) == 0
 
     run(main())
 
@@ -261,13 +263,13 @@ def test_what_is_asked_as_a_start_with_a_large_input_becomes_a_saga(
         )
 
     async def main() -> None:
-        words = {"blobs": blobs, "blob_threshold": 256}
+        settings = {"blobs": blobs, "blob_threshold": 256}
         commits = await psycopg.AsyncConnection.connect(url, options="-c search_path=sagas")
         holds = await psycopg.AsyncConnection.connect(url, options="-c search_path=sagas")
         async with sagas.Client(url, blobs=blobs) as client, sagas.open(
-            url, [other], **words
+            url, [other], **settings
         ) as store:
-            async with sagas.open(url, [kind], **words) as node, commits, holds:
+            async with sagas.open(url, [kind], **settings) as node, commits, holds:
                 await commits.execute("LOCK TABLE event_log IN EXCLUSIVE MODE")
                 await client.start(kind, "k", "large" * 100)
                 await until(
@@ -289,6 +291,6 @@ def test_what_is_asked_as_a_start_with_a_large_input_becomes_a_saga(
                     else end.states["sign"] == ("failed" if what == "fail" else "committed")
                 )
                 assert one(link, "SELECT input FROM sagas").startswith('{"$blob"')
-        assert asked(link) == 0
+        assert pending_requests(link) == 0
 
     run(main())

@@ -102,7 +102,7 @@ def test_a_backup_is_restored_under_a_running_node(
                 assert (await store.wait(key)).ok
             assert (await store.get("late") is None) == is_quiet
             await world.goes_well(store, "new", "again")
-            assert all(said.startswith("yes") for said in (await store.audit()).values())
+            assert all(verdict.startswith("yes") for verdict in (await store.audit()).values())
 
     run(main())
     errors = [

@@ -20,7 +20,7 @@ from cases import ended, run, simple
 import sagas
 from sagas.cli import store_command
 
-NOBODY = 65534
+USER = 65534
 SAGA = simple(lambda task: 1)
 REMEDY = "this user must be able to read and write it, and to write to its folder"
 
@@ -47,7 +47,7 @@ def another() -> Iterator[None]:
     if os.geteuid() != 0:
         yield
         return
-    os.seteuid(NOBODY)
+    os.seteuid(USER)
     try:
         yield
     finally:
@@ -76,8 +76,8 @@ def test_the_command_says_what_it_may_not(
     """For an unreadable file or folder it prints one line, with the remedy."""
     store.chmod(0)
     with another():
-        for words in (["list"], ["abort", "k"], ["audit"]):
-            assert store_command.main([str(store), *words]) == 4
+        for arguments in (["list"], ["abort", "k"], ["audit"]):
+            assert store_command.main([str(store), *arguments]) == 4
             assert (
                 capsys.readouterr().err
                 == f"sagas store: {store}: unable to open database file: {REMEDY}\n"
@@ -102,8 +102,8 @@ def test_the_command_tells_of_what_is_spoilt(
     data[4096:] = b"\xff" * (len(data) - 4096)
     store.write_bytes(data)
     assert store_command.main([str(store), "list"]) == 4
-    said = capsys.readouterr().err
-    assert said.startswith(f"sagas store: {store}") and said.count("\n") == 1
+    errors = capsys.readouterr().err
+    assert errors.startswith(f"sagas store: {store}") and errors.count("\n") == 1
 
 
 @pytest.mark.skipif(os.geteuid() != 0, reason="only root can give files to others")
@@ -132,11 +132,11 @@ def test_open_says_whose_the_lock_is(store: pathlib.Path) -> None:
 def test_the_owner_deletes_after_root(store: pathlib.Path) -> None:
     """A run of an administrator does not prevent runs of the store's owner."""
     for path in (store.parent, *store.parent.iterdir()):
-        os.chown(path, NOBODY, NOBODY)
-    words = [str(store), "prune", "--older-than", "0s"]
-    assert store_command.main(words) == 0
+        os.chown(path, USER, USER)
+    arguments = [str(store), "prune", "--older-than", "0s"]
+    assert store_command.main(arguments) == 0
     with another():
-        assert store_command.main(words) == 0
+        assert store_command.main(arguments) == 0
 
 
 def test_nothing_is_left_beside_what_is_no_store(tmp_path: pathlib.Path) -> None:

@@ -28,7 +28,7 @@ def row(name: str, steps: int, needs: int, tries: int = 1) -> sagas.Saga:
             await GATES[task.input].wait()
 
     for number in range(steps):
-        before = [f"s{place}" for place in range(max(0, number - needs), number)]
+        before = [f"s{index}" for index in range(max(0, number - needs), number)]
         step = row.step(
             name=f"s{number}",
             needs=before,
@@ -45,21 +45,21 @@ def row(name: str, steps: int, needs: int, tries: int = 1) -> sagas.Saga:
 GATES: dict[str, asyncio.Event] = {}
 
 
-@pytest.mark.parametrize("place", ["postgresql"], indirect=True)
-def test_the_greatest_definition_runs(place: str) -> None:
+@pytest.mark.parametrize("location", ["postgresql"], indirect=True)
+def test_the_greatest_definition_runs(location: str) -> None:
     """An empty log has space for it, with nine attempts of each action and compensation."""
     greatest = row("greatest", 1024, 8, tries=9)
 
     async def main() -> None:
-        async with sagas.open(place, [greatest]) as store:
+        async with sagas.open(location, [greatest]) as store:
             assert (await store.start(greatest, "k")).new and await store.abort("k")
             assert (await store.wait("k")).phase == "recovered"
 
     run(main())
 
 
-@pytest.mark.parametrize("place", ["sqlite"], indirect=True)
-def test_a_log_that_fills_up_goes_on_in_another(place: str) -> None:
+@pytest.mark.parametrize("location", ["sqlite"], indirect=True)
+def test_a_log_that_fills_up_goes_on_in_another(location: str) -> None:
     """One log takes four open sagas of 1,024 steps with 8,156 needs.
 
     The sagas of both logs end, and both logs pass their audit.
@@ -68,10 +68,10 @@ def test_a_log_that_fills_up_goes_on_in_another(place: str) -> None:
 
     async def main() -> list[int]:
         gate = GATES["wide"] = asyncio.Event()
-        async with sagas.open(place, [wide], concurrency=100) as store:
+        async with sagas.open(location, [wide], concurrency=100) as store:
             starts = [store.start(wide, f"k{number}", "wide") for number in range(6)]
             runs = await asyncio.gather(*starts)
-            opened = records.read(place)
+            opened = records.read(location)
             assert all(await asyncio.gather(*(run.abort() for run in runs)))
             gate.set()
             assert {end.phase for end in await asyncio.gather(*(run.wait() for run in runs))} <= {

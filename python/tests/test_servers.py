@@ -96,7 +96,7 @@ def test_an_asynchronous_standby_may_lack_the_last_commits(
     record = tmp_path / "record"
     monkeypatch.setattr("sagas.definition.shelf.SHARD_CAPACITY", room)
     calls: Counter[tuple[str, str]] = Counter()
-    whose: dict[str, set[str]] = defaultdict(set)
+    keys_of: dict[str, set[str]] = defaultdict(set)
     late = asyncio.Event()
     held = HeldAudits(tmp_path) if room == 1 else None
     if held:  # so that no full shard is closed before the standby takes over
@@ -106,7 +106,7 @@ def test_an_asynchronous_standby_may_lack_the_last_commits(
     @kind.step
     async def a(task: Task) -> str:
         calls[task.key, "a"] += 1
-        whose[task.idempotency_key].add(task.key)
+        keys_of[task.idempotency_key].add(task.key)
         if task.key == "there":
             await late.wait()
         return task.idempotency_key
@@ -140,8 +140,8 @@ def test_an_asynchronous_standby_may_lack_the_last_commits(
                     )
                 )
             )
-            assert all(said.startswith("yes") for said in (await store.audit()).values())
-            assert all(len(keys) == 1 for keys in whose.values()), whose
+            assert all(verdict.startswith("yes") for verdict in (await store.audit()).values())
+            assert all(len(keys) == 1 for keys in keys_of.values()), keys_of
 
     with paired(synchronous=False) as pair:
         url = pair.url(pair.primary.create().rpartition("/")[2])
@@ -280,7 +280,7 @@ class Parted:
         self.pair, self.database = pair, pair.primary.create().rpartition("/")[2]
         self.gates: dict[str, asyncio.Event] = defaultdict(asyncio.Event)
         self.calls: list[str] = []
-        self.said: list[str] = []
+        self.event_names: list[str] = []
         self.ask(pair.primary, "CREATE TABLE book(key text)")
         self.kind, text = sagas.Saga("booking"), "INSERT INTO public.book VALUES (%s)"
 
@@ -343,12 +343,12 @@ class Parted:
             self.pair.url(self.database),
             [self.kind],
             lease=600,
-            on_event=lambda event: self.said.append(event.name),
+            on_event=lambda event: self.event_names.append(event.name),
         ) as store:
             going = await store.start(self.kind, "k")
             await moment(self)
             assert (await going.wait()).ok
-            assert all(said.startswith("yes") for said in (await store.audit()).values())
+            assert all(verdict.startswith("yes") for verdict in (await store.audit()).values())
         assert self.ask(self.pair.standby, "SELECT key FROM book") == [("k",)]
         assert self.calls.count("c") == 1 and self.calls[-1] == "c" and self.calls.count("b") >= 2
 
@@ -364,7 +364,7 @@ def test_a_step_inside_ends_at_a_server_that_took_over(in_thread: bool) -> None:
         await asyncio.to_thread(two.part)
         for step in "ab":
             two.gates[step].set()
-        await until(lambda: "commit_failed" in two.said or "saga_ended" in two.said)
+        await until(lambda: "commit_failed" in two.event_names or "saga_ended" in two.event_names)
         assert (
             two.ask(
                 two.pair.standby, "SELECT key FROM book UNION ALL SELECT value FROM sagas.attempts"
@@ -407,7 +407,7 @@ async def ends_at_the_one_before(two: Parted) -> None:
         )
         ((process,),) = await until(lambda: two.ask(two.pair.primary, waits))
         two.end_sessions(but=[process, stranger.info.backend_pid])
-        await until(lambda: "lease_expired" in two.said)
+        await until(lambda: "lease_expired" in two.event_names)
     await until(lambda: two.ask(two.pair.primary, "SELECT key FROM book"))
     await asyncio.to_thread(two.pair.primary.stop)
 
@@ -476,7 +476,7 @@ class Lacking:
         busy = "datname = current_database() AND pid <> pg_backend_pid() AND state <> 'idle'"
         return not self.ask(self.pair.standby, f"SELECT 1 FROM pg_stat_activity WHERE {busy}")
 
-    def is_told(self, taken_up: bool, in_thread: bool) -> bool:
+    def is_decided(self, taken_up: bool, in_thread: bool) -> bool:
         """Return whether the outcome of the second one's step is known."""
         over = taken_up and (bool(self.over) or not in_thread) and self.rests()
         return bool("lacking" in self.booked() or self.lost or over)
@@ -528,7 +528,7 @@ def test_a_step_inside_of_a_saga_that_is_not_there(in_thread: bool, taken_up: bo
                     await held.commit()
                     await until(lambda: not store.active_attempts("lacking"), 60)
                 two.gates["lacking"].set()
-                await until(lambda: two.is_told(taken_up, in_thread), 60)
+                await until(lambda: two.is_decided(taken_up, in_thread), 60)
                 assert "lacking" not in two.booked()
             assert (await store.wait("there")).ok
             assert (await started_again(store, two.kind, "lacking")).ok
@@ -586,8 +586,8 @@ def test_a_program_ends_whose_tables_are_gone(url: str, tmp_path: pathlib.Path) 
             with pytest.raises(sagas.InvalidStore, match="the tables of the store are gone"):
                 store.serve()
         assert service.process and service.process.wait(LONG) == 4
-        assert "sagas serve: postgresql://" in service.told()
-        assert "the tables of the store are gone" in service.told().splitlines()[-1]
+        assert "sagas serve: postgresql://" in service.log_text()
+        assert "the tables of the store are gone" in service.log_text().splitlines()[-1]
 
 
 @pytest.mark.parametrize("is_over", [True, False])
@@ -732,7 +732,7 @@ def test_the_databases_disk_is_full() -> None:
             ends = await asyncio.gather(*(one.wait() for one in first))
             assert [end.results["a"] for end in ends] == large[:19]
             assert (await started_again(store, kind, "k19")).ok
-            assert all(said.startswith("yes") for said in (await store.audit()).values())
+            assert all(verdict.startswith("yes") for verdict in (await store.audit()).values())
 
     with small_disk("160m") as disk, serving(inside=disk) as server:
         run(main(server.create(), disk / "ballast"))
@@ -791,9 +791,9 @@ def test_a_primary_that_was_replaced_and_lives(by: str, monkeypatch: pytest.Monk
 def noted(calls: list[str], function: Callable[..., Any]) -> Callable[..., Any]:
     """Return a function that notes its calls."""
 
-    async def called(*words: Any) -> Any:
+    async def called(*arguments: Any) -> Any:
         calls.append("called")
-        return await function(*words)
+        return await function(*arguments)
 
     return called
 
@@ -802,7 +802,7 @@ def noted(calls: list[str], function: Callable[..., Any]) -> Callable[..., Any]:
 def pooled(server: Server, mode: str, *more: str) -> Iterator[int]:
     """Run PgBouncer before a server, in one of its modes; return its port."""
     port, settings = free_port(), server.folder.parent / "pgbouncer.ini"
-    words = [
+    lines = [
         "[databases]",
         f"* = host=127.0.0.1 port={server.port} user=owner",
         "[pgbouncer]",
@@ -813,7 +813,7 @@ def pooled(server: Server, mode: str, *more: str) -> Iterator[int]:
         f"pool_mode = {mode}",
         *more,
     ]
-    settings.write_text("\n".join(words))
+    settings.write_text("\n".join(lines))
     settings.chmod(0o644)
     command = server._as_other("pgbouncer", str(settings))
     command[-2] = shutil.which("pgbouncer", path=f"{os.environ['PATH']}:/usr/sbin") or "pgbouncer"
@@ -838,8 +838,8 @@ POOLERS = {
 }
 
 
-@pytest.mark.parametrize("words", POOLERS.values(), ids=POOLERS)
-def test_a_pooler(postgresql: Server, url: str, words: tuple[str, ...]) -> None:
+@pytest.mark.parametrize("modes", POOLERS.values(), ids=POOLERS)
+def test_a_pooler(postgresql: Server, url: str, modes: tuple[str, ...]) -> None:
     """One that pools sessions serves a node and a client.
 
     Any other is refused by name, and other users of its sessions find no setting of ours in them.
@@ -847,9 +847,9 @@ def test_a_pooler(postgresql: Server, url: str, words: tuple[str, ...]) -> None:
     kind = simple(lambda task: "done")
     with sagas.open_sync(url, [kind]):
         pass
-    with pooled(postgresql, *words) as port:
+    with pooled(postgresql, *modes) as port:
         there = postgresql.url(url.rpartition("/")[2], port=port)
-        if words[0] == "session":
+        if modes[0] == "session":
             with sagas.open_sync(there, [kind]), sagas.SyncClient(there) as client:
                 assert client.start(kind, "k").wait(60).ok
             return

@@ -128,22 +128,22 @@ def answer_of(client: httpx.Client, method: str, path: str, body: Any) -> tuple[
 def test_each_route_has_its_roles(guarded: Guarded) -> None:
     """The calls of the test below are complete."""
     routes = {(one.method, one.path) for some in (*API, *PAGES) for one in some.operations}
-    asked = {
+    tested = {
         (method, re.sub(r"/v1/sagas/(roles|asks|nobody)", "/v1/sagas/{key}", path))
         for _, method, path, _, _ in CALLS
     }
-    asked = {
+    tested = {
         (
             method,
             path.replace("/v1/tasks/x/", "/v1/tasks/{attempt_id}/").replace(
                 "steps/review", "steps/{step}"
             ),
         )
-        for method, path in asked
+        for method, path in tested
     }
-    asked = {(method, path.partition("?")[0]) for method, path in asked}
+    tested = {(method, path.partition("?")[0]) for method, path in tested}
     pages = {(method, path) for method, path in routes if path.startswith("/ui")}
-    assert routes - pages - asked == {("GET", path) for path in FREE if not path.startswith("/ui")}
+    assert routes - pages - tested == {("GET", path) for path in FREE if not path.startswith("/ui")}
     assert {path for method, path in pages if method == "POST"} == {
         "/ui/login",
         *(path.replace("KEY", "{key}").replace("msg_1", "{id}") for path in POSTED),
@@ -163,30 +163,38 @@ def test_roles(guarded: Guarded) -> None:
     try:
         for good, method, path, body, status in CALLS:
             for role, client in clients.items():
-                found, name = answer_of(client, method, path, body)
+                status_found, name = answer_of(client, method, path, body)
                 if role == "approver" and path.startswith("/v1/sagas/asks/steps/review/"):
                     # a compensation is not an approval: see below
-                    assert (found, name) == (
+                    assert (status_found, name) == (
                         403,
                         "Forbidden",
                     )
                 elif role in (*good.split(), "operator"):
-                    assert found == status and name != "Forbidden", (
+                    assert status_found == status and name != "Forbidden", (
                         role,
                         method,
                         path,
-                        found,
+                        status_found,
                         name,
                     )
                 else:
-                    assert (found, name) == (403, "Forbidden"), (role, method, path, found, name)
+                    assert (status_found, name) == (403, "Forbidden"), (
+                        role,
+                        method,
+                        path,
+                        status_found,
+                        name,
+                    )
             for stranger in strangers:
                 assert answer_of(stranger, method, path, body)[0] in (401, 429), (method, path)
-        nobody = strangers[0]
+        anonymous = strangers[0]
         assert (
-            nobody.get("/health/live").status_code == nobody.get("/health/ready").status_code == 200
+            anonymous.get("/health/live").status_code
+            == anonymous.get("/health/ready").status_code
+            == 200
         )
-        assert nobody.get("/ui/events").status_code == 403
+        assert anonymous.get("/ui/events").status_code == 403
     finally:
         for client in (*clients.values(), *strangers):
             client.close()
@@ -349,16 +357,16 @@ def test_an_approval_before_it_begins(guarded: Guarded) -> None:
         late = approver.post(f"{where}/seal/fail", json={"error": "no", "early": False})
         assert (late.status_code, error_of(late)) == (409, "StepNotWaiting")
         with logged_in(guarded) as page:
-            told = page.get("/ui/sagas/ahead").text
-            assert "its success is reported" in told and "Approve sign before" not in told
-            assert "Approve seal before it begins" in told
+            page_text = page.get("/ui/sagas/ahead").text
+            assert "its success is reported" in page_text and "Approve sign before" not in page_text
+            assert "Approve seal before it begins" in page_text
             form = "/ui/sagas/ahead/steps/seal/failed"
             assert "Refuse seal?" in page.get(form).text
             sent = {"csrf": csrf_of(page, form), "failed": "too dear"}
             assert page.post(form, data=sent).status_code == 303
             assert "its failure is reported" in page.get("/ui/sagas/ahead").text
-        told = {"seal": "fail", "sign": "complete"}
-        assert caller.get("/v1/sagas/ahead").json()["early"] == told
+        page_text = {"seal": "fail", "sign": "complete"}
+        assert caller.get("/v1/sagas/ahead").json()["early"] == page_text
 
 
 @contextlib.contextmanager
@@ -370,9 +378,9 @@ def logged_in(guarded: Guarded) -> Iterator[httpx.Client]:
 
 
 def csrf_of(client: httpx.Client, path: str) -> str:
-    found = re.search(r'name="csrf" value="([^"]+)"', client.get(path).text)
-    assert found
-    return found[1]
+    match = re.search(r'name="csrf" value="([^"]+)"', client.get(path).text)
+    assert match
+    return match[1]
 
 
 def test_the_page_wants_a_session(guarded: Guarded) -> None:
@@ -416,8 +424,8 @@ def test_the_page_wants_a_session(guarded: Guarded) -> None:
                 "%C3%A9?unfold=a&b=%26",
             )
         ]
-        asked = [urlsplit(client.get(path).headers["location"]).query for path in paths]
-        assert [parse_qs(query)["next"] for query in asked] == [[path] for path in paths]
+        queries = [urlsplit(client.get(path).headers["location"]).query for path in paths]
+        assert [parse_qs(query)["next"] for query in queries] == [[path] for path in paths]
         for path in paths:
             answer = client.post(
                 "/ui/login", data={"token": guarded.tokens["operator"], "next": path}
@@ -455,18 +463,18 @@ def test_forms_are_the_session_s_own(guarded: Guarded) -> None:
         )
         for csrf in ("", "x", foreign, "ü"):
             assert client.post("/ui/sagas/forms/abort", data={"csrf": csrf}).status_code == 403
-        for headers, told in FOREIGN:
+        for headers, message in FOREIGN:
             answer = client.post("/ui/sagas/forms/abort", data={"csrf": right}, headers=headers)
             assert (answer.status_code, answer.headers["content-type"]) == (
                 403,
                 "text/html; charset=utf-8",
             )
             assert "A page of another site sent the request" in answer.text
-            assert told.replace("HOST", guarded.service.address) in html.unescape(answer.text)
+            assert message.replace("HOST", guarded.service.address) in html.unescape(answer.text)
             with guarded.client("caller") as caller:
                 answer = caller.post("/v1/sagas/forms/abort", json={}, headers=headers)
                 assert (answer.status_code, error_of(answer)) == (403, "CrossOrigin")
-                assert told.replace("HOST", guarded.service.address) in answer.json()["detail"]
+                assert message.replace("HOST", guarded.service.address) in answer.json()["detail"]
         assert (
             client.post(
                 "/ui/sagas/forms/abort", content=b"{}", headers={"content-type": "text/plain"}
@@ -517,13 +525,13 @@ def half_sent(
     """Send a request except for its body, of which only the first byte is sent; return its
     connection, and the rest.
     """
-    told = {
+    fields = {
         "Host": service.address,
         "Content-Type": f"application/{kind}",
         "Content-Length": str(len(body)),
         **headers,
     }
-    head = "".join(f"{name}: {value}\r\n" for name, value in told.items())
+    head = "".join(f"{name}: {value}\r\n" for name, value in fields.items())
     with raw(service) as one:
         one.sendall(f"POST {path} HTTP/1.1\r\n{head}\r\n".encode() + body[:1])
         yield one, body[1:]
@@ -533,20 +541,20 @@ def test_a_token_that_is_taken_away(tmp_path: pathlib.Path) -> None:
     """Its bearer and its sessions end with it, without a restart, and so does a request whose body
     is still to come; if the file cannot be read, the others stay valid.
     """
-    words = {
+    tokens = {
         role: token(tmp_path, role, role.rpartition("-")[2])
         for role in ("an-operator", "a-caller", "second-operator")
     }
     file = tmp_path / "tokens.toml"
-    assert file.stat().st_mode & 0o077 == 0 and words["an-operator"] not in file.read_text()
+    assert file.stat().st_mode & 0o077 == 0 and tokens["an-operator"] not in file.read_text()
     with contextlib.ExitStack() as stack:
         service = stack.enter_context(served(tmp_path, DEFINITIONS, "--token-file", str(file)))
         first, caller, second = (
-            stack.enter_context(service.client(word)) for word in words.values()
+            stack.enter_context(service.client(word)) for word in tokens.values()
         )
         page = stack.enter_context(service.client())
         assert first.get("/v1/sagas").status_code == second.get("/v1/sagas").status_code == 200
-        page.post("/ui/login", data={"token": words["an-operator"]})
+        page.post("/ui/login", data={"token": tokens["an-operator"]})
         assert page.get("/ui").status_code == 200
         start(second, "order", "late")
         note, form = (
@@ -559,14 +567,14 @@ def test_a_token_that_is_taken_away(tmp_path: pathlib.Path) -> None:
             "/v1/sagas/late/abort",
             "json",
             note,
-            Authorization=f"Bearer {words['an-operator']}",
+            Authorization=f"Bearer {tokens['an-operator']}",
         )
         narrowed = half_sent(
             service,
             "/v1/sagas/late/abort",
             "json",
             note,
-            Authorization=f"Bearer {words['a-caller']}",
+            Authorization=f"Bearer {tokens['a-caller']}",
         )
         sent = half_sent(
             service, "/ui/sagas/late/abort", "x-www-form-urlencoded", form, Cookie=cookie
@@ -589,10 +597,10 @@ def test_a_token_that_is_taken_away(tmp_path: pathlib.Path) -> None:
         assert second.get("/v1/sagas/late").json()["aborted"] is False
         assert page.get("/ui").status_code == 303 and second.get("/v1/sagas").status_code == 200
         file.write_text("[[token]\n")
-        while "tokens.toml: cannot be read" not in service.told():
+        while "tokens.toml: cannot be read" not in service.log_text():
             assert second.get("/v1/sagas").status_code == 200 and time.monotonic() < deadline
             time.sleep(0.1)
-        assert "the previous tokens stay valid until it is fixed" in service.told()
+        assert "the previous tokens stay valid until it is fixed" in service.log_text()
 
 
 def test_texts_are_no_markup(guarded: Guarded) -> None:
@@ -633,10 +641,10 @@ def test_texts_are_no_markup(guarded: Guarded) -> None:
             page.get("/ui/sagas?phase=resolved").text,
             page.get(f"/ui/sagas/{quoted(NASTY)}").text,
         ]
-        for place, text in enumerate(texts):
+        for number, text in enumerate(texts):
             assert "<script>alert" not in text and "49" not in re.findall(
                 r"&#39;&amp;(\d+)", text
-            ), place
+            ), number
         assert sum("&lt;script&gt;" in text for text in texts) >= 9
 
 
@@ -681,9 +689,9 @@ def test_without_tokens_only_the_loopback_s_names(tmp_path: pathlib.Path) -> Non
         )
         for name in ("localhost:1", "127.0.0.1", "[::1]:80"):
             assert client.get("/health/live", headers={"Host": name}).status_code == 200
-        assert "every local user has full access" in service.told()
-        found = {client.get("/v1/sagas").status_code for _ in range(60)}
-        assert 429 in found and found <= {200, 429}
+        assert "every local user has full access" in service.log_text()
+        statuses = {client.get("/v1/sagas").status_code for _ in range(60)}
+        assert 429 in statuses and statuses <= {200, 429}
         deadline = time.monotonic() + LONG
         while client.get("/v1/sagas").status_code != 200:
             assert time.monotonic() < deadline

@@ -67,9 +67,9 @@ def shop(tmp_path: pathlib.Path, monkeypatch: pytest.MonkeyPatch) -> Iterator[An
     sys.modules.pop("app_shop", None)
 
 
-def settings(*words: str) -> Any:
+def settings(*arguments: str) -> Any:
     """Return the settings of arguments of `sagas serve`."""
-    return command_module.settings_of(command_module.parser().parse_args(["x.db", *words]))
+    return command_module.settings_of(command_module.parser().parse_args(["x.db", *arguments]))
 
 
 def test_options_of_a_store_are_taken(shop: Any) -> None:
@@ -78,15 +78,15 @@ def test_options_of_a_store_are_taken(shop: Any) -> None:
     An option that a service cannot have is refused.
     """
     for name in ("store", "blocking"):
-        found = settings("--app", f"app_shop:{name}")
-        options = found.store.options
+        taken = settings("--app", f"app_shop:{name}")
+        options = taken.store.options
         assert options["codec"] is shop.codec and options["context"] is shop.shop
         assert options["concurrency"] == 3 and options["blob_threshold"] == 300
         assert options["retention"] == datetime.timedelta(days=1)
-        assert found.store.on_event is shop.words["on_event"] and found.shutdown_timeout == 7
+        assert taken.store.on_event is shop.words["on_event"] and taken.shutdown_timeout == 7
         assert not {"path", "sagas", "on_event", "clock"} & options.keys()
-        assert sorted(saga.name for saga in found.sagas) == ["leaf", "mid", "order", "top"]
-    words = (
+        assert sorted(saga.name for saga in taken.sagas) == ["leaf", "mid", "order", "top"]
+    arguments = (
         "--concurrency",
         "5",
         "--retention",
@@ -96,7 +96,7 @@ def test_options_of_a_store_are_taken(shop: Any) -> None:
         "--context",
         "app_shop:seen",
     )
-    options = settings("--app", "app_shop:store", *words, "--blobs", "more").store.options
+    options = settings("--app", "app_shop:store", *arguments, "--blobs", "more").store.options
     assert (options["concurrency"], options["archive_dir"], options["context"]) == (
         5,
         "old",
@@ -123,8 +123,8 @@ def test_a_store_is_served(shop: Any, tmp_path: pathlib.Path) -> None:
     blobs, and others get the stored form.
     """
     with served(tmp_path, {"few.toml": FEW}, "--app", "app_shop:store") as service:
-        words: dict[str, Any] = {"codec": shop.codec, "blobs": shop.words["blobs"]}
-        with sagas.ServiceClient(service.url, **words) as client, sagas.ServiceClient(
+        options: dict[str, Any] = {"codec": shop.codec, "blobs": shop.words["blobs"]}
+        with sagas.ServiceClient(service.url, **options) as client, sagas.ServiceClient(
             service.url
         ) as plain:
             small = {"shop": "ours", "big": "x", "seen": []}

@@ -44,8 +44,12 @@ def test_attention_and_many(client: httpx.Client) -> None:
     the refused ones.
     """
     for number in range(5):
-        told = {"definition": "licence", "key": f"many-{number}", "labels": {"of": str(number % 2)}}
-        assert client.post("/v1/sagas", json=told).status_code == 201
+        start_body = {
+            "definition": "licence",
+            "key": f"many-{number}",
+            "labels": {"of": str(number % 2)},
+        }
+        assert client.post("/v1/sagas", json=start_body).status_code == 201
     for number in range(3):
         start(client, "order", f"asked-{number}")
     for _ in range(5):
@@ -71,8 +75,8 @@ def test_attention_and_many(client: httpx.Client) -> None:
         "many-3"
     ]
     for path, name in (("/v1/attention?kind=stuck", "entries"), ("/v1/sagas?", "sagas")):
-        found = client.get(f"{path}&label=of=1&search=many-").json()[name]
-        assert sorted(one["key"] for one in found) == ["many-1", "many-3"], path
+        listed = client.get(f"{path}&label=of=1&search=many-").json()[name]
+        assert sorted(one["key"] for one in listed) == ["many-1", "many-3"], path
     assert client.get("/v1/sagas?label=of").status_code == 422
     now = client.get("/v1/sagas/many-2").json()
     assert now["labels"] == {"of": "0"}
@@ -80,8 +84,8 @@ def test_attention_and_many(client: httpx.Client) -> None:
         (f"started_after={now['started_at']}", 3),
         (f"started_before={now['started']}", 2),
     ):
-        found = client.get(f"/v1/sagas?search=many-&{query}").json()["sagas"]
-        assert len(found) == count, query
+        listed = client.get(f"/v1/sagas?search=many-&{query}").json()["sagas"]
+        assert len(listed) == count, query
     assert {one["kind"] for one in client.get("/v1/attention").json()["entries"]} >= {
         "stuck",
         "approval",
@@ -99,15 +103,15 @@ def test_attention_and_many(client: httpx.Client) -> None:
         "/v1/bulk/resolve", json={**wanted, "dry_run": False, "count": 5, "limit": 3}
     ).json()
     assert (done["done"], done["left"], done["refused"]) == (3, 2, [])
-    asked: dict[str, Any] = {
+    action: dict[str, Any] = {
         "filter": {"kind": "approval", "step": "review", "search": "asked-"},
         "result": 1,
     }
-    assert client.post("/v1/bulk/complete", json=asked).json()["count"] == 3
+    assert client.post("/v1/bulk/complete", json=action).json()["count"] == 3
     labeled = {**wanted, "filter": {"kind": "stuck", "labels": {"of": "1"}}}
     assert client.post("/v1/bulk/resolve", json=labeled).json()["count"] == 1
     assert (
-        client.post("/v1/bulk/complete", json={**asked, "dry_run": False, "count": 3}).json()[
+        client.post("/v1/bulk/complete", json={**action, "dry_run": False, "count": 3}).json()[
             "done"
         ]
         == 3
@@ -144,16 +148,21 @@ def test_an_abort_of_many_gets_on(client: httpx.Client) -> None:
     until = time.monotonic() + LONG
     while not client.get("/v1/sagas/gets-on-late").json()["aborted"]:
         assert time.monotonic() < until
-    found, some = [], {"filter": {"search": "gets-on-"}, "limit": 1}
+    outcomes, some = [], {"filter": {"search": "gets-on-"}, "limit": 1}
     for count in (4, 3, 2, 1, 0):
         assert client.post("/v1/bulk/abort", json=some).json()["count"] == count
-        told = client.post("/v1/bulk/abort", json={**some, "dry_run": False, "count": count}).json()
-        assert told["left"] == max(0, count - 1)
-        found.append(
-            (told["done"], [(one["key"], one["problem"]["detail"]) for one in told["refused"]])
+        outcome = client.post(
+            "/v1/bulk/abort", json={**some, "dry_run": False, "count": count}
+        ).json()
+        assert outcome["left"] == max(0, count - 1)
+        outcomes.append(
+            (
+                outcome["done"],
+                [(one["key"], one["problem"]["detail"]) for one in outcome["refused"]],
+            )
         )
-    said = "saga 'gets-on-late' has ended, or was aborted before"
-    assert found == [(0, [("gets-on-late", said)]), (1, []), (1, []), (1, []), (0, [])]
+    detail = "saga 'gets-on-late' has ended, or was aborted before"
+    assert outcomes == [(0, [("gets-on-late", detail)]), (1, []), (1, []), (1, []), (0, [])]
     sagas = client.get("/v1/sagas?search=gets-on-&phase=open").json()["sagas"]
     assert len(sagas) == 4 and all(
         client.get(f"/v1/sagas/{one['key']}").json()["aborted"] for one in sagas
@@ -177,20 +186,20 @@ def test_reports_of_many_are_of_the_step(client: httpx.Client) -> None:
         assert time.monotonic() < until
     for more, key in (({}, "asks-a"), ({"undo": False}, "asks-a"), ({"undo": True}, "asks-undo")):
         some = {"filter": {"kind": "exhausted", "step": "a", **more}, "result": 1}
-        told = client.post("/v1/bulk/complete", json=some).json()
-        assert (told["count"], told["keys"]) == (1, [key]), more
+        outcome = client.post("/v1/bulk/complete", json=some).json()
+        assert (outcome["count"], outcome["keys"]) == (1, [key]), more
     page = client.get("/ui?kind=exhausted&definition=asks").text
     assert page.count('name="group"') == 2 and "· undoing a: timeout" in page
-    told = client.post("/v1/bulk/complete", json={**some, "dry_run": False, "count": 1}).json()
-    assert (told["done"], told["left"]) == (1, 0)
+    outcome = client.post("/v1/bulk/complete", json={**some, "dry_run": False, "count": 1}).json()
+    assert (outcome["done"], outcome["left"]) == (1, 0)
     assert client.get("/v1/sagas/asks-undo/wait").json()["states"]["a"] == "undone"
     assert client.get("/v1/sagas/asks-a").json()["states"]["a"] == "begun"
 
 
 def test_a_filter_that_selects_nothing_by_mistake(client: httpx.Client) -> None:
     """Empty labels are refused, and names that nothing has are reported."""
-    told = {"definition": "order", "key": "labeled", "labels": {"customer": "7"}}
-    assert client.post("/v1/sagas", json=told).status_code == 201
+    start_body = {"definition": "order", "key": "labeled", "labels": {"customer": "7"}}
+    assert client.post("/v1/sagas", json=start_body).status_code == 201
     answer = client.post("/v1/bulk/abort", json={"filter": {"labels": {}}})
     assert answer.status_code == 422 and "filter.labels: this selects every saga" in answer.text
     for labels, text in (

@@ -233,19 +233,19 @@ def test_a_deadline(service: Served, client: httpx.Client) -> None:
     get(client, "/v1/sagas/timely", 404)
     began = time.time()
     assert put("timely", 3600).status_code == 201 and put("timely", 7200).json()["new"] is False
-    told = get(client, "/v1/sagas/timely")
-    assert began + 3599 < told["deadline"] < time.time() + 3601 and told["deadline_at"].endswith(
+    saga = get(client, "/v1/sagas/timely")
+    assert began + 3599 < saga["deadline"] < time.time() + 3601 and saga["deadline_at"].endswith(
         "Z"
     )
     (listed,) = get(client, "/v1/sagas?search=timely")["sagas"]
-    assert (listed["deadline"], listed["deadline_at"]) == (told["deadline"], told["deadline_at"])
+    assert (listed["deadline"], listed["deadline_at"]) == (saga["deadline"], saga["deadline_at"])
     assert (
-        f'<dt>Deadline</dt><dd><time class="exact" datetime="{told["deadline_at"][:16]}'
+        f'<dt>Deadline</dt><dd><time class="exact" datetime="{saga["deadline_at"][:16]}'
         in client.get("/ui/sagas/timely").text
     )
     (flight,) = take(client, "trip/flight")
     assert (
-        flight["deadline"] == pytest.approx(told["deadline"], abs=1e-3)
+        flight["deadline"] == pytest.approx(saga["deadline"], abs=1e-3)
         and flight["until"] < flight["deadline"]
     )
     assert report(client, flight, result=1).status_code == 200
@@ -258,7 +258,7 @@ def test_a_deadline(service: Served, client: httpx.Client) -> None:
 
     worker.run()
     assert seen[0].tzinfo is datetime.timezone.utc and seen[0].timestamp() == pytest.approx(
-        told["deadline"], abs=1e-3
+        saga["deadline"], abs=1e-3
     )
     assert client.post("/v1/sagas/timely/abort", json={}).json()["aborted"] is True
     all_done(client, "trip/car/undo")
@@ -279,8 +279,8 @@ def test_what_has_begun(client: httpx.Client) -> None:
     """
 
     def flight() -> tuple[str, list[tuple[str, str | None]]]:
-        told = get(client, "/v1/sagas/begun")
-        return told["states"]["flight"], [(one["why"], one["said"]) for one in told["waits"]]
+        saga = get(client, "/v1/sagas/begun")
+        return saga["states"]["flight"], [(one["why"], one["said"]) for one in saga["waits"]]
 
     def comes(wanted: tuple[str, list[tuple[str, str | None]]]) -> None:
         deadline = time.monotonic() + LONG
@@ -295,8 +295,8 @@ def test_what_has_begun(client: httpx.Client) -> None:
     (task,) = take(client, "trip/flight")
     comes(("running", [("external", "local/w")]))
     report(client, task, "fail", error="no seat", final=True)
-    told = get(client, "/v1/sagas/begun/wait?seconds=60")
-    assert (told["states"]["flight"], told["errors"], told["waits"]) == (
+    saga = get(client, "/v1/sagas/begun/wait?seconds=60")
+    assert (saga["states"]["flight"], saga["errors"], saga["waits"]) == (
         "failed",
         {"flight": "no seat"},
         [],
@@ -317,9 +317,9 @@ def test_a_refund_that_fails(client: httpx.Client) -> None:
         report(client, undo, "fail", error="the bank is closed")
         assert not report(client, undo, "fail", error="the bank is closed").is_error
     assert measured(client, f"{figure}2.0")
-    told = get(client, "/v1/attention?kind=exhausted")
-    assert told["counts"]["exhausted"] == 2
-    one = told["entries"][0]
+    listed = get(client, "/v1/attention?kind=exhausted")
+    assert listed["counts"]["exhausted"] == 2
+    one = listed["entries"][0]
     assert (one["key"], one["step"], one["undo"], one["detail"]) == (
         "refund-1",
         "a",
@@ -362,8 +362,8 @@ def test_a_compensation_that_failed(client: httpx.Client) -> None:
         (tour,) = take(client, "trip/tour")
         report(client, tour, "fail", error="full")
     all_done(client, "trip/car/undo", failing=["trip/car/undo"])
-    told = get(client, "/v1/sagas/undo-failed/wait?seconds=60")
-    assert (told["phase"], told["states"]["car"], told["errors"]) == (
+    saga = get(client, "/v1/sagas/undo-failed/wait?seconds=60")
+    assert (saga["phase"], saga["states"]["car"], saga["errors"]) == (
         "recovered",
         "undo_failed",
         {"car": "no", "tour": "full"},
@@ -386,8 +386,8 @@ def test_a_compensation_that_failed(client: httpx.Client) -> None:
     first = client.get("/ui?kind=undo_failed&search=undo-failed").text
     assert "undoing car: no" in first and "/resolve" in page
     assert client.get("/ui/sagas/undo-failed/resolve").status_code == 200
-    said = client.post("/v1/sagas/undo-failed/resolve", json={"note": "given back by hand"})
-    assert said.status_code == 200
+    answer = client.post("/v1/sagas/undo-failed/resolve", json={"note": "given back by hand"})
+    assert answer.status_code == 200
     assert get(client, "/v1/sagas/undo-failed")["phase"] == "resolved"
     assert get(client, "/v1/sagas?phase=undo_failed")["sagas"] == []
     assert measured(client, f"{figure}0.0")
@@ -447,15 +447,15 @@ def test_a_limit_holds_for_leases(service: Served, client: httpx.Client) -> None
         start(client, "few", f"few-{number}")
     first, second = take(client, "few/a", most=10)
     assert take(client, "few/a", wait=0) == []
-    found: list[Any] = []
+    claimed: list[Any] = []
     with service.client() as other:
         taker = threading.Thread(
-            target=lambda: found.extend(take(other, "few/a", most=10, lease=1))
+            target=lambda: claimed.extend(take(other, "few/a", most=10, lease=1))
         )
         taker.start()
         report(client, first)
         taker.join(LONG)
-    (third,) = found  # its lease expires, and then the next one is available
+    (third,) = claimed  # its lease expires, and then the next one is available
     (fourth,) = take(client, "few/a", most=10)
     assert {first["key"], second["key"], third["key"], fourth["key"]} >= {
         f"few-{number}" for number in range(3)
@@ -643,17 +643,17 @@ def test_a_long_take_is_woken(service: Served, client: httpx.Client) -> None:
     """A worker that waits for a task gets it when it comes; one that has gone gets none."""
     with pytest.raises(httpx.ReadTimeout), service.client() as gone:
         gone.post("/v1/tasks/claim", json={"steps": ["licence/server"], "wait": 30}, timeout=0.5)
-    found: list[Any] = []
+    claimed: list[Any] = []
     with service.client() as other:
         taker = threading.Thread(
-            target=lambda: found.extend(take(other, "licence/server", wait=30))
+            target=lambda: claimed.extend(take(other, "licence/server", wait=30))
         )
         taker.start()
         time.sleep(1.0)
         start(client, "licence", "woken")
         taker.join(LONG)
-    assert [task["key"] for task in found] == ["woken"]
-    report(client, found[0])
+    assert [task["key"] for task in claimed] == ["woken"]
+    report(client, claimed[0])
     all_done(client, "licence/licence")
 
 
@@ -662,15 +662,15 @@ def test_the_list(client: httpx.Client) -> None:
     keys = [f"list%_{number}" for number in range(5)]
     for key in keys:
         start(client, "order", key)
-    found: list[str] = []
+    listed: list[str] = []
     after = ""
     while True:
         page = get(client, f"/v1/sagas?search=list%25_&definition=order&phase=open&limit=2{after}")
-        found += [saga["key"] for saga in page["sagas"]]
+        listed += [saga["key"] for saga in page["sagas"]]
         if page["next"] is None:
             break
         after = f"&after={page['next']}"
-    assert found == keys[::-1]
+    assert listed == keys[::-1]
     assert get(client, "/v1/sagas?search=list_%25")["sagas"] == []
     assert client.get("/v1/sagas?phase=none").status_code == 422
 
@@ -791,22 +791,27 @@ def test_the_log_is_lines_of_json(service: Served, client: httpx.Client) -> None
     get(client, "/v1/sagas/logged/wait?seconds=60")
     deadline = time.monotonic() + LONG
     # a request is logged once it is answered
-    while '"/v1/sagas/logged/wait"' not in service.told():
+    while '"/v1/sagas/logged/wait"' not in service.log_text():
         assert time.monotonic() < deadline
         time.sleep(0.05)
     # the lines before are the service's start
-    told = [
+    log_lines = [
         json.loads(line)
-        for line in service.told().splitlines()
+        for line in service.log_text().splitlines()
         if not line.startswith("sagas serve: ")
     ]
-    assert all({"at", "level", "logger", "message"} <= set(line) for line in told)
+    assert all({"at", "level", "logger", "message"} <= set(line) for line in log_lines)
     (stuck,) = (
-        line for line in told if line.get("name") == "saga_stuck" and line["key"] == "logged"
+        line for line in log_lines if line.get("name") == "saga_stuck" and line["key"] == "logged"
     )
     assert (stuck["level"], stuck["logger"], stuck["saga"]) == ("error", "sagas", "licence")
-    asked = next(line for line in told if line.get("path") == "/v1/sagas/logged/wait")
-    assert (asked["logger"], asked["method"], asked["status"], asked["who"]) == (
+    request_line = next(line for line in log_lines if line.get("path") == "/v1/sagas/logged/wait")
+    assert (
+        request_line["logger"],
+        request_line["method"],
+        request_line["status"],
+        request_line["who"],
+    ) == (
         "sagas.http",
         "GET",
         200,
@@ -814,10 +819,10 @@ def test_the_log_is_lines_of_json(service: Served, client: httpx.Client) -> None
     )
 
 
-def test_it_goes_on_after_a_kill(tmp_path: pathlib.Path, place: str) -> None:
+def test_it_goes_on_after_a_kill(tmp_path: pathlib.Path, location: str) -> None:
     """Leases, approvals and reports outlive the service; the same report again is still one."""
     with served(
-        tmp_path, DEFINITIONS, "--node", "one", store=place
+        tmp_path, DEFINITIONS, "--node", "one", store=location
     ) as service, service.client() as client:
         start(client, "trip", "k")
         (flight,) = take(client, "trip/flight", lease=600)
@@ -833,7 +838,7 @@ def test_it_goes_on_after_a_kill(tmp_path: pathlib.Path, place: str) -> None:
         all_done(client, "order/send")
         assert get(client, "/v1/sagas/o/wait?seconds=60")["results"]["review"] == 1
         assert service.stop() == 0
-    assert "Traceback" not in service.told()
+    assert "Traceback" not in service.log_text()
 
 
 def test_it_stops_although_clients_ask_on(tmp_path: pathlib.Path) -> None:
@@ -871,7 +876,7 @@ def test_it_stops_although_clients_ask_on(tmp_path: pathlib.Path) -> None:
 
 
 @pytest.mark.parametrize(
-    "files, words, says",
+    "files, arguments, says",
     [
         ({}, (), "has no definition NAME.toml"),
         ({"a.toml": "format = 2\nname = "}, (), "a.toml:2: invalid TOML: Invalid value"),
@@ -901,12 +906,12 @@ def test_it_stops_although_clients_ask_on(tmp_path: pathlib.Path) -> None:
     ],
 )
 def test_what_cannot_be_served(
-    tmp_path: pathlib.Path, files: dict[str, str], words: tuple[str, ...], says: str
+    tmp_path: pathlib.Path, files: dict[str, str], arguments: tuple[str, ...], says: str
 ) -> None:
     """It reports what is wrong and where, and does not start."""
     from serving import environment
 
-    one = Served(tmp_path, files, *words)
+    one = Served(tmp_path, files, *arguments)
     done = subprocess.run(
         one.command(), env=environment(), capture_output=True, text=True, timeout=LONG, cwd=tmp_path
     )
@@ -932,15 +937,15 @@ def test_numbers_that_options_do_not_take() -> None:
                 done.returncode == 2
                 and f"argument {option}: invalid value '{value}': use " in done.stderr
             ), done.stderr
-    for words in (
+    for arguments in (
         ("--app", ":x"),
         ("--app", ".shop:x"),
         ("--listen", "127.0.0.1:²"),
         ("--listen", "127.0.0.1:" + "1" * 5000),
     ):
-        done = command("serve", "x.db", *words)
+        done = command("serve", "x.db", *arguments)
         assert (
-            done.returncode == 2 and f"sagas serve: invalid {words[0]} " in done.stderr
+            done.returncode == 2 and f"sagas serve: invalid {arguments[0]} " in done.stderr
         ), done.stderr
 
 
@@ -951,9 +956,9 @@ def test_what_is_meant_for_a_database(tmp_path: pathlib.Path) -> None:
     from serving import environment
 
     for store in ("password=s3cret host=127.0.0.1", "postgresql//me:s3cret@host/a"):
-        asked = Served(tmp_path, store=store).command()
+        arguments = Served(tmp_path, store=store).command()
         done = subprocess.run(
-            asked, env=environment(), capture_output=True, text=True, timeout=LONG, cwd=tmp_path
+            arguments, env=environment(), capture_output=True, text=True, timeout=LONG, cwd=tmp_path
         )
         assert done.returncode == 2 and "a store is an SQLite file" in done.stderr, done.stderr
         assert "s3cret" not in done.stderr + done.stdout

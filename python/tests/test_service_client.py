@@ -134,11 +134,11 @@ def test_lists(client: sagas.ServiceClient) -> None:
         client.start("order", key, labels={"list": "a=b"})
     client.fail(keys[0], "review", "too ünusual")
     assert client.wait(keys[0], timeout=LONG).errors == {"review": "too ünusual"}
-    found = list(client.list(labels={"list": "a=b"}, saga=ORDER, page_size=2))
+    listed = list(client.list(labels={"list": "a=b"}, saga=ORDER, page_size=2))
     assert (
-        [one.key for one in found] == keys[::-1]
-        and found[0].phase == "open"
-        and found[0].labels == {"list": "a=b"}
+        [one.key for one in listed] == keys[::-1]
+        and listed[0].phase == "open"
+        and listed[0].labels == {"list": "a=b"}
     )
     moment = datetime.datetime.fromtimestamp(before, datetime.timezone.utc)
     assert len(list(client.list(search="listed", started_after=moment))) == 5
@@ -195,18 +195,18 @@ def test_nobody_answers(service: Served) -> None:
 
 def test_close_ends_what_waits(service: Served) -> None:
     """A wait raises `Closed`, a loop over events ends, and so does each later call."""
-    client, told = sagas.ServiceClient(service.url), []
+    client, ended = sagas.ServiceClient(service.url), []
     client.start("order", "closed")
     events = client.events(key="closed").open()
 
     def waits() -> None:
         with pytest.raises(sagas.Closed):
             client.wait("closed")
-        told.append("wait")
+        ended.append("wait")
 
     def follows() -> None:
-        told.extend(f"event of {event.key}" for event in events)
-        told.append("events")
+        ended.extend(f"event of {event.key}" for event in events)
+        ended.append("events")
 
     threads = [threading.Thread(target=waits), threading.Thread(target=follows)]
     for thread in threads:
@@ -214,7 +214,7 @@ def test_close_ends_what_waits(service: Served) -> None:
     client.close()
     for thread in threads:
         thread.join(LONG)
-    assert sorted(told)[-2:] == ["events", "wait"] and list(client.events()) == []
+    assert sorted(ended)[-2:] == ["events", "wait"] and list(client.events()) == []
     with pytest.raises(sagas.Closed, match="the client is closed"):
         client.get("closed")
 
@@ -224,8 +224,8 @@ def test_a_fork_has_connections_of_its_own(client: sagas.ServiceClient) -> None:
     client.start("order", "fork")
     child = os.fork()
     if not child:
-        found = [client.get("fork") is not None for _ in range(5)]
-        os._exit(0 if all(found) else 1)
+        answered = [client.get("fork") is not None for _ in range(5)]
+        os._exit(0 if all(answered) else 1)
     assert all(client.get("fork") for _ in range(5))
     assert os.waitpid(child, 0)[1] == 0
 

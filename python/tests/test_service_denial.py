@@ -75,11 +75,11 @@ def limited(
 ) -> Iterator[Served]:
     """Return a service that takes few connections."""
     folder = tmp_path_factory.mktemp("limited")
-    words = ["--most-connections", str(MOST)]
+    options = ["--most-connections", str(MOST)]
     if request.param:
         token(folder, "a", "caller")
-        words += ["--token-file", str(folder / "tokens.toml")]
-    with served(folder, DEFINITIONS, *words) as service:
+        options += ["--token-file", str(folder / "tokens.toml")]
+    with served(folder, DEFINITIONS, *options) as service:
         yield service
 
 
@@ -119,8 +119,8 @@ def answered(one: socket.socket) -> tuple[int, str]:
     )
     while len(body) < length:
         body += one.recv(65536)
-    told = json.loads(body) if body.startswith(b"{") else {}
-    return int(head.split(b" ")[1]), told.get("type", "").rpartition(":")[2]
+    problem = json.loads(body) if body.startswith(b"{") else {}
+    return int(head.split(b" ")[1]), problem.get("type", "").rpartition(":")[2]
 
 
 def test_a_client_that_goes_before_its_body_is_whole(tmp_path: pathlib.Path) -> None:
@@ -132,7 +132,9 @@ def test_a_client_that_goes_before_its_body_is_whole(tmp_path: pathlib.Path) -> 
                 "application/json\r\nContent-Length: 20\r\n\r\n{".encode()
             )
         deadline = time.monotonic() + LONG
-        while not (told := [line for line in service.told().splitlines() if "/k/abort" in line]):
+        while not (
+            told := [line for line in service.log_text().splitlines() if "/k/abort" in line]
+        ):
             assert time.monotonic() < deadline
             time.sleep(0.05)
     (line,) = map(json.loads, told)
@@ -203,12 +205,12 @@ def inside(folder: pathlib.Path, ask: Ask, **more: object) -> None:
     """Request a service in this program, with settings for which a process would take too long."""
     Served(folder)
     some = definition_files.read(folder / "definitions")
-    told = Settings(str(folder / "store.db"), some, **more)  # type: ignore[arg-type]
+    settings = Settings(str(folder / "store.db"), some, **more)  # type: ignore[arg-type]
 
     async def main() -> None:
         opened = asyncio.Event()
         with socket.create_server((host(), 0)) as listening:
-            at_work = asyncio.create_task(uvicorn_server.run(told, listening, opened.set))
+            at_work = asyncio.create_task(uvicorn_server.run(settings, listening, opened.set))
             await opened.wait()
             try:
                 await ask(listening.getsockname())
@@ -249,13 +251,13 @@ class Browsing:
 
     def __init__(self, address: tuple[str, int], tokens: dict[str, str]) -> None:
         self.tokens = tokens
-        words: dict[str, Any] = {"trust_env": False, "verify": False, "timeout": LONG}
-        words["base_url"] = f"http://{address[0]}:{address[1]}"
+        options: dict[str, Any] = {"trust_env": False, "verify": False, "timeout": LONG}
+        options["base_url"] = f"http://{address[0]}:{address[1]}"
         self.clients = {
-            name: httpx.AsyncClient(headers={"Authorization": f"Bearer {text}"}, **words)
+            name: httpx.AsyncClient(headers={"Authorization": f"Bearer {text}"}, **options)
             for name, text in tokens.items()
         }
-        self.clients["page"] = httpx.AsyncClient(**words)
+        self.clients["page"] = httpx.AsyncClient(**options)
         self.there: list[httpx.Response] = []
 
     async def log_in(self) -> None:
@@ -292,12 +294,12 @@ def test_streams_are_shared(tmp_path: pathlib.Path, monkeypatch: pytest.MonkeyPa
         some = Browsing(address, tokens)
         await some.log_in()
         assert [(await some.stream("a"))[0] for _ in range(3)] == [200] * 3
-        status, said = await some.stream("a")
-        assert status == 503 and "you have 3 event streams: close some" in said
+        status, detail = await some.stream("a")
+        assert status == 503 and "you have 3 event streams: close some" in detail
         assert [(await some.stream("b"))[0] for _ in range(2)] == [200] * 2
         for name in "bc":
-            status, said = await some.stream(name)
-            assert status == 503 and "there are 5 event streams" in said
+            status, detail = await some.stream(name)
+            assert status == 503 and "there are 5 event streams" in detail
         # the dashboard has its own, though its token has all the others that it may have
         assert [(await some.stream("page"))[0] for _ in range(3)] == [200, 200, 503]
         await some.there[0].aclose()

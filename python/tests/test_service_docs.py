@@ -28,14 +28,14 @@ TUTORIAL = (TOP / "docs" / "tutorials" / "service.md").read_text()
 
 def commands() -> list[tuple[str, str]]:
     """Return each command of the tutorial, with its output."""
-    found = []
+    pairs = []
     for kind, block in re.findall(r"^```(\w*)\n(.*?)^```$", TUTORIAL, re.S | re.M):
         if kind:  # it is not a shell's
             continue
         for part in re.split(r"^\$ ", block, flags=re.M)[1:]:
             command, _, output = part.partition("\n")
-            found.append((command, output))
-    return found
+            pairs.append((command, output))
+    return pairs
 
 
 def folder_of(tmp_path: pathlib.Path) -> dict[str, str]:
@@ -45,21 +45,21 @@ def folder_of(tmp_path: pathlib.Path) -> dict[str, str]:
     for name in ("python", "examples"):
         (tmp_path / name).symlink_to(TOP / name)
     (tmp_path / "bin").mkdir()
-    for name, words in (("python3", ""), ("sagas", "-m sagas ")):
+    for name, arguments in (("python3", ""), ("sagas", "-m sagas ")):
         (tmp_path / "bin" / name).write_text(
-            f'#!/bin/sh\nexec {shlex.quote(sys.executable)} {words}"$@"\n'
+            f'#!/bin/sh\nexec {shlex.quote(sys.executable)} {arguments}"$@"\n'
         )
         (tmp_path / "bin" / name).chmod(0o755)
-    told = {name: value for name, value in environment().items() if name != "PYTHONPATH"}
-    return told | {"PATH": f"{tmp_path / 'bin'}:{os.environ['PATH']}"}
+    variables = {name: value for name, value in environment().items() if name != "PYTHONPATH"}
+    return variables | {"PATH": f"{tmp_path / 'bin'}:{os.environ['PATH']}"}
 
 
 def test_the_page(tmp_path: pathlib.Path) -> None:
     """From the start of the service to a resolved stuck saga."""
-    told, address = commands(), host()
-    assert len(told) > 20
+    tutorial, address = commands(), host()
+    assert len(tutorial) > 20
     script = ["trap 'kill $(jobs -p) 2>/dev/null; wait' EXIT"]
-    for number, (command, _) in enumerate(told):
+    for number, (command, _) in enumerate(tutorial):
         script.append(
             f"{{ {command.replace('127.0.0.1', address)}\n}} >{tmp_path}/out.{number} 2>&1"
         )
@@ -76,7 +76,7 @@ def test_the_page(tmp_path: pathlib.Path) -> None:
         timeout=240,
     )
     log = (tmp_path / "service.log").read_text()
-    for number, (command, wanted) in enumerate(told):
+    for number, (command, wanted) in enumerate(tutorial):
         out = (tmp_path / f"out.{number}").read_text().replace(address, "127.0.0.1")
         if not (command.endswith("&") and not wanted):
             assert (
@@ -87,8 +87,8 @@ def test_the_page(tmp_path: pathlib.Path) -> None:
 
 def test_each_path_is_described() -> None:
     """The reference has each call of the schema, and no other."""
-    words = re.findall(r"`(?:GET|POST|DELETE) (/[^`?\s]*)", PAGE)
-    described = {re.sub(r"KEY|STEP|ATTEMPT_ID|ID|NAME", "{}", path) for path in words}
+    routes = re.findall(r"`(?:GET|POST|DELETE) (/[^`?\s]*)", PAGE)
+    described = {re.sub(r"KEY|STEP|ATTEMPT_ID|ID|NAME", "{}", path) for path in routes}
     from sagas.server.app import operations
 
     assert {re.sub(r"\{\w+\}", "{}", one.path) for one in operations()} == described
@@ -141,12 +141,14 @@ def test_metrics_are_described(tmp_path: pathlib.Path) -> None:
         start(client, "trip", "a")
         take(client, "trip/flight")
         text = client.get("/metrics").text
-    told = {
+    metrics = {
         name for name in re.findall(r"# TYPE (sagas_\w+)", text) if not name.endswith("_created")
     }
-    counted = {name.removesuffix("_total") for name in told}
+    counted = {name.removesuffix("_total") for name in metrics}
     assert names and names <= counted, names - counted
-    assert told == set(re.findall(r"`(sagas_\w+[a-z])[{`]", (REFERENCE / "metrics.md").read_text()))
+    assert metrics == set(
+        re.findall(r"`(sagas_\w+[a-z])[{`]", (REFERENCE / "metrics.md").read_text())
+    )
 
 
 def test_each_wait_is_described() -> None:
@@ -166,12 +168,12 @@ def test_each_wait_is_described() -> None:
     rows = [re.sub("NAME|N", ".+", row) for row in re.findall(r"^\| ([^|]*) \|", page, re.M)]
     one = {"until": None, "count": 1, "worker": "w", "saga": "trip", "version": 1}
     kinds = ["unknown", "exhausted", "retry", "cannot_decode", "node", "approval", "wait", "child"]
-    said = [waits_for(one | {"why": why}) for why in kinds]
-    said += [
+    texts = [waits_for(one | {"why": why}) for why in kinds]
+    texts += [
         waits_for(one | {"why": "external", "until": 4e9}),
         waits_for(one | {"why": "unknown", "until": 4e9}),
     ]
-    assert [text for text in said if not any(re.match(row, text) for row in rows)] == []
+    assert [text for text in texts if not any(re.match(row, text) for row in rows)] == []
 
 
 @pytest.mark.parametrize("engine", ["podman", "docker"])
@@ -204,14 +206,14 @@ def test_the_containers_have_one_image_and_its_tokens_can_be_read(
         path.chmod(0o755)
     for name in ("bash", "sh", "dirname", "mktemp", "rm", "stat", "od", "tr", "cat", "cp", "chmod"):
         (tmp_path / "bin" / name).symlink_to(str(shutil.which(name)))
-    told = subprocess.run(
+    done = subprocess.run(
         [deploy / "setup"],
         env=environment() | {"PATH": str(tmp_path / "bin")},
         capture_output=True,
         text=True,
         check=True,
     )
-    assert re.fullmatch(r"caller:   sagas_\S+\noperator: sagas_\S+\n", told.stdout)
+    assert re.fullmatch(r"caller:   sagas_\S+\noperator: sagas_\S+\n", done.stdout)
     assert (
         "SAGAS_WORKER_TOKEN=sagas_" in (deploy / ".env").read_text()
         and (deploy / ".env").stat().st_mode & 0o077 == 0
@@ -232,14 +234,17 @@ def test_the_unit_starts_a_service(tmp_path: pathlib.Path) -> None:
     assert int(service["TimeoutStopSec"]) > 20 and int(service["LimitNOFILE"]) > 2000
     (tmp_path / "definitions").symlink_to(TOP / "examples" / "service" / "definitions")
     token(tmp_path, "shop", "caller")
-    words = [
+    command = [
         re.sub("^(/var/lib|/etc)/sagas", str(tmp_path), word)
         for word in shlex.split(service["ExecStart"])
     ]
-    assert words[:2] == ["/usr/bin/sagas", "serve"] and words[-2:] == ["--listen", "127.0.0.1:8080"]
-    words[:1], words[-1] = [sys.executable, "-m", "sagas"], f"{host()}:0"
+    assert command[:2] == ["/usr/bin/sagas", "serve"] and command[-2:] == [
+        "--listen",
+        "127.0.0.1:8080",
+    ]
+    command[:1], command[-1] = [sys.executable, "-m", "sagas"], f"{host()}:0"
     with subprocess.Popen(
-        words, env=environment(), cwd=tmp_path, stdout=subprocess.PIPE, text=True
+        command, env=environment(), cwd=tmp_path, stdout=subprocess.PIPE, text=True
     ) as process:
         try:
             assert process.stdout and "http://" in process.stdout.readline()
@@ -253,7 +258,7 @@ def test_the_unit_starts_a_service(tmp_path: pathlib.Path) -> None:
 def test_the_unit_is_hardened() -> None:
     """By systemd's own measure of a service's exposure: at most 2.0 of 10."""
     unit = TOP / "examples" / "service" / "sagas.service"
-    words = [
+    command = [
         "systemd-analyze",
         "security",
         "--offline=true",
@@ -261,7 +266,7 @@ def test_the_unit_is_hardened() -> None:
         "--threshold=20",
         str(unit),
     ]
-    done = subprocess.run(words, capture_output=True, text=True, check=False)
+    done = subprocess.run(command, capture_output=True, text=True, check=False)
     assert done.returncode == 0, done.stdout[-300:] + done.stderr
 
 

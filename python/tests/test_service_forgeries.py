@@ -41,7 +41,7 @@ def price(task):
     threading.Event().wait()
 """
 ROLES = {"ada": "worker", "bob": "worker", "caller": "caller", "operator": "operator"}
-WORDS: list[tuple[str, dict[str, Any]]] = [
+REPORTS: list[tuple[str, dict[str, Any]]] = [
     ("complete", {"result": "forged"}),
     ("fail", {"error": "forged", "final": True}),
     ("fail", {"error": "forged"}),
@@ -63,7 +63,7 @@ class World:
         for name in ("one", "two") if store else ("one",):
             (folder / name).mkdir()
             (folder / name / "shop.py").write_text(SHOP)
-            words = [
+            options = [
                 "--token-file",
                 str(folder / "tokens.toml"),
                 "--app",
@@ -73,7 +73,7 @@ class World:
                 "--lease",
                 "5",
             ]
-            service = Served(folder / name, FILES, *words, store=store)
+            service = Served(folder / name, FILES, *options, store=store)
             stack.callback(service.kill)
             service.start()
             for who, text in tokens.items():
@@ -103,27 +103,27 @@ class World:
             assert time.monotonic() < deadline, self.saga(key)
 
     def forged(
-        self, task: str, lease: Any, by: str = "bob", verbs: Any = WORDS
+        self, task: str, lease: Any, by: str = "bob", verbs: Any = REPORTS
     ) -> set[tuple[int, str]]:
         """Return the responses to reports of this task, by each verb at each service."""
-        found = set()
+        statuses = set()
         for client in self.clients[by]:
             for verb, body in verbs:
                 answer = client.post(f"/v1/tasks/{task}/{verb}", json={"lease": lease, **body})
-                found.add((answer.status_code, error_of(answer) if answer.is_error else ""))
-        return found
+                statuses.add((answer.status_code, error_of(answer) if answer.is_error else ""))
+        return statuses
 
 
 @pytest.fixture(scope="module")
 def world(tmp_path_factory: pytest.TempPathFactory, store: str | None) -> Iterator[World]:
     folder = tmp_path_factory.mktemp("forgeries")
     with contextlib.ExitStack() as stack:
-        found = World(folder, store, stack)
-        found.looks = StoreReader(
+        services = World(folder, store, stack)
+        services.looks = StoreReader(
             PostgreSQL(store).reader() if store else Reader(str(folder / "one" / "store.db"))
         )
-        stack.callback(found.looks.close)
-        yield found
+        stack.callback(services.looks.close)
+        yield services
 
 
 INVALID = {(403, "InvalidLease")}
@@ -157,11 +157,11 @@ def guesses(world: World) -> list[str]:
 
 
 def is_unmoved(world: World, key: str, before: Any) -> None:
-    words, after = ("phase", "results", "errors", "states"), world.saga(key)
-    assert {word: after[word] for word in words} == {word: before[word] for word in words}
+    fields, after = ("phase", "results", "errors", "states"), world.saga(key)
+    assert {word: after[word] for word in fields} == {word: before[word] for word in fields}
     waits = [
-        [(one["step"], one["why"], one["attempt"]) for one in told["waits"]]
-        for told in (before, after)
+        [(one["step"], one["why"], one["attempt"]) for one in state["waits"]]
+        for state in (before, after)
     ]
     assert waits[0] == waits[1]
 
@@ -198,7 +198,7 @@ def test_what_no_worker_was_given(
         f"{begin}9-{step}-run-1",
         "x",
     ):
-        assert world.forged(none, guess, verbs=WORDS[:1]) == INVALID, none
+        assert world.forged(none, guess, verbs=REPORTS[:1]) == INVALID, none
     is_unmoved(world, key, before)
     if definition == "trip":
         (task,) = take(world.clients["ada"][-1], "trip/flight")
@@ -281,9 +281,9 @@ def test_what_waits_for_a_person(world: World) -> None:
     assert [one["person"] for one in before["waits"]] == [True]
     for guess in [*guesses(world), tour["lease"]]:
         assert world.forged(tour["attempt_id"], guess) == INVALID, guess
-    late = world.forged(tour["attempt_id"], tour["lease"], by="ada", verbs=[WORDS[0], WORDS[4]])
+    late = world.forged(tour["attempt_id"], tour["lease"], by="ada", verbs=[REPORTS[0], REPORTS[4]])
     assert late == {(409, "LeaseLost")}
-    assert world.forged(tour["attempt_id"], tour["lease"], by="ada", verbs=WORDS[1:3]) == {
+    assert world.forged(tour["attempt_id"], tour["lease"], by="ada", verbs=REPORTS[1:3]) == {
         (409, "ConflictingReport")
     }
     is_unmoved(world, "forged-unknown", before)

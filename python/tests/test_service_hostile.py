@@ -45,11 +45,11 @@ def service(tmp_path_factory: pytest.TempPathFactory) -> Iterator[Served]:
 def memory(service: Served) -> int:
     """Return the most memory that the service has had, in bytes."""
     assert service.process
-    found = re.search(
+    match = re.search(
         r"VmHWM:\s+(\d+) kB", pathlib.Path(f"/proc/{service.process.pid}/status").read_text()
     )
-    assert found
-    return int(found[1]) * 1024
+    assert match
+    return int(match[1]) * 1024
 
 
 def is_well(service: Served) -> None:
@@ -57,9 +57,9 @@ def is_well(service: Served) -> None:
     with service.client() as client:
         assert client.get("/health/live").json() == {"alive": True}
         assert client.get("/v1/sagas/there").json()["key"] == "there"
-    assert "Traceback" not in service.told() and '"trace"' not in service.told(), service.told()[
-        -3000:
-    ]
+    assert (
+        "Traceback" not in service.log_text() and '"trace"' not in service.log_text()
+    ), service.log_text()[-3000:]
 
 
 TEXT = st.one_of(
@@ -93,31 +93,33 @@ VALUES = st.recursive(
 )
 
 
-def of_schema(told: dict[str, Any], whole: dict[str, Any]) -> st.SearchStrategy[Any]:
+def of_schema(schema: dict[str, Any], whole: dict[str, Any]) -> st.SearchStrategy[Any]:
     """Draw values of a schema, mostly."""
-    if "$ref" in told:
-        return of_schema(whole["components"]["schemas"][told["$ref"].rsplit("/", 1)[1]], whole)
-    if "enum" in told:
-        return st.sampled_from(told["enum"])
-    kind = told.get("type")
+    if "$ref" in schema:
+        return of_schema(whole["components"]["schemas"][schema["$ref"].rsplit("/", 1)[1]], whole)
+    if "enum" in schema:
+        return st.sampled_from(schema["enum"])
+    kind = schema.get("type")
     if kind == "object":
         needed = {
             name: of_schema(part, whole)
-            for name, part in told.get("properties", {}).items()
-            if name in told.get("required", ())
+            for name, part in schema.get("properties", {}).items()
+            if name in schema.get("required", ())
         }
         more = {
             name: of_schema(part, whole)
-            for name, part in told.get("properties", {}).items()
+            for name, part in schema.get("properties", {}).items()
             if name not in needed
         }
         return st.fixed_dictionaries(needed, optional=more)
     if kind == "array":
         return st.lists(
-            of_schema(told.get("items", {}), whole), min_size=told.get("minItems", 0), max_size=3
+            of_schema(schema.get("items", {}), whole),
+            min_size=schema.get("minItems", 0),
+            max_size=3,
         )
     if kind in ("integer", "number"):
-        low, high = int(told.get("minimum", 0)), int(min(told.get("maximum", 1000), 2**62))
+        low, high = int(schema.get("minimum", 0)), int(min(schema.get("maximum", 1000), 2**62))
         return st.integers(low, high)
     if kind == "boolean":
         return st.booleans()
@@ -128,9 +130,9 @@ def of_schema(told: dict[str, Any], whole: dict[str, Any]) -> st.SearchStrategy[
 def requests(draw: st.DrawFn, schema: dict[str, Any]) -> tuple[str, str, bytes, str]:
     """Draw a request of a path of the schema: right, nearly right, or not at all."""
     path = draw(st.sampled_from(sorted(set(schema["paths"]) - {"/v1/events"})))
-    method, told = draw(st.sampled_from(sorted(schema["paths"][path].items())))
+    method, operation = draw(st.sampled_from(sorted(schema["paths"][path].items())))
     query = {}
-    for word in told.get("parameters", ()):
+    for word in operation.get("parameters", ()):
         if word["in"] == "path":
             path = path.replace(
                 f"{{{word['name']}}}", quote(draw(TEXT).encode("utf-8", "surrogatepass"), safe="")
@@ -141,8 +143,8 @@ def requests(draw: st.DrawFn, schema: dict[str, Any]) -> tuple[str, str, bytes, 
         {"seconds": b"0"} if path.endswith("/wait") else {}
     )
     body = b""
-    if "requestBody" in told:
-        of = told["requestBody"]["content"]["application/json"]["schema"]
+    if "requestBody" in operation:
+        of = operation["requestBody"]["content"]["application/json"]["schema"]
         value = draw(st.one_of(of_schema(of, schema), of_schema(of, schema), VALUES))
         if isinstance(value, dict) and path == "/v1/tasks/claim":
             value = value | {"wait": 0}
@@ -481,9 +483,9 @@ def test_a_client_that_says_no_more_is_gone() -> None:
 
         class Seen(uvicorn_server.protocol(counted)):  # type: ignore[misc]
             def eof_received(self) -> bool | None:
-                told: bool | None = super().eof_received()
+                result: bool | None = super().eof_received()
                 gone.append(self.gone.done())
-                return told
+                return result
 
         config = uvicorn.Config(waits, http=Seen, log_config=None, log_level="critical")
         config.load()
@@ -508,7 +510,7 @@ def test_a_body_that_does_not_come(tmp_path: pathlib.Path, monkeypatch: pytest.M
     """
     monkeypatch.setenv("SAGAS_PROGRAM", program())
     Served(tmp_path)
-    told = Settings(
+    settings = Settings(
         str(tmp_path / "store.db"), definition_files.read(tmp_path / "definitions"), body_time=1.0
     )
     body = json.dumps({"definition": "trip", "key": "parted"}).encode()
@@ -517,7 +519,7 @@ def test_a_body_that_does_not_come(tmp_path: pathlib.Path, monkeypatch: pytest.M
         f" application/json\r\nContent-Length: {len(body)}\r\n\r\n".encode()
     )
 
-    async def asked(address: tuple[str, int], *parts: bytes) -> bytes:
+    async def answer_of(address: tuple[str, int], *parts: bytes) -> bytes:
         back, there = await asyncio.open_connection(*address)
         for part in parts:
             there.write(part)
@@ -531,13 +533,15 @@ def test_a_body_that_does_not_come(tmp_path: pathlib.Path, monkeypatch: pytest.M
     async def main() -> None:
         opened = asyncio.Event()
         with socket.create_server((host(), 0)) as listening:
-            at_work = asyncio.create_task(uvicorn_server.run(told, listening, opened.set))
+            at_work = asyncio.create_task(uvicorn_server.run(settings, listening, opened.set))
             await opened.wait()
             address = listening.getsockname()
-            assert await asked(address, head) == b"HTTP/1.1 408 "
-            assert await asked(address, head, body[:-1]) == b"HTTP/1.1 408 "
-            assert await asked(address, head + body[:5], body[5:20], body[20:]) == b"HTTP/1.1 201 "
-            assert await asked(address, head + body) == b"HTTP/1.1 200 "
+            assert await answer_of(address, head) == b"HTTP/1.1 408 "
+            assert await answer_of(address, head, body[:-1]) == b"HTTP/1.1 408 "
+            assert (
+                await answer_of(address, head + body[:5], body[5:20], body[20:]) == b"HTTP/1.1 201 "
+            )
+            assert await answer_of(address, head + body) == b"HTTP/1.1 200 "
             at_work.cancel()
             await asyncio.wait([at_work])
 

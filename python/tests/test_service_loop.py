@@ -39,8 +39,8 @@ def service(tmp_path_factory: pytest.TempPathFactory) -> Iterator[Served]:
             for number in range(COUNT):
                 (task,) = take(client, f"large/s{number}")
                 path = f"/v1/tasks/{task['attempt_id']}/complete"
-                told = f'{{"lease": "{task["lease"]}", "result": {TEXT}}}'
-                assert client.post(path, content=told, headers=JSON).status_code == 200
+                body = f'{{"lease": "{task["lease"]}", "result": {TEXT}}}'
+                assert client.post(path, content=body, headers=JSON).status_code == 200
         yield one
 
 

@@ -80,8 +80,8 @@ class Browser:
         self.service, self.shots = service, shots
 
     def size(self, width: int, dark: bool = False) -> None:
-        told = {"width": width, "height": 900, "deviceScaleFactor": 1, "mobile": width < 500}
-        self.driver.execute_cdp_cmd("Emulation.setDeviceMetricsOverride", told)
+        metrics = {"width": width, "height": 900, "deviceScaleFactor": 1, "mobile": width < 500}
+        self.driver.execute_cdp_cmd("Emulation.setDeviceMetricsOverride", metrics)
         feature = {"name": "prefers-color-scheme", "value": "dark" if dark else "light"}
         self.driver.execute_cdp_cmd("Emulation.setEmulatedMedia", {"features": [feature]})
 
@@ -106,12 +106,12 @@ class Browser:
         one.clear()
         one.send_keys(text)
 
-    def wait(self, found: Any) -> None:
+    def wait(self, condition: Any) -> None:
         """Wait for a condition; the page may be renewed in the meantime."""
 
         def ask(_: Any) -> bool:
             try:
-                return bool(found())
+                return bool(condition())
             except Exception as error:
                 if "stale" in str(error).lower():
                     return False
@@ -347,8 +347,8 @@ def test_a_saga_is_started_by_hand(browser: Browser) -> None:
     browser.wait(lambda: browser.driver.current_url.endswith("/ui/sagas/by-hand-1"))
     browser.has("Approve")
     with browser.service.client() as client:
-        told = client.get("/v1/sagas/by-hand-1").json()
-        assert (told["definition"], told["input"]) == ("order", {"to": "Oslo"})
+        saga = client.get("/v1/sagas/by-hand-1").json()
+        assert (saga["definition"], saga["input"]) == ("order", {"to": "Oslo"})
     browser.go("/ui/start?definition=trip")
     browser.type("[name=key]", "by-hand-1")
     browser.click("button.primary")
@@ -370,8 +370,8 @@ def test_the_first_page_shows_what_is_new_by_itself(browser: Browser) -> None:
                     By.CSS_SELECTOR, f"[aria-label='Look at late-{number}']"
                 )
             )
-            asked = len(client.get("/v1/sagas?search=late-").json()["sagas"])
-            browser.wait(lambda: f"Approvals {asked}" in browser.text)  # those of the filter
+            count = len(client.get("/v1/sagas?search=late-").json()["sagas"])
+            browser.wait(lambda: f"Approvals {count}" in browser.text)  # those of the filter
             if number == 0:  # the selection stays when the page is renewed
                 browser.click("input[name=group]")
         assert browser.driver.find_element(By.CSS_SELECTOR, "input[name=group]").is_selected()
@@ -398,16 +398,16 @@ def test_the_page_says_when_it_is_not_live(tmp_path: pathlib.Path) -> None:
         one = Browser(service, tmp_path)
         try:
             one.go("/ui")
-            said = one.driver.find_element(By.ID, "lapsed")
-            assert not said.is_displayed()
+            notice = one.driver.find_element(By.ID, "lapsed")
+            assert not notice.is_displayed()
             service.kill()
-            one.wait(said.is_displayed)
-            assert "Not live" in said.text
+            one.wait(notice.is_displayed)
+            assert "Not live" in notice.text
             one.shot("not-live")
             service.start()
             with service.client() as client:
                 start(client, "trip", "meanwhile")
-            one.wait(lambda: not said.is_displayed())
+            one.wait(lambda: not notice.is_displayed())
             one.has("1 open")
         finally:
             one.driver.quit()
@@ -425,10 +425,10 @@ def test_the_page_says_when_its_stream_is_refused(tmp_path: pathlib.Path) -> Non
         one = Browser(service, tmp_path)
         try:
             one.go("/ui")
-            said = one.driver.find_element(By.ID, "lapsed")
-            one.wait(said.is_displayed)
+            notice = one.driver.find_element(By.ID, "lapsed")
+            one.wait(notice.is_displayed)
             there[0].close()
-            one.wait(lambda: not said.is_displayed())
+            one.wait(lambda: not notice.is_displayed())
         finally:
             one.driver.quit()
 
@@ -438,8 +438,8 @@ def test_those_that_ended_by_plan(browser: Browser) -> None:
     browser.go("/ui/sagas")
     browser.click(".tabs a", "Recovered")
     browser.has("failed-1")
-    found = {row.text for row in browser.driver.find_elements(By.CSS_SELECTOR, "tbody td .badge")}
-    assert found == {"Recovered", "Undo failed"}
+    badges = {row.text for row in browser.driver.find_elements(By.CSS_SELECTOR, "tbody td .badge")}
+    assert badges == {"Recovered", "Undo failed"}
     browser.click(".tabs a", "Undo failed")
     browser.wait(
         lambda: [

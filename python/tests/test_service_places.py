@@ -57,8 +57,8 @@ async def reply_of(back: asyncio.StreamReader) -> Reply:
     head = (await back.readuntil(b"\r\n\r\n")).decode().split("\r\n")
     headers = dict(line.lower().split(": ", 1) for line in head[1:] if line)
     body = await back.readexactly(int(headers.get("content-length", 0)))
-    told = json.loads(body) if "problem" in headers.get("content-type", "") else {}
-    return Reply(int(head[0].split()[1]), headers, told.get("type", "").rpartition(":")[2])
+    problem = json.loads(body) if "problem" in headers.get("content-type", "") else {}
+    return Reply(int(head[0].split()[1]), headers, problem.get("type", "").rpartition(":")[2])
 
 
 class Callers:
@@ -123,8 +123,8 @@ def test_waits_and_claims_of_a_token(
         async with callers(address) as evil, callers(address) as others:
             assert (await others.ask(started(tokens["other"]))).status == 201
             await evil.held(5, text(line, tokens["evil"], body))
-            found = await others.ask(text(line, tokens["evil"], body))
-            assert (found.status, found.problem, found.headers["retry-after"]) == (
+            reply = await others.ask(text(line, tokens["evil"], body))
+            assert (reply.status, reply.problem, reply.headers["retry-after"]) == (
                 503,
                 "TooManyWaits",
                 "1",
@@ -175,9 +175,9 @@ def test_connections_of_a_token(tmp_path: pathlib.Path, tokens: dict[str, str]) 
             assert (await others.ask(started(tokens["other"]))).status == 201
             await evil.held(6, text(WAIT, tokens["evil"]))
             list_sagas = text("GET /v1/sagas HTTP/1.1", tokens["evil"])
-            found = await others.ask(list_sagas)
-            assert (found.status, found.problem) == (503, "TooManyConnections")
-            assert found.headers["retry-after"] == "1"
+            reply = await others.ask(list_sagas)
+            assert (reply.status, reply.problem) == (503, "TooManyConnections")
+            assert reply.headers["retry-after"] == "1"
             assert (await others.ask(text("GET /v1/sagas HTTP/1.1", tokens["other"]))).status == 200
             await evil.end()
             while (await others.ask(list_sagas)).status != 200:
@@ -204,9 +204,9 @@ def test_connections_of_an_address(
             await others.end()
             await asyncio.sleep(0.2)
             await evil.held(6, wait)
-            found = await others.ask(once)
-            assert (found.status, found.problem) == (503, "TooManyConnections")
-            assert found.headers["retry-after"] == "1"
+            reply = await others.ask(once)
+            assert (reply.status, reply.problem) == (503, "TooManyConnections")
+            assert reply.headers["retry-after"] == "1"
             if not is_behind_proxy:
                 for request in (text(LIVE), text("GET /v1/attention HTTP/1.1", tokens["op"])):
                     assert (await others.ask(request)).status == 200
@@ -220,9 +220,9 @@ def test_connections_of_an_address(
                 await asyncio.sleep(0.05)
                 await others.end()
 
-    words: dict[str, Any] = {} if is_behind_proxy else {"trusted_proxies": ()}
+    options: dict[str, Any] = {} if is_behind_proxy else {"trusted_proxies": ()}
     places = PlaceSettings(connections_of_address=6)
-    inside(tmp_path, ask, tokens=tmp_path / "tokens.toml", places=places, **words)
+    inside(tmp_path, ask, tokens=tmp_path / "tokens.toml", places=places, **options)
 
 
 def test_places_for_health_and_operators(tmp_path: pathlib.Path, tokens: dict[str, str]) -> None:
@@ -237,9 +237,9 @@ def test_places_for_health_and_operators(tmp_path: pathlib.Path, tokens: dict[st
             some = [text(LIVE), op, text("GET /health/ready HTTP/1.1")]
             for _ in range(20):
                 assert [(await others.ask(one)).status for one in some] == [200] * 3
-                found = await others.ask(text("GET /v1/sagas HTTP/1.1", tokens["other"]))
-                assert (found.status, found.problem) == (503, "TooManyConnections")
-                assert found.headers["retry-after"] == "1"
+                reply = await others.ask(text("GET /v1/sagas HTTP/1.1", tokens["other"]))
+                assert (reply.status, reply.problem) == (503, "TooManyConnections")
+                assert reply.headers["retry-after"] == "1"
                 assert (await others.ask(text("GET /openapi.json HTTP/1.1"))).status == 503
 
     places = PlaceSettings(connections=40, waits=100, kept=10)
@@ -258,8 +258,8 @@ def test_who_reads_nothing_gives_way(tmp_path: pathlib.Path, tokens: dict[str, s
                 back = await evil.send(*[text("GET /openapi.json HTTP/1.1")] * 60)
                 back._transport.pause_reading()  # type: ignore[attr-defined]
             for _ in range(20):
-                found = await others.ask(text("GET /v1/sagas HTTP/1.1", tokens["other"]))
-                assert found.status == 200
+                reply = await others.ask(text("GET /v1/sagas HTTP/1.1", tokens["other"]))
+                assert reply.status == 200
                 assert (await others.ask(text(LIVE))).status == 200
 
     places = PlaceSettings(connections=40, kept=10)
@@ -295,8 +295,8 @@ def test_nothing_hides_behind_a_wait(
             for line, body in ((WAIT, ""), (CLAIM, FOREVER)):
                 back = await some.send(text(line, evil, body), text(LIVE))
                 async with asyncio.timeout(20):
-                    found = [await reply_of(back), await reply_of(back)]
-                assert [one.status for one in found] == [200, 200], line
+                    replies = [await reply_of(back), await reply_of(back)]
+                assert [one.status for one in replies] == [200, 200], line
             back = await some.send(text("GET /v1/events HTTP/1.1", evil))
             await back.readuntil(b"\r\n\r\n")
             some.open[-1][1].write(text(LIVE))
@@ -417,14 +417,14 @@ def test_requests_are_divided(requests: list[bytes], data: st.DataObject) -> Non
     """However they arrive, each is parsed by itself, byte for byte."""
     stream, framing = b"".join(requests), RequestFraming()
     cuts = data.draw(st.lists(st.integers(0, len(stream)), max_size=6))
-    edges, found = [0, *sorted(cuts), len(stream)], [b""]
+    edges, parts = [0, *sorted(cuts), len(stream)], [b""]
     for begin, end in zip(edges, edges[1:]):
         framing.feed(stream[begin:end])
         while part := framing.take():
-            found[-1] += part
+            parts[-1] += part
             if framing.is_between:
-                found.append(b"")
-    assert found == [*requests, b""] and framing.is_between and not len(framing)
+                parts.append(b"")
+    assert parts == [*requests, b""] and framing.is_between and not len(framing)
 
 
 @pytest.mark.parametrize("request_text", BAD, ids=range(len(BAD)))
@@ -450,13 +450,13 @@ def test_what_is_no_request_is_refused(tmp_path: pathlib.Path) -> None:
             for before in (b"", text(LIVE)):
                 with socket.create_connection((name, int(port)), timeout=LONG) as one:
                     one.sendall(before + request_text + b"\r\n" * 1000)
-                    found = b""
+                    received = b""
                     while part := one.recv(65536):
-                        found += part
-                statuses = re.findall(rb"HTTP/1\.1 (\d+) ", found)
-                assert statuses == ([b"200"] if before else []) + [b"400"], (request_text, found)
-                assert b"urn:sagas:problem:MalformedRequest" in found
-    assert '"level": "error"' not in service.told()
+                        received += part
+                statuses = re.findall(rb"HTTP/1\.1 (\d+) ", received)
+                assert statuses == ([b"200"] if before else []) + [b"400"], (request_text, received)
+                assert b"urn:sagas:problem:MalformedRequest" in received
+    assert '"level": "error"' not in service.log_text()
 
 
 STUCK = """
@@ -489,9 +489,9 @@ class Quick(Served):
     """A service whose stop has little time."""
 
     def command(self) -> list[str]:
-        _, module, sagas, *words = super().command()
+        _, module, sagas, *arguments = super().command()
         assert (module, sagas) == ("-m", "sagas")
-        return [sys.executable, "-c", QUICK, *words]
+        return [sys.executable, "-c", QUICK, *arguments]
 
 
 def until_there(path: pathlib.Path) -> None:
@@ -512,6 +512,6 @@ def test_a_stop_that_hangs_ends_the_process(tmp_path: pathlib.Path) -> None:
             start(client, "stuck", "k")
         until_there(tmp_path / "called")
         assert service.stop() == command.OVERDUE
-        assert "the stop has taken too long" in service.told()
+        assert "the stop has taken too long" in service.log_text()
     finally:
         service.kill()

@@ -28,9 +28,9 @@ def service(
     tmp_path_factory: pytest.TempPathFactory, store: str | None
 ) -> Iterator[tuple[Served, dict[str, str]]]:
     folder = tmp_path_factory.mktemp("quotas")
-    tokens = {name: token(folder, name, *words) for name, words in TOKENS.items()}
-    words = ("--token-file", str(folder / "tokens.toml"), *OPTIONS)
-    served = Served(folder, DEFINITIONS, *words, store=store)
+    tokens = {name: token(folder, name, *options) for name, options in TOKENS.items()}
+    options = ("--token-file", str(folder / "tokens.toml"), *OPTIONS)
+    served = Served(folder, DEFINITIONS, *options, store=store)
     served.start()
     yield served, tokens
     served.kill()

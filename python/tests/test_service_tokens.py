@@ -85,26 +85,29 @@ class World:
 @pytest.fixture(scope="module")
 def world(tmp_path_factory: pytest.TempPathFactory, store: str | None) -> Iterator[World]:
     folder = tmp_path_factory.mktemp("tokens")
-    tokens = {name: token(folder, name, *words) for name, words in TOKENS.items()}
+    tokens = {name: token(folder, name, *roles) for name, roles in TOKENS.items()}
     with served(
         folder, DEFINITIONS, "--token-file", str(folder / "tokens.toml"), store=store
     ) as service:
-        found = World(service, tokens)
+        services = World(service, tokens)
         for definition in ("trip", "order"):
             assert (
                 start(
-                    found["caller"], definition, f"a-{definition}", {"secret": f"of {definition}"}
+                    services["caller"],
+                    definition,
+                    f"a-{definition}",
+                    {"secret": f"of {definition}"},
                 ).status_code
                 == 201
             )
-        found.waits("a-order", "approval")
-        stuck(found["operator"], "a-licence")
-        yield found
-        for client in found.clients.values():
+        services.waits("a-order", "approval")
+        stuck(services["operator"], "a-licence")
+        yield services
+        for client in services.clients.values():
             client.close()
 
 
-def told(answer: httpx.Response) -> tuple[int, str, str]:
+def status_name_and_detail(answer: httpx.Response) -> tuple[int, str, str]:
     body = answer.json()
     return answer.status_code, error_of(answer), body["detail"]
 
@@ -116,16 +119,20 @@ def test_a_caller_starts_its_definitions(world: World) -> None:
     client = world["of-trip"]
     assert start(client, "trip", "t-1").status_code == 201
     for name in ("order", "nothing"):
-        assert told(start(client, name, "o-1")) == (
+        assert status_name_and_detail(start(client, name, "o-1")) == (
             403,
             "Forbidden",
             f"of-trip has no right to the definition '{name}'",
         )
     assert (
-        told(client.post("/v1/sagas", json={"definition": "trip", "key": "x", "version": 7}))[2]
+        status_name_and_detail(
+            client.post("/v1/sagas", json={"definition": "trip", "key": "x", "version": 7})
+        )[2]
         == "there is no definition 'trip' of version 7, but few, trip"
     )
-    status, name, text = told(start(client, "trip", "a-order", {"secret": "of order"}))
+    status, name, text = status_name_and_detail(
+        start(client, "trip", "a-order", {"secret": "of order"})
+    )
     assert (status, name, text) == (
         409,
         "KeyConflict",
@@ -145,11 +152,11 @@ def test_a_caller_sees_its_definitions(world: World) -> None:
     """This holds in the list, whatever its filter."""
     client = world["of-trip"]
     for query in ("", "?search=a-", "?phase=open", "?phase=stuck", "?limit=1000"):
-        found = client.get(f"/v1/sagas{query}").json()["sagas"]
-        assert {one["definition"] for one in found} <= {"trip", "few"}, query
+        listed = client.get(f"/v1/sagas{query}").json()["sagas"]
+        assert {one["definition"] for one in listed} <= {"trip", "few"}, query
     assert [one["key"] for one in client.get("/v1/sagas?search=a-").json()["sagas"]] == ["a-trip"]
     assert client.get("/v1/sagas?definition=trip&search=a-").json()["sagas"][0]["key"] == "a-trip"
-    assert told(client.get("/v1/sagas?definition=order")) == (
+    assert status_name_and_detail(client.get("/v1/sagas?definition=order")) == (
         403,
         "Forbidden",
         "of-trip has no right to the definition 'order'",
@@ -195,7 +202,7 @@ def test_another_definition_s_saga_is_none(world: World) -> None:
             assert (answer.status_code, error_of(answer)) == (404, "NoSuchSaga")
     assert world["operator"].get("/v1/sagas/a-order").json() == before
     assert world["operator"].get("/v1/sagas/a-trip").json()["aborted"] is False
-    assert told(world["of-order"].get("/metrics"))[:2] == (403, "Forbidden")
+    assert status_name_and_detail(world["of-order"].get("/metrics"))[:2] == (403, "Forbidden")
 
 
 def test_an_approver_of_a_definition(world: World) -> None:
@@ -222,7 +229,7 @@ def test_a_token_of_some_keys(world: World) -> None:
     client, other = world["team-a"], world["caller"]
     assert start(client, "order", "team-a-1").status_code == 201
     for key in ("team-b-1", "team-a", "b", "shared-2"):
-        assert told(start(client, "order", key)) == (
+        assert status_name_and_detail(start(client, "order", key)) == (
             403,
             "Forbidden",
             f"team-a has no right to the key {key!r}",
@@ -262,7 +269,7 @@ def test_a_token_of_some_keys(world: World) -> None:
         assert '"team-a-1"' in seen
 
 
-def listened(world: World, path: str, ready: threading.Barrier, found: list[str]) -> None:
+def listened(world: World, path: str, ready: threading.Barrier, events: list[str]) -> None:
     """Return the events of a stream, until it has that of the abort of its own saga."""
     client = world.service.client(world.tokens["of-trip"])
     with client, client.stream("GET", path) as stream:
@@ -271,7 +278,7 @@ def listened(world: World, path: str, ready: threading.Barrier, found: list[str]
         ready.wait(LONG)
         for line in lines:
             if line.startswith("data:"):
-                found.append(line[5:])
+                events.append(line[5:])
                 if '"saga_aborted"' in line:
                     return
 
@@ -281,10 +288,10 @@ def test_a_stream_has_its_definitions(world: World) -> None:
     that see all.
     """
     paths = ["/v1/events", "/v1/events?definition=trip"]
-    found: dict[str, list[str]] = {path: [] for path in paths}
+    events: dict[str, list[str]] = {path: [] for path in paths}
     ready = threading.Barrier(len(paths) + 1)
     threads = [
-        threading.Thread(target=listened, args=(world, path, ready, found[path])) for path in paths
+        threading.Thread(target=listened, args=(world, path, ready, events[path])) for path in paths
     ]
     for thread in threads:
         thread.start()
@@ -295,12 +302,15 @@ def test_a_stream_has_its_definitions(world: World) -> None:
     for thread in threads:
         thread.join(LONG)
     for path in paths:
-        assert found[path] and all('"saga": "trip"' in text for text in found[path]), found
+        assert events[path] and all('"saga": "trip"' in text for text in events[path]), events
 
 
 def test_a_stream_of_another_s_saga_has_nothing(world: World) -> None:
     """By its definition it is refused; by its key it is one of an unknown key, also after an id."""
-    assert told(world["of-trip"].get("/v1/events?definition=order"))[:2] == (403, "Forbidden")
+    assert status_name_and_detail(world["of-trip"].get("/v1/events?definition=order"))[:2] == (
+        403,
+        "Forbidden",
+    )
     start(world["caller"], "order", "behind-an-id")
     headers = {"Last-Event-ID": last_id(world)}
     with world["of-trip"].stream("GET", "/v1/events?key=behind-an-id", headers=headers) as stream:
@@ -336,7 +346,11 @@ def test_a_worker_takes_its_steps(world: World) -> None:
         ("both", ["order/review"], "order/review"),
     ):
         answer = world[name].post("/v1/tasks/claim", json={"steps": steps, "wait": 0})
-        assert told(answer) == (403, "Forbidden", f"{name} has no right to the steps {beyond}")
+        assert status_name_and_detail(answer) == (
+            403,
+            "Forbidden",
+            f"{name} has no right to the steps {beyond}",
+        )
     assert (
         world["flies"].post("/v1/tasks/claim", json={"steps": ["flight"], "wait": 0}).status_code
         == 422
@@ -355,31 +369,31 @@ def test_a_worker_takes_its_steps(world: World) -> None:
 
 def test_a_worker_ends_its_own_claims(world: World) -> None:
     """Its token and its name end them, and no other token does. They are answered at once."""
-    found: list[Any] = []
-    claims = threading.Thread(target=lambda: found.extend(take(world["sends"], "order/pay/undo")))
+    claimed: list[Any] = []
+    claims = threading.Thread(target=lambda: claimed.extend(take(world["sends"], "order/pay/undo")))
     claims.start()
     path, ends = "/v1/tasks/claim/end", {"worker": "w"}
     for name in ("caller", "approves-trip"):
         assert world[name].post(path, json=ends).status_code == 403
-    for name, words in (
+    for name, body in (
         ("worker", ends),
         ("operator", ends),
         ("sends", {"worker": "x"}),
         ("sends", {}),
     ):
-        assert world[name].post(path, json=words).json() == {"ended": 0}
+        assert world[name].post(path, json=body).json() == {"ended": 0}
     until_ended = time.monotonic() + LONG  # until the claim has arrived there
     other = world.service.client(world.tokens["sends"])
     while other.post(path, json=ends).json() == {"ended": 0}:
         assert claims.is_alive() and time.monotonic() < until_ended
     claims.join(20)  # it would wait for 30 seconds
-    assert not claims.is_alive() and found == []
+    assert not claims.is_alive() and claimed == []
 
 
 def csrf_of(client: httpx.Client, path: str) -> str:
-    found = re.search(r'name="csrf" value="([^"]+)"', client.get(path).text)
-    assert found
-    return found[1]
+    match = re.search(r'name="csrf" value="([^"]+)"', client.get(path).text)
+    assert match
+    return match[1]
 
 
 OTHERS = ("a-trip", "a-licence", "trip/", ">trip<", ">licence<")
@@ -415,8 +429,11 @@ def test_the_dashboard_has_its_definitions(world: World) -> None:
     assert page.get("/ui/definitions/licence").status_code == 404
     assert "a-trip" in all_of_it.get("/ui/sagas?search=a-").text
     assert "trip/none" in all_of_it.get("/ui/workers").text
-    told = r"Stuck 0\s*Undo failed 0\s*Unknown 0\s*Exhausted 0\s*Approvals [1-9]"
-    for client, counts in ((page, told), (all_of_it, "Stuck 1")):  # which are counted once a second
+    status_name_and_detail = r"Stuck 0\s*Undo failed 0\s*Unknown 0\s*Exhausted 0\s*Approvals [1-9]"
+    for client, counts in (
+        (page, status_name_and_detail),
+        (all_of_it, "Stuck 1"),
+    ):  # which are counted once a second
         run(until(lambda: re.search(counts, re.sub("<[^>]+>", "", client.get("/ui").text)), 10))
 
 
@@ -477,7 +494,7 @@ def test_a_token_that_expires(tmp_path: pathlib.Path) -> None:
     later = token(tmp_path, "later", "operator", "--expires", "2999-01-01T00:00:00+02:00")
     with served(tmp_path, DEFINITIONS, "--token-file", str(tmp_path / "tokens.toml")) as service:
         with service.client(old) as client, service.client() as page, service.client(later) as good:
-            assert told(client.get("/v1/sagas")) == (
+            assert status_name_and_detail(client.get("/v1/sagas")) == (
                 401,
                 "Unauthorized",
                 (
@@ -511,18 +528,18 @@ def test_a_stream_ends_with_its_token(tmp_path: pathlib.Path) -> None:
     """It is removed from the file, or restricted further: soon the stream has no more events, and
     its session's stream has none once that is logged out.
     """
-    words = {name: token(tmp_path, name, "operator") for name in ("gone", "less", "stays")}
+    tokens = {name: token(tmp_path, name, "operator") for name in ("gone", "less", "stays")}
     file = tmp_path / "tokens.toml"
     with served(
         tmp_path, DEFINITIONS, "--token-file", str(file)
     ) as service, contextlib.ExitStack() as stack:
         streams = {}
-        for name, text in words.items():
+        for name, text in tokens.items():
             streams[name] = stack.enter_context(
                 stack.enter_context(service.client(text)).stream("GET", "/v1/events")
             )
         page = stack.enter_context(service.client())
-        page.post("/ui/login", data={"token": words["stays"]})
+        page.post("/ui/login", data={"token": tokens["stays"]})
         shown = stack.enter_context(page.stream("GET", "/ui/events"))
         blocks = file.read_text().split("[[token]]\n")
         less = blocks[2].replace(
@@ -541,7 +558,7 @@ def test_a_stream_ends_with_its_token(tmp_path: pathlib.Path) -> None:
         for _ in shown.iter_lines():
             pass
         lines = streams["stays"].iter_lines()
-        start(stack.enter_context(service.client(words["stays"])), "trip", "told")
+        start(stack.enter_context(service.client(tokens["stays"])), "trip", "told")
         assert any('"told"' in line for line in lines)
 
 
@@ -552,8 +569,8 @@ def test_a_file_that_was_unreadable_once(
     reports it once.
     """
     gone, stays = (token(tmp_path, name, "operator") for name in ("gone", "stays"))
-    file, said = tmp_path / "tokens.toml", list[str]()
-    tokens = auth.Tokens(file, said.append)
+    file, warnings = tmp_path / "tokens.toml", list[str]()
+    tokens = auth.Tokens(file, warnings.append)
     monkeypatch.setattr(auth, "LOOK", -1.0)  # each request is a look
     file.write_text("[[token]]" + file.read_text().rpartition("[[token]]")[2])
     soft, hard = resource.getrlimit(resource.RLIMIT_NOFILE)
@@ -563,7 +580,7 @@ def test_a_file_that_was_unreadable_once(
     finally:
         resource.setrlimit(resource.RLIMIT_NOFILE, (soft, hard))
     assert tokens.find(gone) is None and tokens.find(stays)
-    (line,) = said
+    (line,) = warnings
     assert "Too many open files" in line and line.endswith(
         "; the previous tokens stay valid until it is fixed"
     )
@@ -573,25 +590,25 @@ def test_what_waits_ends_with_its_token(tmp_path: pathlib.Path) -> None:
     """A long request is refused once its token is removed, or evaluated again once it is
     restricted; a later task goes to another worker.
     """
-    words = {name: token(tmp_path, name, "operator") for name in ("gone", "less", "stays")}
-    file, found = tmp_path / "tokens.toml", dict[str, tuple[int, str]]()
+    tokens = {name: token(tmp_path, name, "operator") for name in ("gone", "less", "stays")}
+    file, statuses = tmp_path / "tokens.toml", dict[str, tuple[int, str]]()
     with served(tmp_path, DEFINITIONS, "--token-file", str(file)) as service:
-        with service.client(words["stays"]) as client:
+        with service.client(tokens["stays"]) as client:
             start(client, "trip", "waits")
 
             def ask(name: str, path: str, body: Any) -> None:
-                with service.client(words[name]) as other:
+                with service.client(tokens[name]) as other:
                     answer = other.request("POST" if body else "GET", path, json=body)
-                    found[f"{name} {path}"] = answer.status_code, error_of(answer)
+                    statuses[f"{name} {path}"] = answer.status_code, error_of(answer)
 
             wanted = {"steps": ["order/send", "licence/server"], "wait": 30}
-            asked = [("/v1/tasks/claim", wanted), ("/v1/sagas/waits/wait?seconds=60", None)]
-            some = [(name, *one) for name in ("gone", "less") for one in asked]
+            requests = [("/v1/tasks/claim", wanted), ("/v1/sagas/waits/wait?seconds=60", None)]
+            some = [(name, *one) for name in ("gone", "less") for one in requests]
             threads = [threading.Thread(target=ask, args=one) for one in some]
             for thread in threads:
                 thread.start()
             page = service.client()
-            page.post("/ui/login", data={"token": words["stays"]})
+            page.post("/ui/login", data={"token": tokens["stays"]})
             while not all(f"{name}</" in page.get("/ui/workers").text for name in ("gone", "less")):
                 time.sleep(0.1)
             page.close()
@@ -601,9 +618,12 @@ def test_what_waits_ends_with_its_token(tmp_path: pathlib.Path) -> None:
             for thread in threads:
                 thread.join(LONG)
             assert time.monotonic() - began < 25
-            assert set(found.values()) == {(401, "Unauthorized"), (503, "RightsChanged")}, found
-            assert {key: value for key, value in found.items() if key.startswith("gone")} == {
-                f"gone {path}": (401, "Unauthorized") for path, _ in asked
+            assert set(statuses.values()) == {
+                (401, "Unauthorized"),
+                (503, "RightsChanged"),
+            }, statuses
+            assert {key: value for key, value in statuses.items() if key.startswith("gone")} == {
+                f"gone {path}": (401, "Unauthorized") for path, _ in requests
             }
             start(client, "licence", "comes")
             assert [task["key"] for task in take(client, "licence/server")] == ["comes"]
@@ -719,14 +739,16 @@ def test_other_faults_of_the_file(tmp_path: pathlib.Path) -> None:
 def test_the_command(tmp_path: pathlib.Path) -> None:
     """It writes its arguments, as they are read again; and reports what it cannot write."""
     file = tmp_path / "tokens.toml"
-    words = [sys.executable, "-m", "sagas", "token", str(file), "w", "worker"]
-    words += ["--step", "trip/car", "--step", "trip/car/undo", "--definition", "trip"]
-    words += ["--expires", "2030-05-06T07:08:09Z"]
-    done = subprocess.run(words, env=environment(), capture_output=True, text=True, check=True)
+    command_line = [sys.executable, "-m", "sagas", "token", str(file), "w", "worker"]
+    command_line += ["--step", "trip/car", "--step", "trip/car/undo", "--definition", "trip"]
+    command_line += ["--expires", "2030-05-06T07:08:09Z"]
+    done = subprocess.run(
+        command_line, env=environment(), capture_output=True, text=True, check=True
+    )
     assert done.stderr == ""
-    (found,) = auth.read(file).values()
-    assert found.limits.steps == {"trip/car", "trip/car/undo"} and found.definitions == {"trip"}
-    assert found.limits.expires == datetime.datetime(
+    (entry,) = auth.read(file).values()
+    assert entry.limits.steps == {"trip/car", "trip/car/undo"} and entry.definitions == {"trip"}
+    assert entry.limits.expires == datetime.datetime(
         2030, 5, 6, 7, 8, 9, tzinfo=datetime.timezone.utc
     )
     for more, says in (

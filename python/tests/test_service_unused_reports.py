@@ -59,8 +59,8 @@ def unused(client: httpx.Client, definition: str, key: str) -> None:
 def refunded(client: httpx.Client, definition: str, key: str) -> None:
     """Check that a worker gets the compensation, with the result."""
     (task,) = take(client, f"{definition}/pay/undo")
-    told = [task[word] for word in ("definition", "key", "step", "undo", "result", "input")]
-    assert told == [definition, key, "pay", True, {"euros": 40}, {"n": 1}]
+    fields = [task[word] for word in ("definition", "key", "step", "undo", "result", "input")]
+    assert fields == [definition, key, "pay", True, {"euros": 40}, {"n": 1}]
     assert task["original_idempotency_key"].endswith("-pay-run")
     assert report(client, task, result=None).status_code == 200
     assert client.get(f"/v1/sagas/{key}%2F:pay:undo/wait").json()["phase"] == "completed"
@@ -68,8 +68,8 @@ def refunded(client: httpx.Client, definition: str, key: str) -> None:
 
 def entries(client: httpx.Client) -> list[dict[str, Any]]:
     """Return the entries that need attention for this reason."""
-    found: list[dict[str, Any]] = client.get("/v1/attention?kind=unused_report").json()["entries"]
-    return found
+    listed: list[dict[str, Any]] = client.get("/v1/attention?kind=unused_report").json()["entries"]
+    return listed
 
 
 def test_it_is_listed_and_compensated(client: httpx.Client) -> None:
@@ -121,9 +121,9 @@ def test_on_the_dashboard(client: httpx.Client) -> None:
     page = client.get("/ui/sagas/d").text
     assert "A report was not used" in page and "/ui/sagas/d/steps/pay/compensate" in page
     form = client.get("/ui/sagas/d/steps/pay/compensate").text
-    found = re.search(r'name="csrf" value="([^"]+)"', form)
-    assert found and "Compensate pay?" in form
-    sent = {"csrf": found[1], "note": "so"}
+    match = re.search(r'name="csrf" value="([^"]+)"', form)
+    assert match and "Compensate pay?" in form
+    sent = {"csrf": match[1], "note": "so"}
     assert client.post("/ui/sagas/d/steps/pay/compensate", data=sent).status_code == 303
     again = client.post("/ui/sagas/e/steps/reserve/compensate", data=sent)
     assert again.status_code == 409 and "no unused report" in again.text

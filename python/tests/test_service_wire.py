@@ -125,9 +125,9 @@ def test_a_path_makes_no_line_of_the_log(service: Served) -> None:
         ):
             assert client.get(path).status_code == 404
     deadline = time.monotonic() + LONG
-    while service.told().count(forged) < 4:
+    while service.log_text().count(forged) < 4:
         assert time.monotonic() < deadline
-    lines = [line for line in service.told().splitlines() if "the store is lost" in line]
+    lines = [line for line in service.log_text().splitlines() if "the store is lost" in line]
     assert len(lines) == 4 and not any(line.startswith(forged) for line in lines), lines
     assert (
         "GET /x\\n2026" in lines[0]
@@ -183,12 +183,12 @@ CHAINS = [
 ]
 
 
-@pytest.mark.parametrize("peer, told, client", CHAINS)
-def test_whose_request_it_is(peer: str, told: list[str], client: str) -> None:
+@pytest.mark.parametrize("peer, forwarded_for, client", CHAINS)
+def test_whose_request_it_is(peer: str, forwarded_for: list[str], client: str) -> None:
     """The last address that is not a trusted proxy's; the header of any other address is
     ignored.
     """
-    headers = [(b"x-forwarded-for", one.encode()) for one in told] + [
+    headers = [(b"x-forwarded-for", one.encode()) for one in forwarded_for] + [
         (b"x-forwarded-proto", b"https")
     ]
     scope: dict[str, Any] = {"client": (peer, 5), "headers": headers, "scheme": "http"}
@@ -201,7 +201,7 @@ def test_trusted_proxies(tmp_path: pathlib.Path) -> None:
     """By default the loopback; with the option the given ones, or none."""
     operator = token(tmp_path, "o", "operator")
     headers = {"X-Forwarded-For": "192.0.2.7", "X-Forwarded-Proto": "https"}
-    for name, words, believed in (
+    for name, options, believed in (
         ("a", (), True),
         ("b", ("--trusted-proxies", "10.0.0.0/8"), False),
         ("c", ("--trusted-proxies", "127.0.0.0/8,::1"), True),
@@ -209,17 +209,17 @@ def test_trusted_proxies(tmp_path: pathlib.Path) -> None:
     ):
         (tmp_path / name).mkdir()
         with served(
-            tmp_path / name, DEFINITIONS, "--token-file", str(tmp_path / "tokens.toml"), *words
+            tmp_path / name, DEFINITIONS, "--token-file", str(tmp_path / "tokens.toml"), *options
         ) as service, service.client() as client:
             cookie = client.post("/ui/login", data={"token": operator}, headers=headers).headers[
                 "set-cookie"
             ]
             assert ("Secure" in cookie) is believed
             deadline = time.monotonic() + LONG
-            while '"/ui/login"' not in service.told():
+            while '"/ui/login"' not in service.log_text():
                 assert time.monotonic() < deadline
             (line,) = [
-                json.loads(one) for one in service.told().splitlines() if '"/ui/login"' in one
+                json.loads(one) for one in service.log_text().splitlines() if '"/ui/login"' in one
             ]
             assert line["from"] == ("192.0.2.7" if believed else "127.0.0.1")
     one = Served(tmp_path, DEFINITIONS, "--trusted-proxies", "here")

@@ -126,7 +126,7 @@ def test_a_worker(tmp_path: pathlib.Path, caplog: pytest.LogCaptureFixture) -> N
         def slow(task: sagas.Task[int]) -> None:
             calls.append((task.step, task.is_compensation, task.idempotency_key))
             deadline = time.monotonic() + LONG
-            while service.told().count("/heartbeat 200") < 3 and time.monotonic() < deadline:
+            while service.log_text().count("/heartbeat 200") < 3 and time.monotonic() < deadline:
                 time.sleep(0.1)
 
         @worker.step("steps", "odd")
@@ -161,7 +161,7 @@ def test_a_worker(tmp_path: pathlib.Path, caplog: pytest.LogCaptureFixture) -> N
     first = next(event for event in log if event["event"] == "missed" and event["step"] == "last")
     assert first["value"] == {"error": "sagas.Fail: never", "final": True}
     assert [step for step, undone, _ in calls][:6] == ["flaky"] * 3 + ["hazy"] * 2 + ["slow"]
-    assert len({effect for _, _, effect in calls}) == 3 and "/heartbeat 200" in service.told()
+    assert len({effect for _, _, effect in calls}) == 3 and "/heartbeat 200" in service.log_text()
     assert caplog.text.count("no definition of the service has step steps/tree") == 1
 
 
@@ -175,9 +175,9 @@ def test_a_worker_that_is_interrupted(tmp_path: pathlib.Path) -> None:
     (tmp_path / "worker.py").write_text(INTERRUPTED)
     with served(tmp_path) as service, service.client() as client:
         start(client, "trip", "x")
-        words = [sys.executable, str(tmp_path / "worker.py"), service.url]
+        command = [sys.executable, str(tmp_path / "worker.py"), service.url]
         with subprocess.Popen(
-            words,
+            command,
             env=environment(),
             stdin=subprocess.PIPE,
             stdout=subprocess.PIPE,
@@ -381,12 +381,12 @@ class Asking(sagas.Worker):
         self.given: list[int] = []
         right = self._service.until_told
 
-        def until_told(*words: Any, **more: Any) -> dict[str, Any] | None:
-            told = right(*words, **more)
-            claimed = (told.get("next") or told) if told else {}
+        def until_told(*arguments: Any, **more: Any) -> dict[str, Any] | None:
+            reply = right(*arguments, **more)
+            claimed = (reply.get("next") or reply) if reply else {}
             if claimed.get("tasks"):
                 self.given.append(len(claimed["tasks"]))
-            return told
+            return reply
 
         self._service.until_told = until_told  # type: ignore[method-assign]
 
@@ -473,12 +473,12 @@ def test_reports_together(ones: tuple[Served, httpx.Client]) -> None:
     ):
         assert wrong.status_code == 422
     assert sent(reports[0], {**reports[2], "error": None}).json()["field"] == "reports.1.error"
-    told = sent(*reports, next={"steps": ["one/a"]}).json()
-    assert [one["attempt_id"] for one in told["reports"]] == [one["attempt_id"] for one in reports]
-    assert [one["kept"] for one in told["reports"]] == [True] * 4 + [False] * 2 and told["next"][
+    reply = sent(*reports, next={"steps": ["one/a"]}).json()
+    assert [one["attempt_id"] for one in reply["reports"]] == [one["attempt_id"] for one in reports]
+    assert [one["kept"] for one in reply["reports"]] == [True] * 4 + [False] * 2 and reply["next"][
         "unknown_steps"
     ] == []
-    assert [one["problem"]["type"].rpartition(":")[2] for one in told["reports"][4:]] == [
+    assert [one["problem"]["type"].rpartition(":")[2] for one in reply["reports"][4:]] == [
         "InvalidLease"
     ] * 2
     again = sent(*reports[:3], {**reports[2], "outcome": "complete"}).json()
@@ -525,7 +525,7 @@ def test_what_a_worker_took_ahead(ones: tuple[Served, httpx.Client]) -> None:
     ]
     assert len(reclaimed) == 1
     for stopped in (False, True):
-        calls, before = Calls(), service.told().count("/heartbeat 200")
+        calls, before = Calls(), service.log_text().count("/heartbeat 200")
         slow, other = Asking(service.url, concurrency=1, lease=600.0), Asking(service.url)
         slow.step("one", "a")(calls.of("slow", holds=slow))
         other.step("one", "a")(calls.of("other"))
@@ -542,7 +542,7 @@ def test_what_a_worker_took_ahead(ones: tuple[Served, httpx.Client]) -> None:
             finally:
                 calls.hold.set()
         assert calls.count("slow") == count and len(set(calls.all)) == 20
-        assert service.told().count("/heartbeat 200") - before >= sum(slow.given) - count
+        assert service.log_text().count("/heartbeat 200") - before >= sum(slow.given) - count
         assert not left_open(client) and reclaimed[0] in client.get("/metrics").text.splitlines()
 
 
@@ -575,9 +575,9 @@ class Workers:
                 start_new_session=True,
             )
 
-    def kill(self, place: int) -> None:
-        self._end(self.there[place])
-        self.there[place] = self._start(self.commands[place])
+    def kill(self, index: int) -> None:
+        self._end(self.there[index])
+        self.there[index] = self._start(self.commands[index])
 
     def _end(self, process: subprocess.Popen[bytes]) -> None:
         with contextlib.suppress(ProcessLookupError):
@@ -642,27 +642,27 @@ def test_the_worker_in_node_does_not_know(
     with served(tmp_path, files) as service, service.client() as client, hotel(answer) as address:
         start(client, "trip", "t")
         all_done(client, "trip/flight")
-        words = [node, str(EXAMPLES / "worker.mjs"), service.url]
-        with subprocess.Popen(words, env=environment() | {"HOTEL": address}) as worker:
+        command = [node, str(EXAMPLES / "worker.mjs"), service.url]
+        with subprocess.Popen(command, env=environment() | {"HOTEL": address}) as worker:
             try:
-                deadline, found = time.monotonic() + LONG, []
-                while not found:
+                deadline, entries = time.monotonic() + LONG, []
+                while not entries:
                     assert time.monotonic() < deadline
                     log = client.get("/v1/sagas/t/log").json()["events"]
                     waits = client.get("/v1/sagas/t").json()["waits"]
-                    found = [
+                    entries = [
                         one["said"]
                         for one in waits
                         if (one["step"], one["why"]) == ("hotel", "unknown") and one["said"]
                     ]
-                    found += [
+                    entries += [
                         one["value"]["error"]
                         for one in log
                         if (one["event"], one["step"]) == ("missed", "hotel")
                     ]
             finally:
                 worker.kill()
-    assert (says or "the hotel answers 409") in found[0]
+    assert (says or "the hotel answers 409") in entries[0]
     missed = [one for one in log if one["event"] in ("missed", "fail") and one["step"] == "hotel"]
     assert bool(missed) is (says is None)
 
@@ -680,8 +680,8 @@ def test_the_examples_go_on(tmp_path: pathlib.Path) -> None:
             service.start()
             for key in keys[3:]:
                 start(client, "trip", key, {"to": "Rome"})
-            for place in range(3):
-                workers.kill(place)
+            for index in range(3):
+                workers.kill(index)
             waiting = set(keys)
             deadline = time.monotonic() + 2 * LONG
             while waiting and time.monotonic() < deadline:

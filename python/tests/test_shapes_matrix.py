@@ -66,17 +66,17 @@ def items(count: int, twice: bool = False, **more: Any) -> Case:
 
 def keyed(**more: Any) -> Case:
     """Return keys that are not names."""
-    found = {key: number for number, key in enumerate(KEYS)}
-    result = {key: [key, number] for key, number in found.items()}
-    return Case(many, {"items": found, **more}, len(KEYS) + 1, last, result)
+    numbered = {key: number for number, key in enumerate(KEYS)}
+    result = {key: [key, number] for key, number in numbered.items()}
+    return Case(many, {"items": numbered, **more}, len(KEYS) + 1, last, result)
 
 
 def travel(rooms: int, cars: list[str], breakfast: bool) -> Case:
     """Return inclusions two deep, and one for each item."""
     names = [f"r{number}" for number in range(rooms)]
     given = Trip(Package(Hotel("Rome", names, breakfast), cars))
-    told = [f"booked in Rome: {name}" for name in names]
-    result = ["LH1", ["booked in Rome", told, "by LH1"], told, cars]
+    booked = [f"booked in Rome: {name}" for name in names]
+    result = ["LH1", ["booked in Rome", booked, "by LH1"], booked, cars]
     steps = 4 + rooms + len(cars) + breakfast
     return Case(trip, given, steps, shaped.tour, result)
 
@@ -127,13 +127,13 @@ def least_of_all(plan: Plan) -> int:
     """Return the least cost of all plans, each of which is tried."""
     needs = {one["name"]: one.get("needs", []) for one in shape_text.steps(plan.definition)}
     costs = {one.step: (one.cost_to_keep, one.cost_to_drop) for one in plan.choices}
-    found = []
+    sums = []
     for word in itertools.product((True, False), repeat=len(costs)):
         kept = {step for step, is_kept in zip(costs, word) if is_kept}
         some = [costs[step][0 if step in kept else 1] for step in costs]
         if None not in some and is_closed(kept, needs):
-            found.append(sum(cost for cost in some if cost is not None))
-    return min(found)
+            sums.append(sum(cost for cost in some if cost is not None))
+    return min(sums)
 
 
 async def judged(store: Any, key: str, case: Case) -> None:
@@ -152,43 +152,43 @@ async def judged(store: Any, key: str, case: Case) -> None:
 
 
 @contextlib.asynccontextmanager
-async def restarted(place: str) -> Any:
+async def restarted(location: str) -> Any:
     """Return a store that is closed halfway, and opened again."""
 
     async def begin() -> None:
-        async with sagas.open(place, SAGAS, shutdown_timeout=0) as store:
+        async with sagas.open(location, SAGAS, shutdown_timeout=0) as store:
             for name, case in CASES.items():
                 await store.start(case.saga, name, case.given)
 
     await begin()
-    async with sagas.open(place, SAGAS) as store:
+    async with sagas.open(location, SAGAS) as store:
         yield store
-        assert all(said.startswith("yes") for said in (await store.audit()).values())
+        assert all(verdict.startswith("yes") for verdict in (await store.audit()).values())
 
 
 @contextlib.asynccontextmanager
-async def by_a_client(place: str) -> Any:
+async def by_a_client(location: str) -> Any:
     """Return a client that starts them, and a node."""
-    async with sagas.open(place, SAGAS) as _, sagas.Client(place) as client:
+    async with sagas.open(location, SAGAS) as _, sagas.Client(location) as client:
         for name, case in CASES.items():
             await client.start(case.saga, name, case.given)
         yield client
 
 
 @contextlib.asynccontextmanager
-async def taken_over(place: str) -> Any:
+async def taken_over(location: str) -> Any:
     """Return a node that is closed halfway; another one takes over."""
-    first = sagas.open(place, SAGAS, node="a", lease=1, shutdown_timeout=0)
-    async with sagas.open(place, SAGAS, node="b", lease=1) as second:
+    first = sagas.open(location, SAGAS, node="a", lease=1, shutdown_timeout=0)
+    async with sagas.open(location, SAGAS, node="b", lease=1) as second:
         async with first:
             for name, case in CASES.items():
                 await first.start(case.saga, name, case.given)
         yield second
 
 
-def test_after_a_restart(place: str) -> None:
+def test_after_a_restart(location: str) -> None:
     async def main() -> None:
-        async with restarted(place) as store:
+        async with restarted(location) as store:
             for name, case in CASES.items():
                 await judged(store, name, case)
 

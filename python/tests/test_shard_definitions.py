@@ -75,13 +75,15 @@ def test_the_first_definition_is_known_before_a_saga_of_it_is_opened(
     first, second, third, fourth = map(kind, ("first", "second", "third", "fourth"))
     driver, definitions = driver_of([first])
     with engine(tmp_path, [first]) as started:
-        asked = turn(driver, started, instance(definitions, first), instance(definitions, second))
-        assert ['"do":"define"' in line for line in asked] == [True, False]
+        requests = turn(
+            driver, started, instance(definitions, first), instance(definitions, second)
+        )
+        assert ['"do":"define"' in line for line in requests] == [True, False]
         assert (driver.opened, definitions.known) == (1, 2)
         assert len(turn(driver, started)) == 1 and driver.opened == 2
         both = instance(definitions, third), instance(definitions, fourth)
-        asked = turn(driver, started, *both, instance(definitions, third))
-        assert ['"do":"define"' in line for line in asked] == [True, True, False, False, False]
+        requests = turn(driver, started, *both, instance(definitions, third))
+        assert ['"do":"define"' in line for line in requests] == [True, True, False, False, False]
     assert (driver.opened, definitions.known) == (5, 4)
     assert [saga.place for saga in driver.sagas.values()] == [0, 1, 2, 3, 2]
 
@@ -111,7 +113,7 @@ def kind_line(of: Kind) -> str:
     return definitions.define_lines()[0]
 
 
-def test_what_undoes_an_older_child_is_stored_with_its_definition(place: str) -> None:
+def test_what_undoes_an_older_child_is_stored_with_its_definition(location: str) -> None:
     """This holds also in a shard of sagas whose steps come from their inputs, where no other saga
     has it.
     """
@@ -129,16 +131,16 @@ def test_what_undoes_an_older_child_is_stored_with_its_definition(place: str) ->
 
     async def main() -> None:
         older, later = declared(False), declared(True)
-        async with sagas.open(place, older) as store:
+        async with sagas.open(location, older) as store:
             await store.start(older[1], "trip-1")
             await until(lambda: store.get("trip-1/:stay"))
             await store.wait("trip-1/:stay")
-        async with sagas.open(place, later) as store:
+        async with sagas.open(location, later) as store:
             assert (await ended(store, later[2], "order-1", {"items": [1]})).ok
             await store.fail("trip-1", "pay", "no")
             assert (await store.wait("trip-1")).states == {"stay": "undone", "pay": "failed"}
-        async with sagas.open(place, later) as store:
+        async with sagas.open(location, later) as store:
             assert (await ended(store, later[2], "order-2", {"items": [1]})).ok
-            assert all(said.startswith("yes") for said in (await store.audit()).values())
+            assert all(verdict.startswith("yes") for verdict in (await store.audit()).values())
 
     run(main())

@@ -77,10 +77,10 @@ def three(timeout: float | None = None) -> sagas.Saga:
     for name in ("one", "two", "three"):
 
         async def book(task: Task) -> str:
-            said = await write(task, task.step)
+            result = await write(task, task.step)
             if task.input == task.step:
                 raise sagas.Fail("no")
-            return said
+            return result
 
         async def unbook(task: Task) -> None:
             await write(task, f"un{task.step}")
@@ -94,7 +94,7 @@ def three(timeout: float | None = None) -> sagas.Saga:
 
 async def audited(store: sagas.Store) -> None:
     """Return whether all of its logs are allowed."""
-    assert all(said.startswith("yes") for said in (await store.audit()).values())
+    assert all(verdict.startswith("yes") for verdict in (await store.audit()).values())
 
 
 def test_among_others_each_commits_by_itself(url: str) -> None:
@@ -131,7 +131,7 @@ def test_a_constraint_refuses_the_commit(url: str) -> None:
     and the kept steps are undone.
     """
     prepare(url, *ORDERS)
-    kind, said = sagas.Saga("shop"), []
+    kind, events = sagas.Saga("shop"), []
 
     @kind.step(transaction=True)
     async def reserve(task: Task) -> str:
@@ -149,7 +149,7 @@ def test_a_constraint_refuses_the_commit(url: str) -> None:
         return task.attempt
 
     async def main() -> None:
-        async with sagas.open(url, [kind], on_event=lambda event: said.append(event)) as store:
+        async with sagas.open(url, [kind], on_event=lambda event: events.append(event)) as store:
             with psycopg.connect(url) as link:
                 link.execute("INSERT INTO orders VALUES ('third')")
             assert (await ended(store, kind, "third", 3)).results == {
@@ -164,10 +164,10 @@ def test_a_constraint_refuses_the_commit(url: str) -> None:
             await audited(store)
 
     run(main())
-    assert [event.name for event in said if event.name in ("step_retrying", "step_failed")] == [
+    assert [event.name for event in events if event.name in ("step_retrying", "step_failed")] == [
         "step_retrying"
     ] * 4 + ["step_failed"]
-    assert not [event for event in said if event.name == "commit_failed"]
+    assert not [event for event in events if event.name == "commit_failed"]
     assert booked(url) == {
         ("third", "reserve"): 1,
         ("never", "reserve"): 1,
@@ -267,11 +267,11 @@ def test_the_child_dies_as_the_step_is_over(url: str) -> None:
     async def book(task: Task) -> str:
         calls.append(task.attempt_id)
         (runner,) = stores[0]._inside.shards.runners.values()  # type: ignore[union-attr]
-        said = await write(task, "book")
+        result = await write(task, "book")
         assert runner.engine
         os.kill(runner.engine.process.pid, signal.SIGKILL)
         os.waitid(os.P_PID, runner.engine.process.pid, os.WEXITED | os.WNOWAIT)
-        return said
+        return result
 
     async def main() -> None:
         async with sagas.open(url, [kind]) as store:
@@ -451,8 +451,8 @@ def test_few_statements_are_kept(url: str, monkeypatch: pytest.MonkeyPatch) -> N
             for number in range(6):
                 ends = await asyncio.gather(
                     *(
-                        ended(store, kind, f"k{number}-{place}", "three" if place % 2 else None)
-                        for place in range(number)
+                        ended(store, kind, f"k{number}-{index}", "three" if index % 2 else None)
+                        for index in range(number)
                     )
                 )
                 assert all(end.phase in ("completed", "recovered") for end in ends)
@@ -471,7 +471,7 @@ def test_prepared_statements_are_gone(url: str, in_thread: bool, text: str) -> N
     again.
     """
     prepare(url)
-    kind, calls, told = sagas.Saga("one"), [], list[str]()
+    kind, calls, event_names = sagas.Saga("one"), [], list[str]()
 
     if in_thread:
 
@@ -491,7 +491,9 @@ def test_prepared_statements_are_gone(url: str, in_thread: bool, text: str) -> N
             return "it's \\ ä"
 
     async def main() -> None:
-        async with sagas.open(url, [kind], on_event=lambda event: told.append(event.name)) as store:
+        async with sagas.open(
+            url, [kind], on_event=lambda event: event_names.append(event.name)
+        ) as store:
             for number in range(3):
                 end = await ended(store, kind, f"k{number}")
                 assert end.results == {"book": None if in_thread else "it's \\ ä"}
@@ -501,7 +503,7 @@ def test_prepared_statements_are_gone(url: str, in_thread: bool, text: str) -> N
 
     run(main())
     assert booked(url) == {(f"k{number}", "book"): 1 for number in range(6)}
-    assert "commit_failed" not in told
+    assert "commit_failed" not in event_names
     assert len(calls) == 6 + (text != "DEALLOCATE ALL") and len({*calls}) == 6
 
 
@@ -534,7 +536,7 @@ def test_a_rollback_leaves_what_is_prepared(url: str, in_thread: bool, way: str)
     step has it prepared.
     """
     prepare(url)
-    kind, calls, found, told = sagas.Saga("one"), list[str](), list[int](), list[str]()
+    kind, calls, prepared, event_names = sagas.Saga("one"), list[str](), list[int](), list[str]()
     drops = "CREATE TABLE gone()", "DROP TABLE gone"
 
     if in_thread:
@@ -543,7 +545,7 @@ def test_a_rollback_leaves_what_is_prepared(url: str, in_thread: bool, way: str)
         def book_in_thread(task: Task) -> None:
             calls.append(task.key)
             for _ in range(8):
-                found.append(task.connection.execute(KNOWN, ("sagas%",)).fetchall()[0][0])
+                prepared.append(task.connection.execute(KNOWN, ("sagas%",)).fetchall()[0][0])
             task.connection.execute(BOOK, (task.key, "book", ""))
             if task.input == "rolls back":
                 raise Undone
@@ -560,7 +562,7 @@ def test_a_rollback_leaves_what_is_prepared(url: str, in_thread: bool, way: str)
             calls.append(task.key)
             for _ in range(8):
                 rows = await (await task.connection.execute(KNOWN, ("sagas%",))).fetchall()
-                found.append(rows[0][0])
+                prepared.append(rows[0][0])
             await write(task, "book")
             if task.input == "rolls back":
                 raise Undone
@@ -572,7 +574,9 @@ def test_a_rollback_leaves_what_is_prepared(url: str, in_thread: bool, way: str)
                 await task.connection.execute(text)
 
     async def main() -> None:
-        async with sagas.open(url, [kind], on_event=lambda event: told.append(event.name)) as store:
+        async with sagas.open(
+            url, [kind], on_event=lambda event: event_names.append(event.name)
+        ) as store:
             for number, given in enumerate((None, way, None, way, None)):
                 end = await ended(store, kind, f"k{number}", given)
                 assert end.ok is not (given == "rolls back")
@@ -584,8 +588,8 @@ def test_a_rollback_leaves_what_is_prepared(url: str, in_thread: bool, way: str)
 
     run(main())
     gone = {"k1", "k3", "first 1", "second 1"} if way == "rolls back" else set()
-    assert not {"commit_failed", "engine_died", "shard_lost"} & {*told}
-    assert len(calls) == len({*calls}) == 11 and {*found} == {1}
+    assert not {"commit_failed", "engine_died", "shard_lost"} & {*event_names}
+    assert len(calls) == len({*calls}) == 11 and {*prepared} == {1}
     assert booked(url) == {(key, "book"): 1 for key in {*calls} - gone}
 
 
@@ -668,10 +672,10 @@ def gated(gate: asyncio.Event) -> sagas.Saga:
     kind = sagas.Saga("three")
 
     async def book(task: Task) -> str:
-        said = await write(task, task.step)
+        result = await write(task, task.step)
         if task.step == "two":
             await gate.wait()
-        return said
+        return result
 
     async def unbook(task: Task) -> None:
         await write(task, f"un{task.step}")
@@ -758,11 +762,11 @@ def test_an_end_of_another_saga_comes_with_the_report(url: str) -> None:
 
     @kind.step(transaction=True)
     async def first(task: Task) -> str:
-        said = await write(task, "first")
+        result = await write(task, "first")
         if task.key == "a":
             reached.set()
             await gate.wait()
-        return said
+        return result
 
     async def main() -> None:
         async with sagas.open(url, [kind], concurrency=1) as store:

@@ -71,34 +71,34 @@ def row(gate: asyncio.Event | None = None) -> sagas.Saga:
 # -- keys and results
 
 
-def test_start_with_a_key_that_is_there(place: str) -> None:
+def test_start_with_a_key_that_is_there(location: str) -> None:
     """It returns the existing saga, whatever its state; another saga or another input is
     KeyConflict.
     """
     kinds = [row(), simple(lambda task: 1)]
 
     async def main() -> None:
-        async with sagas.open(place, kinds) as store:
+        async with sagas.open(location, kinds) as store:
             first = await ended(store, kinds[0], given={"a": 1, "b": [2]})
             assert await ended(store, kinds[0], given={"b": [2], "a": 1}) == first
             for saga, given in ((kinds[0], {"a": 2}), (kinds[1], {"a": 1, "b": [2]})):
                 with pytest.raises(sagas.KeyConflict):
                     await store.start(saga, key="k", input=given)
-            asked = [
+            starts = [
                 store.start(kinds[0], key="k", input=given)
                 for given in ({"a": 2}, {"a": 1, "b": [2]})
             ]
-            told = await asyncio.gather(
-                *asked, store.wait("k"), store.abort("k"), return_exceptions=True
+            results = await asyncio.gather(
+                *starts, store.wait("k"), store.abort("k"), return_exceptions=True
             )
             assert (
-                isinstance(told[0], sagas.KeyConflict)
-                and not told[1].new
-                and told[2:] == [first, False]
+                isinstance(results[0], sagas.KeyConflict)
+                and not results[1].new
+                and results[2:] == [first, False]
             )
             same = await asyncio.gather(*(ended(store, kinds[0], "many") for _ in range(20)))
             assert len({end.key for end in same}) == 1
-        async with sagas.open(place, kinds) as store:
+        async with sagas.open(location, kinds) as store:
             assert await ended(store, kinds[0], given={"a": 1, "b": [2]}) == first
             with pytest.raises(sagas.KeyConflict):
                 await store.start(kinds[1], key="k")
@@ -106,15 +106,15 @@ def test_start_with_a_key_that_is_there(place: str) -> None:
                 await store.start(kinds[0], key="new", input=object())
 
     run(main())
-    assert len(records.read(place).sagas) == 2
+    assert len(records.read(location).sagas) == 2
 
 
-def test_a_key_that_is_none(place: str) -> None:
+def test_a_key_that_is_none(location: str) -> None:
     """They are a name of the package's own, and a text that is too long."""
     saga = simple(lambda task: 1)
 
     async def main() -> None:
-        async with sagas.open(place, [saga]) as store:
+        async with sagas.open(location, [saga]) as store:
             for key in (17, "", "a\n", "k" * 3000, None):
                 with pytest.raises(
                     sagas.InvalidKey,
@@ -165,7 +165,7 @@ class Order:
         ),
     ],
 )
-def test_an_input_that_the_first_step_cannot_read(place: str, given: Any, text: str) -> None:
+def test_an_input_that_the_first_step_cannot_read(location: str, given: Any, text: str) -> None:
     """The error has its location, and no saga is started; an existing saga is found by its key
     anyway.
     """
@@ -177,9 +177,9 @@ def test_an_input_that_the_first_step_cannot_read(place: str, given: Any, text: 
         return task.input.amount
 
     async def main() -> None:
-        async with sagas.open(place, [loose]) as store:
+        async with sagas.open(location, [loose]) as store:
             assert (await ended(store, loose, "old", given)).ok
-        async with sagas.open(place, [strict]) as store:
+        async with sagas.open(location, [strict]) as store:
             with pytest.raises(sagas.InvalidInput, match=f"saga 'order', step 'charge': {text}"):
                 await store.start(strict, "new", given)
             assert await store.get("new") is None and (await ended(store, strict, "old", given)).ok
@@ -193,14 +193,14 @@ def test_an_input_that_the_first_step_cannot_read(place: str, given: Any, text: 
         sagas.testing.run(strict, given)
 
 
-def test_results(place: str) -> None:
+def test_results(location: str) -> None:
     """`task.results` are of all steps that a step needs, directly or not; `end.results` of the
     steps that are kept.
     """
     saga = row()
 
     async def main() -> None:
-        async with sagas.open(place, [saga]) as store:
+        async with sagas.open(location, [saga]) as store:
             assert (await ended(store, saga, "good")).results == {
                 "a": "A",
                 "b": "AB",
@@ -219,7 +219,7 @@ def test_results(place: str) -> None:
 # -- aborts and held steps
 
 
-def test_abort(place: str) -> None:
+def test_abort(location: str) -> None:
     """No step starts any more; running ones end, and the plan says which are undone.
 
     False if it is over or was aborted.
@@ -228,7 +228,7 @@ def test_abort(place: str) -> None:
     saga = row(gate)
 
     async def main() -> None:
-        async with sagas.open(place, [saga]) as store:
+        async with sagas.open(location, [saga]) as store:
             going = await store.start(saga, key="k")
             assert await going.abort() is True and await going.abort() is False
             gate.set()
@@ -251,7 +251,7 @@ def test_abort(place: str) -> None:
 
 @pytest.mark.parametrize("error", [ValueError, TimeoutError], ids=["backoff", "unknown"])
 def test_a_held_step_takes_no_slot_and_keeps_nothing_from_draining(
-    place: str, error: type[Exception]
+    location: str, error: type[Exception]
 ) -> None:
     """While a step waits an hour for its next try, or is called again then, another saga runs at
     concurrency 1; an abort does not wait for it.
@@ -267,7 +267,7 @@ def test_a_held_step_takes_no_slot_and_keeps_nothing_from_draining(
     saga = simple(fails, tries=3, backoff=HOUR)
 
     async def main() -> None:
-        async with sagas.open(place, [saga], concurrency=1) as store:
+        async with sagas.open(location, [saga], concurrency=1) as store:
             slow = await store.start(saga, key="slow", input=1)
 
             async def is_held() -> bool:
@@ -287,7 +287,7 @@ def test_a_held_step_takes_no_slot_and_keeps_nothing_from_draining(
     run(main())
 
 
-def test_functions_know_nothing_of_each_other(place: str) -> None:
+def test_functions_know_nothing_of_each_other(location: str) -> None:
     """Whether they wait or not: each has the context in which the store was opened, and a task,
     which it may even cancel at its end.
     """
@@ -314,7 +314,7 @@ def test_functions_know_nothing_of_each_other(place: str) -> None:
                 await asyncio.sleep(60)
 
     async def main() -> None:
-        async with sagas.open(place, [saga]) as store:
+        async with sagas.open(location, [saga]) as store:
             var.set("started")
             ends = await asyncio.gather(*(ended(store, saga, str(number)) for number in range(30)))
             assert all(end.ok and end.results["a"] == "opened" for end in ends)
@@ -322,7 +322,7 @@ def test_functions_know_nothing_of_each_other(place: str) -> None:
     run(main())
 
 
-def test_no_more_than_its_concurrency(place: str) -> None:
+def test_no_more_than_its_concurrency(location: str) -> None:
     """Over all steps and sagas, in the loop and in threads; and all its slots are used."""
     inside, most = set[str](), 0
     gate = threading.Event()
@@ -347,7 +347,7 @@ def test_no_more_than_its_concurrency(place: str) -> None:
         inside.discard(task.key)
 
     async def main() -> None:
-        async with sagas.open(place, [one, other], concurrency=3) as store:
+        async with sagas.open(location, [one, other], concurrency=3) as store:
             work = [
                 asyncio.create_task(ended(store, (one, other)[number % 2], f"k{number}"))
                 for number in range(12)
@@ -361,7 +361,7 @@ def test_no_more_than_its_concurrency(place: str) -> None:
     assert most == 3
 
 
-def test_a_limit_holds_back_nobody_else(place: str) -> None:
+def test_a_limit_holds_back_nobody_else(location: str) -> None:
     """At most two of the slow step run at once, over all sagas; the quick ones run past them."""
     running, most, gate = Counter[str](), Counter[str](), asyncio.Event()
     slow, quick = sagas.Saga("slow"), sagas.Saga("quick")
@@ -378,7 +378,7 @@ def test_a_limit_holds_back_nobody_else(place: str) -> None:
         ...
 
     async def main() -> None:
-        async with sagas.open(place, [slow, quick], concurrency=8) as store:
+        async with sagas.open(location, [slow, quick], concurrency=8) as store:
             held = [await store.start(slow, key=f"s{number}") for number in range(6)]
             await asyncio.gather(*(ended(store, quick, f"q{number}") for number in range(20)))
             assert running["a"] == 2
@@ -393,7 +393,7 @@ def test_a_limit_holds_back_nobody_else(place: str) -> None:
 
 
 @pytest.mark.parametrize("how", ["timedelta", "datetime", "function"])
-def test_wait(place: str, how: str) -> None:
+def test_wait(location: str, how: str) -> None:
     """Its function is called when the time has come, and not before."""
     soon = datetime.timedelta(seconds=0.3)
     at = datetime.datetime.now(datetime.timezone.utc) + soon
@@ -409,7 +409,7 @@ def test_wait(place: str, how: str) -> None:
         return time.time()
 
     async def main() -> None:
-        async with sagas.open(place, [saga]) as store:
+        async with sagas.open(location, [saga]) as store:
             began = time.time()
             end = await ended(store, saga, given=0.3)
             assert (
@@ -419,17 +419,17 @@ def test_wait(place: str, how: str) -> None:
     run(main())
 
 
-def test_a_wait_that_cannot_say_its_time(place: str) -> None:
+def test_a_wait_that_cannot_say_its_time(location: str) -> None:
     """Each try computes it again, also in the next program; its function is not called before its
     time, and after its tries it has failed.
     """
-    asked: list[tuple[str, int]] = []
+    computed: list[tuple[str, int]] = []
     times: list[float] = []
     called: list[float] = []
     saga = sagas.Saga("late")
 
     def when(task: Task) -> Any:
-        asked.append((task.key, task.attempt))
+        computed.append((task.key, task.attempt))
         if task.key == "never" or task.attempt == 1:
             return task.input
         times.append(time.time())
@@ -440,37 +440,37 @@ def test_a_wait_that_cannot_say_its_time(place: str) -> None:
         called.append(time.time())
 
     async def first() -> None:
-        async with sagas.open(place, [saga]) as store:
+        async with sagas.open(location, [saga]) as store:
             await store.start(saga, "never", "2030-01-01T00:00:00+00:00")
             await store.start(saga, "later")
-            await until(lambda: {("never", 1), ("later", 1)} <= {*asked})
+            await until(lambda: {("never", 1), ("later", 1)} <= {*computed})
 
     async def second() -> None:
-        async with sagas.open(place, [saga]) as store:
+        async with sagas.open(location, [saga]) as store:
             end = await store.wait("never")
             assert (
                 end.states == {"wait": "failed"} and "datetime.fromisoformat" in end.errors["wait"]
             )
             assert (await store.wait("later")).ok
-            assert held(place) == []
+            assert held(location) == []
 
     run(first())
     run(second())
-    assert [attempt for key, attempt in asked if key == "never"] == [1, 2, 3]
+    assert [attempt for key, attempt in computed if key == "never"] == [1, 2, 3]
     assert len(called) == 1 and called[0] >= times[0] + 0.19
 
 
-def test_a_wait_whose_time_is_over_waits_no_more(place: str) -> None:
+def test_a_wait_whose_time_is_over_waits_no_more(location: str) -> None:
     """The outcome of its function was unknown, then it failed, and then another program recovered
     it: it is called, and does not wait again.
     """
-    asked: list[int] = []
+    computed: list[int] = []
     calls: list[int] = []
     saga = sagas.Saga("late")
 
     def when(task: Task) -> datetime.timedelta:
-        asked.append(task.attempt)
-        return datetime.timedelta(seconds=0.05 if len(asked) == 1 else 3600)
+        computed.append(task.attempt)
+        return datetime.timedelta(seconds=0.05 if len(computed) == 1 else 3600)
 
     @saga.wait(until=when, backoff=sagas.Backoff(initial=0.2, maximum=0.2))
     def wait(task: Task) -> int:
@@ -480,22 +480,22 @@ def test_a_wait_whose_time_is_over_waits_no_more(place: str) -> None:
         return 1
 
     async def first() -> None:
-        async with sagas.open(place, [saga]) as store:
+        async with sagas.open(location, [saga]) as store:
             await store.start(saga, "k")
             await until(lambda: len(calls) == 2)
 
     async def second() -> None:
-        async with sagas.open(place, [saga]) as store:
+        async with sagas.open(location, [saga]) as store:
             assert (await store.wait("k")).ok
-            assert held(place) == []
+            assert held(location) == []
 
     run(first())
     run(second())
-    assert asked == [1] and calls == [1, 1, 2]
+    assert computed == [1] and calls == [1, 1, 2]
 
 
 @pytest.mark.parametrize("how", ["undone", "for good"])
-def test_a_saga_that_is_over_waits_for_nothing(place: str, how: str) -> None:
+def test_a_saga_that_is_over_waits_for_nothing(location: str, how: str) -> None:
     """The stored row of its wait is gone: its saga was undone in the meantime, or its function
     failed, and the remaining tries were given up.
     """
@@ -511,40 +511,40 @@ def test_a_saga_that_is_over_waits_for_nothing(place: str, how: str) -> None:
             raise ValueError("no")
 
     async def main() -> None:
-        async with sagas.open(place, [saga]) as store:
+        async with sagas.open(location, [saga]) as store:
             assert (await ended(store, saga)).states["wait"] == (
                 "failed" if how == "for good" else "waiting"
             )
-            assert held(place) == []
+            assert held(location) == []
 
     run(main())
 
 
 @pytest.mark.parametrize("answer", ["yes", "no", "nothing"])
-def test_approval(place: str, answer: str) -> None:
+def test_approval(location: str, answer: str) -> None:
     """An operator, or another program, reports success or failure; without a report in time it has
     failed. It outlives the program.
     """
-    asked: list[str] = []
+    keys: list[str] = []
     saga = sagas.Saga("signed")
 
     @saga.approval(timeout=datetime.timedelta(seconds=0.2) if answer == "nothing" else None)
     def sign(task: Task) -> None:
-        asked.append(task.key)
+        keys.append(task.key)
 
     @saga.step(needs=[sign])
     def go(task: Task) -> Any:
         return task.result_of(sign)
 
     async def first() -> None:
-        async with sagas.open(place, [saga]) as store:
+        async with sagas.open(location, [saga]) as store:
             await store.start(saga, key="k")
-            await until(lambda: asked)
+            await until(lambda: keys)
             with pytest.raises(sagas.StepNotWaiting):
                 await store.complete("k", go, 1)
 
     async def second() -> sagas.SagaResult:
-        async with sagas.open(place, [saga]) as store:
+        async with sagas.open(location, [saga]) as store:
             if answer == "yes":
                 await store.complete("k", sign, {"by": "Ada"})
             elif answer == "no":
@@ -553,12 +553,12 @@ def test_approval(place: str, answer: str) -> None:
 
     run(first())
     end = run(second())
-    assert asked == ["k"]
+    assert keys == ["k"]
     assert end.results == ({"sign": {"by": "Ada"}, "go": {"by": "Ada"}} if answer == "yes" else {})
     assert end.states["sign"] == ("committed" if answer == "yes" else "failed")
 
 
-def test_an_answer_that_comes_at_once(place: str) -> None:
+def test_an_answer_that_comes_at_once(location: str) -> None:
     """The caller answers before the function that asked has returned: the answer is not lost."""
     saga = sagas.Saga("signed")
     answers: list[asyncio.Task[None]] = []
@@ -571,7 +571,7 @@ def test_an_answer_that_comes_at_once(place: str) -> None:
     stores: list[sagas.Store] = []
 
     async def case() -> None:
-        async with sagas.open(place, [saga]) as store:
+        async with sagas.open(location, [saga]) as store:
             stores.append(store)
             assert (await ended(store, saga)).results == {"sign": "at once"}
             await answers[0]
@@ -579,7 +579,7 @@ def test_an_answer_that_comes_at_once(place: str) -> None:
     run(case())
 
 
-def test_a_step_that_is_done_elsewhere(place: str) -> None:
+def test_a_step_that_is_done_elsewhere(location: str) -> None:
     """`external=True`: it has no function here; an external worker reports, for the compensation
     too.
     """
@@ -591,15 +591,15 @@ def test_a_step_that_is_done_elsewhere(place: str) -> None:
     def check(task: Task) -> None:
         raise sagas.Fail(f"{task.result_of(print_it)} is torn")
 
-    async def finish(store: sagas.Store, **words: Any) -> None:
+    async def finish(store: sagas.Store, **options: Any) -> None:
         while True:
             try:
-                return await store.complete("k", print_it, **words)
+                return await store.complete("k", print_it, **options)
             except sagas.StepNotWaiting:
                 await asyncio.sleep(0.01)
 
     async def main() -> sagas.SagaResult:
-        async with sagas.open(place, [saga]) as store:
+        async with sagas.open(location, [saga]) as store:
             going = await store.start(saga, key="k")
             await finish(store, result="page 1")
             await finish(store, undo=True)
@@ -608,7 +608,7 @@ def test_a_step_that_is_done_elsewhere(place: str) -> None:
     assert run(main()).states == {"print": "undone", "check": "failed"}
 
 
-def test_a_compensation_of_which_nobody_knows(place: str) -> None:
+def test_a_compensation_of_which_nobody_knows(location: str) -> None:
     """An operator reports its outcome, by `undo=True`; without that the call is an error."""
     saga = sagas.Saga("row")
 
@@ -625,7 +625,7 @@ def test_a_compensation_of_which_nobody_knows(place: str) -> None:
         raise sagas.Fail("no")
 
     async def main() -> sagas.SagaResult:
-        async with sagas.open(place, [saga]) as store:
+        async with sagas.open(location, [saga]) as store:
             going = await store.start(saga, key="k")
             await until(lambda: asked_of(store))
             with pytest.raises(TimeoutError, match="with undo=True"):
@@ -641,7 +641,7 @@ def test_a_compensation_of_which_nobody_knows(place: str) -> None:
 # -- logs and definitions
 
 
-def test_full_logs_are_audited_and_closed(place: str, monkeypatch: pytest.MonkeyPatch) -> None:
+def test_full_logs_are_audited_and_closed(location: str, monkeypatch: pytest.MonkeyPatch) -> None:
     """New sagas go to the newest log until it is full; a finished one is audited once and marked
     closed, and then never again.
     """
@@ -658,18 +658,18 @@ def test_full_logs_are_audited_and_closed(place: str, monkeypatch: pytest.Monkey
     monkeypatch.setattr("sagas.base.program.run", counting)
 
     async def again() -> None:
-        async with sagas.open(place, [saga]) as store:
+        async with sagas.open(location, [saga]) as store:
             assert (await ended(store, saga, "again")).ok
 
     async def main() -> None:
-        async with sagas.open(place, [saga]) as store:
+        async with sagas.open(location, [saga]) as store:
             await asyncio.gather(
                 *(
                     ended(store, saga, f"k{number}", "fails" if number % 3 else None)
                     for number in range(120)
                 )
             )
-            path = place
+            path = location
             await until(
                 lambda: sum(log.closed for log in records.read(path).logs.values())
                 >= len(records.read(path).logs) - 1
@@ -678,16 +678,16 @@ def test_full_logs_are_audited_and_closed(place: str, monkeypatch: pytest.Monkey
     run(main())
     closed = [
         lines.HEADER + "".join(text for _, text in log.chunks)
-        for log in records.read(place).logs.values()
+        for log in records.read(location).logs.values()
         if log.closed
     ]
     run(again())
     assert [audits[text] for text in closed] == [1] * len(closed)
-    kept = records.read(place)
+    kept = records.read(location)
     assert len(kept.logs) > 3 and len(kept.sagas) == 121
 
 
-def test_definitions_change(place: str) -> None:
+def test_definitions_change(location: str) -> None:
     """Open sagas continue by their original definition; new ones start a new log; the old one is
     closed once it is finished.
     """
@@ -710,22 +710,22 @@ def test_definitions_change(place: str) -> None:
         return saga
 
     async def first(saga: sagas.Saga) -> None:
-        async with sagas.open(place, [saga], shutdown_timeout=0.0) as store:
+        async with sagas.open(location, [saga], shutdown_timeout=0.0) as store:
             await store.start(saga, key="old")
 
     async def second(saga: sagas.Saga) -> None:
         gates[1].set()
-        async with sagas.open(place, [saga]) as store:
+        async with sagas.open(location, [saga]) as store:
             assert (await store.wait("old")).results == {"a": 1}
             assert (await ended(store, saga, "new")).results == {"a": 1, "b": 2}
-            await until(lambda: records.read(place).logs[0].closed)
+            await until(lambda: records.read(location).logs[0].closed)
 
     run(first(version(0)))
     run(second(version(1)))
-    assert len(records.read(place).logs) == 2
+    assert len(records.read(location).logs) == 2
 
 
-def test_functions_and_times_change_at_any_start(place: str) -> None:
+def test_functions_and_times_change_at_any_start(location: str) -> None:
     """Another function, timeout and back-off of a step, and another order of the sagas: it is the
     same log, and open sagas continue with them.
     """
@@ -751,22 +751,22 @@ def test_functions_and_times_change_at_any_start(place: str) -> None:
         return [second, first] if number else [first, second]
 
     async def begin(old: list[sagas.Saga]) -> None:
-        async with sagas.open(place, old, shutdown_timeout=0.0) as store:
+        async with sagas.open(location, old, shutdown_timeout=0.0) as store:
             await store.start(old[0], "k")
             await until(lambda: tokens)
 
     async def go_on(new: list[sagas.Saga]) -> None:
-        async with sagas.open(place, new) as store:
+        async with sagas.open(location, new) as store:
             assert (await store.wait("k")).results == {"a": 1}
             assert (await ended(store, new[0], "new")).results == {"b": 1}
 
     run(begin(kinds(0)))
     run(go_on(kinds(1)))
-    (texts,) = {tuple(log.texts) for log in records.read(place).logs.values()}
+    (texts,) = {tuple(log.texts) for log in records.read(location).logs.values()}
     assert len(tokens) == 2 and len(set(tokens)) == 1 and len(texts) == 2
 
 
-def test_versions(place: str) -> None:
+def test_versions(location: str) -> None:
     """A definition's meaning changes by a version: both are passed to open, and each saga continues
     by its own.
     """
@@ -785,12 +785,12 @@ def test_versions(place: str) -> None:
     old, new = version(1), version(2)
 
     async def first() -> None:
-        async with sagas.open(place, [old], shutdown_timeout=0.0) as store:
+        async with sagas.open(location, [old], shutdown_timeout=0.0) as store:
             await store.start(old, key="old")
 
     async def second() -> None:
         gate.set()
-        async with sagas.open(place, [old, new]) as store:
+        async with sagas.open(location, [old, new]) as store:
             assert (await store.wait("old")).results == {"a": 1}
             assert (await ended(store, new, "new")).results == {"a": 2}
 
@@ -798,7 +798,7 @@ def test_versions(place: str) -> None:
     run(second())
 
 
-def test_a_function_that_is_gone(place: str) -> None:
+def test_a_function_that_is_gone(location: str) -> None:
     """Opening is an error that names the step; the older program finishes it with accept_new=False,
     and takes no new sagas.
     """
@@ -814,28 +814,28 @@ def test_a_function_that_is_gone(place: str) -> None:
         ...
 
     async def first() -> None:
-        async with sagas.open(place, [old], shutdown_timeout=0.0) as store:
+        async with sagas.open(location, [old], shutdown_timeout=0.0) as store:
             await store.start(old, key="k")
         # another node may have it: this one leaves the saga alone
-        if place.startswith("postgresql:"):
-            async with sagas.open(place, [new]) as store:
+        if location.startswith("postgresql:"):
+            async with sagas.open(location, [new]) as store:
                 assert (await store.list(phase="open"))[0].key == "k"
             return
         listed = r"; open sagas: 1; `sagas store .* list --phase open` lists them"
         with pytest.raises(sagas.MissingStep, match=f"'a'.*{listed}"):
-            async with sagas.open(place, [new]):
+            async with sagas.open(location, [new]):
                 pass
         with pytest.raises(sagas.MissingStep, match="'trip' .* not open the store with that saga"):
-            async with sagas.open(place, [row()]):
+            async with sagas.open(location, [row()]):
                 pass
 
     async def second() -> None:
         gate.set()
-        async with sagas.open(place, [old], accept_new=False) as store:
+        async with sagas.open(location, [old], accept_new=False) as store:
             with pytest.raises(sagas.SagasError):
                 await store.start(old, key="another")
             await store.wait_idle()
-        async with sagas.open(place, [new]) as store:
+        async with sagas.open(location, [new]) as store:
             assert (await ended(store, new, "new")).ok
 
     run(first())
@@ -862,7 +862,7 @@ def test_a_compensation_that_is_gone(tmp_path: pathlib.Path) -> None:
     run(main())
 
 
-def test_a_log_whose_sagas_wait_lets_its_process_go(place: str) -> None:
+def test_a_log_whose_sagas_wait_lets_its_process_go(location: str) -> None:
     """It is started again when one is due."""
     saga = sagas.Saga("late")
 
@@ -873,7 +873,7 @@ def test_a_log_whose_sagas_wait_lets_its_process_go(place: str) -> None:
     others = set(children(os.getpid()))  # servers that other tests use
 
     async def main() -> None:
-        async with sagas.open(place, [saga], idle=0.1) as store:
+        async with sagas.open(location, [saga], idle=0.1) as store:
             going = await store.start(saga, key="k")
             assert len(set(children(os.getpid())) - others) == 1
             await until(lambda: not set(children(os.getpid())) - others)
@@ -885,17 +885,17 @@ def test_a_log_whose_sagas_wait_lets_its_process_go(place: str) -> None:
 def lives(pid: int) -> bool:
     """Return whether a process is neither dead nor killed and about to be."""
     try:
-        told = dict(
+        status = dict(
             line.split(":\t", 1)
             for line in pathlib.Path(f"/proc/{pid}/status").read_text().splitlines()
             if ":\t" in line
         )
     except OSError:
         return False
-    return told["State"][0] not in "ZX" and not int(told["ShdPnd"], 16) & 1 << 8
+    return status["State"][0] not in "ZX" and not int(status["ShdPnd"], 16) & 1 << 8
 
 
-def test_few_children_for_many_logs(place: str, monkeypatch: pytest.MonkeyPatch) -> None:
+def test_few_children_for_many_logs(location: str, monkeypatch: pytest.MonkeyPatch) -> None:
     """Sagas in many logs share two engines, also after a restart."""
     monkeypatch.setattr("sagas.definition.shelf.SHARD_CAPACITY", 7)
     gate, most = asyncio.Event(), 0
@@ -914,26 +914,26 @@ def test_few_children_for_many_logs(place: str, monkeypatch: pytest.MonkeyPatch)
         return await task
 
     async def first() -> None:
-        async with sagas.open(place, [saga], engine_processes=2, shutdown_timeout=0.0) as store:
+        async with sagas.open(location, [saga], engine_processes=2, shutdown_timeout=0.0) as store:
             await watched(
                 asyncio.gather(*(store.start(saga, key=f"k{number}") for number in range(60)))
             )
 
     async def second() -> None:
         gate.set()
-        async with sagas.open(place, [saga], engine_processes=2) as store:
+        async with sagas.open(location, [saga], engine_processes=2) as store:
             ends = await watched(
                 asyncio.gather(*(store.wait(f"k{number}") for number in range(60)))
             )
             assert all(end.ok for end in ends)
 
     run(first())
-    assert len(records.read(place).logs) > 4
+    assert len(records.read(location).logs) > 4
     run(second())
     assert 1 <= most <= 3  # two that drive, and one that audits
 
 
-def test_one_slot_for_many_logs(place: str, monkeypatch: pytest.MonkeyPatch) -> None:
+def test_one_slot_for_many_logs(location: str, monkeypatch: pytest.MonkeyPatch) -> None:
     """Logs that find no slot are served when one is released unused, too: nothing hangs."""
     monkeypatch.setattr("sagas.definition.shelf.SHARD_CAPACITY", 4)
     saga = sagas.Saga("pair")
@@ -947,7 +947,7 @@ def test_one_slot_for_many_logs(place: str, monkeypatch: pytest.MonkeyPatch) -> 
         return 2
 
     async def main() -> None:
-        async with sagas.open(place, [saga], concurrency=1, engine_processes=2) as store:
+        async with sagas.open(location, [saga], concurrency=1, engine_processes=2) as store:
             for turn in range(6):
                 ends = await asyncio.gather(
                     *(ended(store, saga, f"k{turn}-{number}") for number in range(30))
@@ -961,20 +961,20 @@ def test_one_slot_for_many_logs(place: str, monkeypatch: pytest.MonkeyPatch) -> 
 
 
 @contextlib.contextmanager
-def locked(place: str) -> Iterator[None]:
+def locked(location: str) -> Iterator[None]:
     """Lock the store's lines against writes."""
-    if place.startswith("postgresql:"):
-        with psycopg.connect(place) as link:
+    if location.startswith("postgresql:"):
+        with psycopg.connect(location) as link:
             link.execute("LOCK TABLE sagas.event_log IN EXCLUSIVE MODE")
             yield
     else:
-        with contextlib.closing(sqlite3.connect(place, isolation_level=None)) as db:
+        with contextlib.closing(sqlite3.connect(location, isolation_level=None)) as db:
             db.execute("BEGIN IMMEDIATE")
             yield
 
 
 def test_one_transaction_takes_what_all_logs_have(
-    place: str, monkeypatch: pytest.MonkeyPatch
+    location: str, monkeypatch: pytest.MonkeyPatch
 ) -> None:
     """Steps end in eight logs while a commit is in progress: one more holds all of it."""
     monkeypatch.setattr("sagas.definition.shelf.SHARD_CAPACITY", 2)
@@ -989,7 +989,7 @@ def test_one_transaction_takes_what_all_logs_have(
     saga = simple(a)
 
     async def main() -> None:
-        async with sagas.open(place, [saga, far]) as store:
+        async with sagas.open(location, [saga, far]) as store:
             runs = []
             for number in range(8):
                 await store.start(far, f"far-{number}")
@@ -1001,7 +1001,7 @@ def test_one_transaction_takes_what_all_logs_have(
                 lambda: len(runners) == 8 and not any(one.driver.unwritten for one in runners)
             )
             before = store.commits
-            with locked(place):
+            with locked(location):
                 gate.set()
                 await until(lambda: all(one.driver.unwritten for one in runners))
             assert all(end.ok for end in await asyncio.gather(*(one.wait() for one in runs)))
@@ -1047,7 +1047,7 @@ def test_commits_in_the_loop_and_in_the_thread(
                 ends.append(await ended(store, saga, f"one-{number}"))
                 most = max(most, (tmp_path / "store.db-wal").stat().st_size)
             assert all(end.ok for end in ends)
-            assert all(said.startswith("yes") for said in (await store.audit()).values())
+            assert all(verdict.startswith("yes") for verdict in (await store.audit()).values())
 
     run(main())
     assert most < 16 << 20
@@ -1055,7 +1055,7 @@ def test_commits_in_the_loop_and_in_the_thread(
 
 @pytest.mark.parametrize("wait", [0, 50])
 def test_answers_that_are_waited_for_and_others(
-    place: str, monkeypatch: pytest.MonkeyPatch, wait: int
+    location: str, monkeypatch: pytest.MonkeyPatch, wait: int
 ) -> None:
     """A reply that does not come in time comes by the loop, and for a while none is waited for."""
     monkeypatch.setattr(process, "WAIT", wait)
@@ -1063,7 +1063,7 @@ def test_answers_that_are_waited_for_and_others(
     saga = row()
 
     async def main() -> None:
-        async with sagas.open(place, [saga]) as store:
+        async with sagas.open(location, [saga]) as store:
             for number in range(12):
                 given = "fails" if number % 4 == 3 else None
                 end = await ended(store, saga, f"k{number}", given)
@@ -1075,7 +1075,7 @@ def test_answers_that_are_waited_for_and_others(
                 *(ended(store, saga, f"more-{number}") for number in range(40))
             )
             assert all(end.ok for end in ends)
-            assert all(said.startswith("yes") for said in (await store.audit()).values())
+            assert all(verdict.startswith("yes") for verdict in (await store.audit()).values())
 
     run(main())
 
@@ -1090,7 +1090,7 @@ class Popped:
         self.kind = self.data.pop("kind")
 
 
-def test_each_type_is_tried_with_an_input_of_its_own(place: str) -> None:
+def test_each_type_is_tried_with_an_input_of_its_own(location: str) -> None:
     """Two first steps read the same type, which changes its argument: neither sees the other's
     changes.
     """
@@ -1109,7 +1109,7 @@ def test_each_type_is_tried_with_an_input_of_its_own(place: str) -> None:
         return len(task.input)
 
     async def main() -> None:
-        async with sagas.open(place, [saga]) as store:
+        async with sagas.open(location, [saga]) as store:
             assert (await ended(store, saga, given={"data": {"kind": "x"}})).results == {
                 "a": "x",
                 "b": "x",
@@ -1144,7 +1144,7 @@ def test_nobody_waits_for_rows_of_an_answer_that_is_late(tmp_path: pathlib.Path)
 
 @pytest.mark.parametrize("turn", [0.0, dispatcher.TURN])
 def test_steps_give_the_loop_a_turn(
-    place: str, monkeypatch: pytest.MonkeyPatch, turn: float
+    location: str, monkeypatch: pytest.MonkeyPatch, turn: float
 ) -> None:
     """Commits and replies may come at once: other work of the loop has its turn after `TURN`, and
     is not delayed by a saga of many steps.
@@ -1160,7 +1160,7 @@ def test_steps_give_the_loop_a_turn(
 
     async def main() -> None:
         nonlocal turns
-        async with sagas.open(place, [saga]) as store:
+        async with sagas.open(location, [saga]) as store:
             going = asyncio.ensure_future(ended(store, saga))
             while not going.done():
                 turns += 1
@@ -1176,10 +1176,10 @@ def test_tasks_of_a_reply() -> None:
     one = '{"attempt":1,"name":"hotel","saga":0,"step":1,"task":"run"}'
     two = '{"attempt":12,"name":"a-b_c","saga":999,"step":65535,"task":"undo"}'
     plan = '{"answer":{"cost":1,"kept":[],"kind":"plan"},"phase":"going","saga":0,"task":"plan"}'
-    told = [(0, 1, "run", 1), (999, 65535, "undo", 12)]
-    assert lines.tasks_in(f'{{"tasks":[{one}]}}') == told[:1]
-    assert lines.tasks_in(f'{{"tasks":[{one},{two}]}}') == told
-    assert lines.tasks_in(f'{{"settled":false,"tasks":[{two}]}}') == told[1:]
+    expected = [(0, 1, "run", 1), (999, 65535, "undo", 12)]
+    assert lines.tasks_in(f'{{"tasks":[{one}]}}') == expected[:1]
+    assert lines.tasks_in(f'{{"tasks":[{one},{two}]}}') == expected
+    assert lines.tasks_in(f'{{"settled":false,"tasks":[{two}]}}') == expected[1:]
     for other in (
         f'{{"tasks":[{one},{plan}]}}',
         f'{{"tasks":[{plan}]}}',
@@ -1227,7 +1227,7 @@ TEXTS = [
 ODD = "\0\ud800'; DROP TABLE sagas; --"
 
 
-def test_texts_are_no_statements(place: str, caplog: pytest.LogCaptureFixture) -> None:
+def test_texts_are_no_statements(location: str, caplog: pytest.LogCaptureFixture) -> None:
     """Keys, inputs, results, exceptions and notes have text that a database could take for
     something else.
     """
@@ -1247,7 +1247,7 @@ def test_texts_are_no_statements(place: str, caplog: pytest.LogCaptureFixture) -
         raise sagas.Fail(task.input)
 
     async def main() -> None:
-        async with sagas.open(place, [saga, hazy, must]) as store:
+        async with sagas.open(location, [saga, hazy, must]) as store:
             for text in TEXTS:
                 assert (await ended(store, saga, text, {text: ODD})).results == {"a": {text: ODD}}
                 with pytest.raises(sagas.KeyConflict):
@@ -1266,13 +1266,13 @@ def test_texts_are_no_statements(place: str, caplog: pytest.LogCaptureFixture) -
             assert [one.key for one in await store.list(phase="resolved")] == ["must"]
 
     run(main())
-    assert set(records.read(place).sagas) == {*TEXTS, "hazy", "must"}
+    assert set(records.read(location).sagas) == {*TEXTS, "hazy", "must"}
 
 
 # -- reads
 
 
-def test_questions(place: str) -> None:
+def test_questions(location: str) -> None:
     """get, list, stuck, resolve, log, audit and draw."""
     good, bad = row(), sagas.Saga("must")
 
@@ -1281,7 +1281,7 @@ def test_questions(place: str) -> None:
         raise sagas.Fail("never")
 
     async def main() -> None:
-        async with sagas.open(place, [good, bad]) as store:
+        async with sagas.open(location, [good, bad]) as store:
             for number in range(5):
                 await ended(store, good, f"g{number}", "fails" if number == 1 else None)
             end = await ended(store, bad, "b")
@@ -1297,9 +1297,9 @@ def test_questions(place: str) -> None:
             page = await store.list(limit=2)
             assert [one.key for one in await store.list(limit=2, after=page[-1].id)] == ["g2", "g3"]
             wrong: list[Any] = [{"after": "g1"}, {"limit": "all"}, {"limit": 0}, {"phase": "over"}]
-            for words in wrong:
-                with pytest.raises((TypeError, ValueError), match=f"{[*words][0]}="):
-                    await store.list(**words)
+            for options in wrong:
+                with pytest.raises((TypeError, ValueError), match=f"{[*options][0]}="):
+                    await store.list(**options)
             assert [one.key for one in await store.stuck()] == ["b"]
             for note in ("", " ", None):
                 with pytest.raises((TypeError, ValueError), match="what was done about it"):
@@ -1310,11 +1310,11 @@ def test_questions(place: str) -> None:
             (resolved,) = await store.list(phase="resolved")
             assert await store.stuck() == [] and resolved.note == "seen to"
             events = await store.log("g1")
-            words = [event.event for event in events]
+            options = [event.event for event in events]
             assert (
-                words[:2] == ["open", "start_run"]
-                and words.count("undone") == 2
-                and "adopt" in words
+                options[:2] == ["open", "start_run"]
+                and options.count("undone") == 2
+                and "adopt" in options
             )
             assert [event.value for event in events if event.event == "commit"] == ["A", "AB"]
             assert all(0 <= time.time() - event.at < 60 for event in events)
@@ -1324,25 +1324,25 @@ def test_questions(place: str) -> None:
     run(main())
 
 
-def test_events_and_logging(place: str, caplog: pytest.LogCaptureFixture) -> None:
+def test_events_and_logging(location: str, caplog: pytest.LogCaptureFixture) -> None:
     """Hooks for metrics and traces, and structured logging under `sagas`; a hook that raises stops
     no saga.
     """
-    told: list[sagas.Event] = []
+    events: list[sagas.Event] = []
 
     def hook(event: sagas.Event) -> None:
-        told.append(event)
+        events.append(event)
         raise RuntimeError("the metrics are down")
 
     saga = row()
 
     async def main() -> None:
-        async with sagas.open(place, [saga], on_event=hook) as store:
+        async with sagas.open(location, [saga], on_event=hook) as store:
             await ended(store, saga, given="fails")
 
     with caplog.at_level(logging.INFO, "sagas"):
         run(main())
-    names = Counter(event.name for event in told)
+    names = Counter(event.name for event in events)
     assert (
         names["saga_started"]
         == names["saga_ended"]
@@ -1353,7 +1353,7 @@ def test_events_and_logging(place: str, caplog: pytest.LogCaptureFixture) -> Non
     assert names["step_started"] == 5 and names["step_succeeded"] == 4
     assert all(
         (event.seconds is not None) == (event.name in ("step_succeeded", "step_failed"))
-        for event in told
+        for event in events
     )
     kept = [
         record
@@ -1364,9 +1364,9 @@ def test_events_and_logging(place: str, caplog: pytest.LogCaptureFixture) -> Non
 
 
 @pytest.mark.parametrize("how", ["refused", "late", "for good"])
-def test_a_final_failure_is_told_once(place: str, how: str) -> None:
+def test_a_final_failure_is_told_once(location: str, how: str) -> None:
     """It is `step_failed`, though the step had tries left; these are not reported."""
-    told: list[tuple[str, str | None]] = []
+    events: list[tuple[str, str | None]] = []
     saga = sagas.Saga("signed")
 
     if how == "for good":
@@ -1383,10 +1383,10 @@ def test_a_final_failure_is_told_once(place: str, how: str) -> None:
 
     def hook(event: sagas.Event) -> None:
         if event.name in ("step_retrying", "step_failed", "step_succeeded"):
-            told.append((event.name, event.detail))
+            events.append((event.name, event.detail))
 
     async def main() -> None:
-        async with sagas.open(place, [saga], on_event=hook) as store:
+        async with sagas.open(location, [saga], on_event=hook) as store:
             run = await store.start(saga, "k")
             if how == "refused":
                 while not await store.waits_for("k"):
@@ -1395,7 +1395,7 @@ def test_a_final_failure_is_told_once(place: str, how: str) -> None:
             assert (await run.wait()).states == {"sign": "failed"}
 
     run(main())
-    assert told == [
+    assert events == [
         (
             "step_failed",
             {
@@ -1407,7 +1407,7 @@ def test_a_final_failure_is_told_once(place: str, how: str) -> None:
     ]
 
 
-def test_a_log_line_is_one_line(place: str, caplog: pytest.LogCaptureFixture) -> None:
+def test_a_log_line_is_one_line(location: str, caplog: pytest.LogCaptureFixture) -> None:
     """Keys and details are quoted unless they are one plain word; line ends in them are escaped."""
 
     def fails(task: Task) -> None:
@@ -1416,7 +1416,7 @@ def test_a_log_line_is_one_line(place: str, caplog: pytest.LogCaptureFixture) ->
     saga = simple(fails)
 
     async def main() -> None:
-        async with sagas.open(place, [saga]) as store:
+        async with sagas.open(location, [saga]) as store:
             await ended(store, saga, "order/2026 ü")
             await ended(store, saga, "order-1")
 
@@ -1429,10 +1429,10 @@ def test_a_log_line_is_one_line(place: str, caplog: pytest.LogCaptureFixture) ->
     ]
 
 
-def test_without_async(place: str) -> None:
+def test_without_async(location: str) -> None:
     """`open_sync`: a thread has the loop."""
     saga = row()
-    with sagas.open_sync(place, [saga]) as store:
+    with sagas.open_sync(location, [saga]) as store:
         assert store.start(saga, key="good").wait(30).ok and not store.start(saga, key="good").new
         assert store.start(saga, key="bad", input="fails").wait(30).states["a"] == "undone"
         ends: list[sagas.SagaResult] = []
@@ -1448,12 +1448,12 @@ def test_without_async(place: str) -> None:
         assert [one.key for one in store.list()] == ["good", "bad", "one"] and store.get(
             "none"
         ) is None
-        assert all(said.startswith("yes") for said in store.audit().values())
+        assert all(verdict.startswith("yes") for verdict in store.audit().values())
     with pytest.raises(sagas.Closed):
         store.start(saga, key="late")
 
 
-def test_who_waits_too_long(place: str) -> None:
+def test_who_waits_too_long(location: str) -> None:
     """The error says what the saga waits for, as far as this program knows."""
     saga, gate = sagas.Saga("signed"), threading.Event()
 
@@ -1465,7 +1465,7 @@ def test_who_waits_too_long(place: str) -> None:
     def sign(task: Task) -> None:
         ...
 
-    with sagas.open_sync(place, [saga]) as store:
+    with sagas.open_sync(location, [saga]) as store:
         run = store.start(saga, "k")
         hears(lambda: run.wait(0.01), "'k' is still open after 0.01 s: send runs")
         gate.set()
@@ -1479,7 +1479,7 @@ def test_who_waits_too_long(place: str) -> None:
         assert run.wait(60).ok
 
     async def main() -> None:
-        async with sagas.open(place, [saga]) as store:
+        async with sagas.open(location, [saga]) as store:
             one = await store.start(saga, "two")
             with pytest.raises(TimeoutError, match="'two' is still open after 0.01 s"):
                 await one.wait(timeout=0.01)
@@ -1532,14 +1532,14 @@ def test_a_step_calls_a_store_without_async(tmp_path: pathlib.Path) -> None:
         )
 
 
-def held(place: str) -> list[tuple[Any, ...]]:
+def held(location: str) -> list[tuple[Any, ...]]:
     """Return what a store keeps of attempts that are held."""
-    with contextlib.closing(admin.connect(place)) as link:
+    with contextlib.closing(admin.connect(location)) as link:
         return link.ask("SELECT id, step, action, number, reason FROM suspensions")
 
 
 @pytest.mark.parametrize("reopened", [False, True])
-def test_nothing_is_kept_of_a_wait_behind_its_sagas_end(place: str, reopened: bool) -> None:
+def test_nothing_is_kept_of_a_wait_behind_its_sagas_end(location: str, reopened: bool) -> None:
     """A wait's function raises as another step fails permanently: it is not retried, and its time,
     which was kept for that try, is deleted with the saga's end.
     """
@@ -1563,20 +1563,20 @@ def test_nothing_is_kept_of_a_wait_behind_its_sagas_end(place: str, reopened: bo
 
     async def main() -> None:
         if reopened:
-            async with sagas.open(place, [saga], shutdown_timeout=0.0) as store:
+            async with sagas.open(location, [saga], shutdown_timeout=0.0) as store:
                 await store.start(saga, "k")
                 await until(lambda: len(inside) == 2)
             inside.clear()
-        async with sagas.open(place, [saga]) as store:
+        async with sagas.open(location, [saga]) as store:
             run = await store.start(saga, "k")
             await until(lambda: len(inside) == 2)
-            assert held(place)
+            assert held(location)
             gate.set()
             end = await run.wait()
             assert end.states == {"late": "waiting", "bad": "failed"}
 
     run(main())
-    assert held(place) == []
+    assert held(location) == []
 
 
 def test_callers_that_gave_up_are_not_kept(tmp_path: pathlib.Path) -> None:
@@ -1601,22 +1601,22 @@ def test_callers_that_gave_up_are_not_kept(tmp_path: pathlib.Path) -> None:
     run(main())
 
 
-def test_keys_that_are_no_texts(place: str) -> None:
+def test_keys_that_are_no_texts(location: str) -> None:
     """No saga has one; a caller with another key, at the same moment or later, is not affected."""
     kind, wrong = simple(lambda task: 1), [42, None, b"k", 1.5]
 
     async def main() -> None:
-        async with sagas.open(place, [kind]) as store:
+        async with sagas.open(location, [kind]) as store:
             assert (await ended(store, kind)).ok
             async with asyncio.timeout(60):
-                found = await asyncio.gather(*(store.get(key) for key in [*wrong, "k", "other"]))  # type: ignore[arg-type]
-                assert [one is not None for one in found] == [False] * 4 + [True, False]
+                results = await asyncio.gather(*(store.get(key) for key in [*wrong, "k", "other"]))  # type: ignore[arg-type]
+                assert [one is not None for one in results] == [False] * 4 + [True, False]
                 for call in (store.wait, store.abort, store.log):
                     with pytest.raises(sagas.NoSuchSaga, match="no saga has the key 42"):
                         await call(42)  # type: ignore[arg-type]
                 assert (await store.wait("k")).ok
-        if place.startswith("postgresql"):
-            async with sagas.Client(place) as client:
+        if location.startswith("postgresql"):
+            async with sagas.Client(location) as client:
                 assert await client.get(42) is None  # type: ignore[arg-type]
                 with pytest.raises(sagas.NoSuchSaga, match="no saga has the key 42"):
                     await client.wait(42)  # type: ignore[arg-type]

@@ -236,7 +236,7 @@ FORMS = r"must be a number of attempts \(1\), a list of attempts"
 
 
 @pytest.mark.parametrize(
-    "words, kind, text",
+    "script, kind, text",
     [
         ({"fail": {"boat": 1}}, KeyError, "no step 'boat'"),
         ({"fail": {"hotle": 1}}, KeyError, "no step 'hotle'; did you mean 'hotel'"),
@@ -265,10 +265,10 @@ FORMS = r"must be a number of attempts \(1\), a list of attempts"
         ({"abort": "boat"}, KeyError, "no step 'boat'"),
     ],
 )
-def test_a_script_that_is_none(words: dict[str, Any], kind: type[Exception], text: str) -> None:
+def test_a_script_that_is_none(script: dict[str, Any], kind: type[Exception], text: str) -> None:
     """A script without a meaning is an error of the test, by its name."""
     with pytest.raises(kind, match=text):
-        run(trip(), "LH400", **words)
+        run(trip(), "LH400", **script)
 
 
 def test_all_attempts_by_a_number() -> None:
@@ -286,10 +286,10 @@ def test_what_fails_to_be_undone_by_doing_nothing() -> None:
         run("trip")  # type: ignore[arg-type]
 
 
-def one(function: Any, **words: Any) -> sagas.Saga:
+def one(function: Any, **options: Any) -> sagas.Saga:
     """Return a saga of one step."""
     saga = sagas.Saga("one")
-    saga.step(name="a", **words)(function)
+    saga.step(name="a", **options)(function)
     return saga
 
 
@@ -345,8 +345,8 @@ def test_a_transaction() -> None:
 def test_a_wait_until_something_else(until: datetime.datetime) -> None:
     """The step fails, as in a store."""
     saga = sagas.Saga("late")
-    told: Callable[[sagas.Task[Any]], datetime.datetime] = lambda task: until
-    saga.wait(until=told, name="wait")(lambda task: None)
+    until_time: Callable[[sagas.Task[Any]], datetime.datetime] = lambda task: until
+    saga.wait(until=until_time, name="wait")(lambda task: None)
     error = run(saga).errors["wait"]
     assert error.startswith("TypeError: until returned ")
     assert "it must be a timedelta or a datetime with a time zone" in error

@@ -49,13 +49,13 @@ def without(monkeypatch: pytest.MonkeyPatch) -> None:
 
 def span_of(api: Any, name: str) -> Any:
     """Return the span of this name."""
-    (found,) = [span for span in api.ENDED if span.name == name]
-    return found
+    (matched,) = [span for span in api.ENDED if span.name == name]
+    return matched
 
 
 def context_of(span: Any) -> str:
-    told = span.get_span_context()
-    return f"00-{told.trace_id:032x}-{told.span_id:016x}-{int(told.trace_flags):02x}"
+    context = span.get_span_context()
+    return f"00-{context.trace_id:032x}-{context.span_id:016x}-{int(context.trace_flags):02x}"
 
 
 # -- the standard
@@ -98,18 +98,18 @@ def test_a_header_is_read_as_the_standard_has_it(text: str, read: str | None) ->
 # -- without the API
 
 
-def hearing(heard: list[str | None], **words: Any) -> sagas.Saga:
+def hearing(heard: list[str | None], **options: Any) -> sagas.Saga:
     """Return a saga whose step returns the context that it got."""
     saga = sagas.Saga("one")
 
-    @saga.step(**words)
+    @saga.step(**options)
     async def a(task: Task) -> None:
         heard.append(task.traceparent)
 
     return saga
 
 
-def test_without_the_api_a_context_is_kept(place: str, without: None) -> None:
+def test_without_the_api_a_context_is_kept(location: str, without: None) -> None:
     """Functions get it; of a repeated start the first one counts; an invalid one is refused before
     anything is written.
     """
@@ -118,7 +118,7 @@ def test_without_the_api_a_context_is_kept(place: str, without: None) -> None:
 
     async def main() -> None:
         assert tracing.tracer() is None
-        async with sagas.open(place, [saga]) as store:
+        async with sagas.open(location, [saga]) as store:
             for key, given in (("with", GIVEN), ("without", None)):
                 await (await store.start(saga, key, traceparent=given)).wait(60)
             again = await store.start(saga, "with", traceparent=GIVEN.replace(PARENT, "1" * 16))
@@ -132,18 +132,18 @@ def test_without_the_api_a_context_is_kept(place: str, without: None) -> None:
     assert heard == [GIVEN, None]
 
 
-def test_a_context_outlives_the_program(place: str, without: None) -> None:
+def test_a_context_outlives_the_program(location: str, without: None) -> None:
     """Another program that continues the saga has it from the store."""
     heard: list[str | None] = []
     saga = sagas.Saga("later")
-    asked = saga.approval(name="asked")(lambda task: None)
-    saga.step(name="a", needs=[asked])(lambda task: heard.append(task.traceparent))
+    review = saga.approval(name="asked")(lambda task: None)
+    saga.step(name="a", needs=[review])(lambda task: heard.append(task.traceparent))
 
     async def main() -> None:
-        async with sagas.open(place, [saga]) as store:
+        async with sagas.open(location, [saga]) as store:
             await store.start(saga, "k", traceparent=GIVEN)
         heard.append("the second program")
-        async with sagas.open(place, [saga]) as store:
+        async with sagas.open(location, [saga]) as store:
             await store.complete("k", "asked")
             await store.wait("k", 60)
 
@@ -151,14 +151,14 @@ def test_a_context_outlives_the_program(place: str, without: None) -> None:
     assert heard == ["the second program", GIVEN]
 
 
-def test_a_child_is_in_the_trace_of_its_parent(place: str, without: None) -> None:
+def test_a_child_is_in_the_trace_of_its_parent(location: str, without: None) -> None:
     heard: list[str | None] = []
     child = hearing(heard)
     saga = sagas.Saga("parent")
     saga.child(child, name="below", input=lambda task: None)
 
     async def main() -> None:
-        async with sagas.open(place, [saga, child]) as store:
+        async with sagas.open(location, [saga, child]) as store:
             await (await store.start(saga, "k", traceparent=GIVEN)).wait(60)
 
     run(main())
@@ -228,7 +228,7 @@ def trip(seen: list[tuple[str, str | None]], api: Any) -> sagas.Saga:
     return trip
 
 
-def test_each_attempt_has_a_span(place: str, api: Any) -> None:
+def test_each_attempt_has_a_span(location: str, api: Any) -> None:
     """It is in the trace of the caller that started the saga, current while the function runs: in
     the loop, in a thread, and in what it awaits.
     """
@@ -236,14 +236,14 @@ def test_each_attempt_has_a_span(place: str, api: Any) -> None:
     saga = trip(seen, api)
 
     async def main() -> None:
-        async with sagas.open(place, [saga]) as store:
+        async with sagas.open(location, [saga]) as store:
             with api.use_span(
                 api.NonRecordingSpan(
                     api.SpanContext(int(TRACE, 16), int(PARENT, 16), True, api.TraceFlags(1))
                 )
             ):
-                found = await store.start(saga, "k", {"to": "Rome"})
-            assert (await found.wait(60)).phase == "recovered"
+                run = await store.start(saga, "k", {"to": "Rome"})
+            assert (await run.wait(60)).phase == "recovered"
 
     run(main())
     spans = api.ENDED
@@ -258,11 +258,11 @@ def test_each_attempt_has_a_span(place: str, api: Any) -> None:
     assert seen == [(span.attributes["sagas.attempt_id"], context_of(span)) for span in spans]
     assert all(span.ends == 1 and context_of_parent(span) == GIVEN for span in spans)
     flight, first, second, tour, no_car, no_flight = spans
-    told = dict(flight.attributes)
-    assert told.pop("code.function.name").endswith("trip.<locals>.flight") and told.pop(
+    left = dict(flight.attributes)
+    assert left.pop("code.function.name").endswith("trip.<locals>.flight") and left.pop(
         "sagas.attempt_id"
     )
-    assert told == {
+    assert left == {
         "sagas.saga": "trip",
         "sagas.key": "k",
         "sagas.step": "flight",
@@ -312,7 +312,7 @@ def links_of(span: Any) -> list[str]:
     return [header_of(link.context) for link in span.links]
 
 
-def test_a_saga_that_nobody_traces(place: str, api: Any) -> None:
+def test_a_saga_that_nobody_traces(location: str, api: Any) -> None:
     """Its spans start their own traces, also if the store was opened within a span; a saga that a
     function starts is in the trace of that function.
     """
@@ -327,7 +327,7 @@ def test_a_saga_that_nobody_traces(place: str, api: Any) -> None:
 
     async def main() -> None:
         with api.use_span(api.NonRecordingSpan(api.SpanContext(1, 2, True, api.TraceFlags(1)))):
-            store = sagas.open(place, [outer, inner])
+            store = sagas.open(location, [outer, inner])
             await store.__aenter__()
         stores.append(store)
         try:
@@ -384,17 +384,17 @@ def test_programs_without_async(tmp_path: pathlib.Path, api: Any) -> None:
 
 
 def test_what_an_exporter_raises_does_not_reach_a_saga(
-    place: str, api: Any, monkeypatch: pytest.MonkeyPatch, caplog: pytest.LogCaptureFixture
+    location: str, api: Any, monkeypatch: pytest.MonkeyPatch, caplog: pytest.LogCaptureFixture
 ) -> None:
     """Neither when a span starts, nor when it ends; it is logged once."""
     seen: list[str | None] = []
     saga = hearing(seen)
 
-    def broken(*_: object, **words: object) -> None:
+    def broken(*_: object, **options: object) -> None:
         raise RuntimeError("no exporter")
 
     async def main() -> None:
-        async with sagas.open(place, [saga]) as store:
+        async with sagas.open(location, [saga]) as store:
             for where, name in ((api.Tracer, "start_span"), (api.Span, "end")):
                 with monkeypatch.context() as patch:
                     patch.setattr(where, name, broken)
@@ -411,7 +411,7 @@ def test_what_an_exporter_raises_does_not_reach_a_saga(
 
 
 def test_without_a_tracer_functions_are_called_in_a_row(
-    place: str, without: None, monkeypatch: pytest.MonkeyPatch
+    location: str, without: None, monkeypatch: pytest.MonkeyPatch
 ) -> None:
     """Without tracing no call is made in another way."""
     heard: list[str | None] = []
@@ -423,7 +423,7 @@ def test_without_a_tracer_functions_are_called_in_a_row(
     )
 
     async def main() -> None:
-        async with sagas.open(place, [saga]) as store:
+        async with sagas.open(location, [saga]) as store:
             await (await store.start(saga, "k", traceparent=GIVEN)).wait(60)
 
     run(main())
@@ -449,7 +449,7 @@ def service(tmp_path_factory: pytest.TempPathFactory, store: str | None) -> Iter
 def test_the_header_of_a_start_goes_to_workers(service: Served) -> None:
     """It is stored with the saga; an invalid or repeated one is ignored, and is not an error."""
     with service.client() as client:
-        for key, headers, told in (
+        for key, headers, header in (
             ("valid", [("traceparent", GIVEN)], GIVEN),
             ("none", [], None),
             ("wrong", [("traceparent", "00-1")], None),
@@ -460,7 +460,7 @@ def test_the_header_of_a_start_goes_to_workers(service: Served) -> None:
             )
             assert answer.status_code == 201
             (task,) = take(client, "one/a")
-            assert (task["key"], task["traceparent"]) == (key, told)
+            assert (task["key"], task["traceparent"]) == (key, header)
             client.post(
                 f"/v1/tasks/{task['attempt_id']}/fail",
                 json={"lease": task["lease"], "error": "no", "final": True},

@@ -108,7 +108,7 @@ def test_effect_and_result_are_one(url: str, in_thread: bool) -> None:
                 "book": "undone",
                 "check": "failed",
             }
-            assert all(said.startswith("yes") for said in (await store.audit()).values())
+            assert all(verdict.startswith("yes") for verdict in (await store.audit()).values())
 
     run(main())
     assert booked(url) == {
@@ -205,7 +205,7 @@ def test_texts_of_steps_inside_are_no_statements(
             else:
                 for text in TEXTS:
                     await each(text)
-            assert all(said.startswith("yes") for said in (await store.audit()).values())
+            assert all(verdict.startswith("yes") for verdict in (await store.audit()).values())
 
     run(main())
     assert booked(url) == {(f"{word}{text}", "book"): 1 for text in TEXTS for word in ("", "odd ")}
@@ -251,7 +251,7 @@ def test_a_step_of_a_lost_log_is_rolled_back(url: str) -> None:
                     == {"book": 1}
                     == (await second.wait("k")).results
                 )
-                assert all(said.startswith("yes") for said in (await second.audit()).values())
+                assert all(verdict.startswith("yes") for verdict in (await second.audit()).values())
 
     run(main())
     assert booked(url) == {("k", "book"): 1}
@@ -275,18 +275,20 @@ def test_nobody_takes_a_log_while_a_step_of_it_is_committed(url: str, in_thread:
 
     async def main() -> None:
         async with sagas.open(url, [kind]) as store:
-            with psycopg.connect(url) as stranger, psycopg.connect(url, autocommit=True) as eye:
-                eye.execute("INSERT INTO orders VALUES ('k')")
+            with psycopg.connect(url) as stranger, psycopg.connect(
+                url, autocommit=True
+            ) as observer:
+                observer.execute("INSERT INTO orders VALUES ('k')")
                 stranger.execute("SELECT 1 FROM orders FOR UPDATE")
                 going = await store.start(kind, "k")
                 await until(
-                    lambda: eye.execute(
+                    lambda: observer.execute(
                         "SELECT 1 FROM pg_stat_activity WHERE datname = current_database() AND"
                         " wait_event_type = 'Lock'"
                     ).fetchall()
                 )
                 assert (
-                    eye.execute("SELECT 1 FROM sagas.shards FOR UPDATE SKIP LOCKED").fetchall()
+                    observer.execute("SELECT 1 FROM sagas.shards FOR UPDATE SKIP LOCKED").fetchall()
                     == []
                 )
             assert (await going.wait()).ok
@@ -375,7 +377,7 @@ def test_a_kill_between_the_transaction_and_its_report(url: str, tmp_path: pathl
     async def main() -> None:
         async with sagas.open(url, [kind], node="killed") as store:
             assert (await store.wait("k")).results == {"book": "booked"}
-            assert all(said.startswith("yes") for said in (await store.audit()).values())
+            assert all(verdict.startswith("yes") for verdict in (await store.audit()).values())
 
     run(main())
     assert not calls and booked(url) == {("k", "book"): 1}
@@ -435,12 +437,12 @@ def test_what_the_server_refuses_is_a_miss(url: str, in_thread: bool) -> None:
                     await task.connection.execute("SELECT 1 / 0")
 
     async def main() -> None:
-        said: list[str] = []
+        details: list[str] = []
         async with sagas.open(
             url,
             [shop],
             on_event=lambda event: (
-                said.append(event.detail or "") if event.name == "step_retrying" else None
+                details.append(event.detail or "") if event.name == "step_retrying" else None
             ),
         ) as store:
             with psycopg.connect(url) as link:
@@ -449,7 +451,7 @@ def test_what_the_server_refuses_is_a_miss(url: str, in_thread: bool) -> None:
             assert (await asyncio.wait_for(run.wait(), 60)).ok
         assert [
             next(word for word in ("ForeignKey", "commit()", "InFailedSql") if word in one)
-            for one in said
+            for one in details
         ] == ["ForeignKey", "commit()", "InFailedSql"]
 
     run(main())
@@ -544,11 +546,13 @@ def test_a_transaction_that_is_over_before_its_step(url: str, in_thread: bool) -
             if calls[3] == 2:
                 link.pgconn.finish()
 
-    said: list[tuple[str, str]] = []
+    events: list[tuple[str, str]] = []
 
     async def main() -> None:
         async with sagas.open(
-            url, [kind, other], on_event=lambda event: said.append((event.name, event.detail or ""))
+            url,
+            [kind, other],
+            on_event=lambda event: events.append((event.name, event.detail or "")),
         ) as store:
             going = await store.start(kind, "k")
             for number in range(5):
@@ -557,9 +561,9 @@ def test_a_transaction_that_is_over_before_its_step(url: str, in_thread: bool) -
 
     run(main())
     assert calls == {1: 1, 2: 1, 3: 3} and booked(url) == {("k", "book"): 1}
-    told = [
+    details = [
         detail
-        for name, detail in said
+        for name, detail in events
         if name in ("step_retrying", "step_unknown", "commit_failed")
     ]
     assert [
@@ -574,7 +578,7 @@ def test_a_transaction_that_is_over_before_its_step(url: str, in_thread: bool) -
             )
             if word in f"{one}?"
         )
-        for one in told
+        for one in details
     ] == [
         "no statement of the function",
         "close()",
@@ -613,7 +617,7 @@ def test_a_first_statement_that_fails(url: str, in_thread: bool) -> None:
     it.
     """
     prepare(url)
-    text, said = "INSERT INTO book(key, step, token) VALUES(%s, 'book', %s)", []
+    text, states = "INSERT INTO book(key, step, token) VALUES(%s, 'book', %s)", []
     kind = sagas.Saga("one")
 
     if in_thread:
@@ -624,12 +628,12 @@ def test_a_first_statement_that_fails(url: str, in_thread: bool) -> None:
             if task.attempt == 1:
                 with pytest.raises(psycopg.ProgrammingError):
                     link.execute(text, (task.key,))
-                said.append(link.info.transaction_status.name)
+                states.append(link.info.transaction_status.name)
                 raise ValueError("again")
             if task.attempt == 2:
                 with pytest.raises(psycopg.errors.DivisionByZero):
                     link.execute("SELECT 1 / %s::int", (0,))
-                said.append(link.info.transaction_status.name)
+                states.append(link.info.transaction_status.name)
                 with pytest.raises(psycopg.errors.InFailedSqlTransaction):
                     link.execute(text, (task.key, "second"))
             if task.attempt == 3:
@@ -639,10 +643,10 @@ def test_a_first_statement_that_fails(url: str, in_thread: bool) -> None:
                         "SELECT set_config('statement_timeout', '20', true), %s::int", (1,)
                     )
                     link.execute("SELECT pg_sleep(%s)", (60,))
-                said.append(link.info.transaction_status.name)
+                states.append(link.info.transaction_status.name)
                 raise ValueError("again")
             if task.attempt == 4:
-                said.append(
+                states.append(
                     str(link.execute("SELECT %(a)s::int + %(b)s", {"a": 1, "b": 2}).fetchall())
                 )
                 link.execute(text, (task.key, "fourth"))
@@ -655,12 +659,12 @@ def test_a_first_statement_that_fails(url: str, in_thread: bool) -> None:
             if task.attempt == 1:
                 with pytest.raises(psycopg.ProgrammingError):
                     await link.execute(text, (task.key,))
-                said.append(link.info.transaction_status.name)
+                states.append(link.info.transaction_status.name)
                 raise ValueError("again")
             if task.attempt == 2:
                 with pytest.raises(psycopg.errors.DivisionByZero):
                     await link.execute("SELECT 1 / %s::int", (0,))
-                said.append(link.info.transaction_status.name)
+                states.append(link.info.transaction_status.name)
                 with pytest.raises(psycopg.errors.InFailedSqlTransaction):
                     await link.execute(text, (task.key, "second"))
             if task.attempt == 3:
@@ -669,10 +673,10 @@ def test_a_first_statement_that_fails(url: str, in_thread: bool) -> None:
                         "SELECT set_config('statement_timeout', '20', true), %s::int", (1,)
                     )
                     await link.execute("SELECT pg_sleep(%s)", (60,))
-                said.append(link.info.transaction_status.name)
+                states.append(link.info.transaction_status.name)
                 raise ValueError("again")
             if task.attempt == 4:
-                said.append(
+                states.append(
                     str(
                         await (
                             await link.execute("SELECT %(a)s::int + %(b)s", {"a": 1, "b": 2})
@@ -686,7 +690,7 @@ def test_a_first_statement_that_fails(url: str, in_thread: bool) -> None:
             assert (await asyncio.wait_for(ended(store, kind, "k"), 60)).ok
 
     run(main())
-    assert said == ["INTRANS", "INERROR", "INERROR", "[(3,)]"]
+    assert states == ["INTRANS", "INERROR", "INERROR", "[(3,)]"]
     assert booked(url) == {("k", "book"): 1}
 
 
@@ -1064,10 +1068,10 @@ def test_one_budget_for_both_kinds_of_functions(url: str, first: str) -> None:
         async with sagas.open(url, [*kinds.values()], concurrency=4) as store:
             for turn in range(6):
                 kind = kinds[first if turn % 2 else ({*kinds} - {first}).pop()]
-                ends = [ended(store, kind, f"{turn}, {place}") for place in range(12)]
+                ends = [ended(store, kind, f"{turn}, {number}") for number in range(12)]
                 assert all(end.ok for end in await asyncio.gather(*ends))
-            each = [(kind, place) for place in range(12) for kind in kinds.values()]
-            both = [ended(store, kind, f"{kind.name} {place}") for kind, place in each]
+            each = [(kind, number) for number in range(12) for kind in kinds.values()]
+            both = [ended(store, kind, f"{kind.name} {number}") for kind, number in each]
             assert all(end.ok for end in await asyncio.gather(*both))
 
     run(main())

@@ -33,7 +33,7 @@ Json = dict[str, Any]
 class Family:
     """A parent whose child is undone step by step: `c`, `b`, `a`, at a gate before each."""
 
-    def __init__(self, fails: bool = False, **words: Any) -> None:
+    def __init__(self, fails: bool = False, **options: Any) -> None:
         self.done, self.keys = list[str](), list[str]()
         self.child, self.top = sagas.Saga("child"), sagas.Saga("top")
         self.gate, self.is_broken = asyncio.Event(), fails
@@ -42,7 +42,7 @@ class Family:
             step = self.child.step(self._run, name=name, needs=before[-1:], keep=9)
             step.compensation(on_exhausted="fail")(self._undo)
             before.append(step)
-        self.kid = self.top.child(self.child, name="kid", input=lambda task: task.input, **words)
+        self.kid = self.top.child(self.child, name="kid", input=lambda task: task.input, **options)
         self.top.step(self._last, name="fin", needs=[self.kid])
         self.all = [self.top, self.child]
 
@@ -64,23 +64,25 @@ class Family:
     async def exhausted(self, store: sagas.Store, key: str = "t") -> sagas.Attention:
         """Return what needs an operator about the parent."""
 
-        async def asked() -> list[sagas.Attention]:
+        async def entries() -> list[sagas.Attention]:
             return [one for one in await store.attention() if one.key == key]
 
-        (found,) = await until(asked)
-        assert isinstance(found, sagas.Attention)
-        return found
+        (entry,) = await until(entries)
+        assert isinstance(entry, sagas.Attention)
+        return entry
 
 
-def test_what_undoes_a_child_is_not_aborted(place: str, capsys: pytest.CaptureFixture[str]) -> None:
+def test_what_undoes_a_child_is_not_aborted(
+    location: str, capsys: pytest.CaptureFixture[str]
+) -> None:
     """For its key the response has the reason; a command for many by a label leaves it out, and
     reports that. The undo continues to its end.
     """
-    world, shell = Family(), Shell(place, capsys)
+    world, shell = Family(), Shell(location, capsys)
 
     async def main() -> None:
-        async with sagas.open(place, world.all) as store:
-            found = await store.start(world.top, "t", labels={"customer": "7"})
+        async with sagas.open(location, world.all) as store:
+            started = await store.start(world.top, "t", labels={"customer": "7"})
             await until(lambda: world.done == ["c", "b"])
             with pytest.raises(
                 sagas.NotAbortable, match="'t/:kid:undo' undoes a child, so it is not aborted"
@@ -89,12 +91,12 @@ def test_what_undoes_a_child_is_not_aborted(place: str, capsys: pytest.CaptureFi
             assert world.child.name in [
                 one.saga for one in await store.list(labels={"customer": "7"})
             ]
-            words = ("abort", "--all", "--label", "customer=7")
+            arguments = ("abort", "--all", "--label", "customer=7")
             assert (
-                await asyncio.to_thread(shell, *words)
+                await asyncio.to_thread(shell, *arguments)
                 == "1 saga: --yes aborts it\n1 saga left out, because it undoes a child\n"
             )
-            assert await asyncio.to_thread(shell.json, *words) == {"count": 1, "undoing": 1}
+            assert await asyncio.to_thread(shell.json, *arguments) == {"count": 1, "undoing": 1}
             result = await store.abort_all(labels={"customer": "7"}, by="ann")
             assert (result.done, result.refused, result.waiting, result.undoing) == (
                 ["t"],
@@ -103,18 +105,18 @@ def test_what_undoes_a_child_is_not_aborted(place: str, capsys: pytest.CaptureFi
                 ["t/:kid:undo"],
             )
             assert (
-                await asyncio.to_thread(shell, *words, "--yes")
+                await asyncio.to_thread(shell, *arguments, "--yes")
                 == "t/:kid:undo: left out, because it undoes a child\n"
             )
-            asked = {
+            refusal = {
                 "key": "t/:kid:undo",
                 "asked": "abort",
                 "answer": "left out, because it undoes a child",
             }
-            assert await asyncio.to_thread(shell.json, *words, "--yes") == [asked]
+            assert await asyncio.to_thread(shell.json, *arguments, "--yes") == [refusal]
             assert await asyncio.to_thread(shell, "abort", "t/:kid:undo", status=1) == ""
             world.gate.set()
-            end = await found.wait(60)
+            end = await started.wait(60)
             assert end.aborted and end.states == {"kid": "undone", "fin": "failed"}
             undone = await store.wait("t/:kid:undo", 60)
             assert undone.ok and not undone.aborted and not await store.abort("t/:kid:undo")
@@ -131,7 +133,7 @@ def test_a_client_and_another_node_abort_none(url: str) -> None:
 
     async def main() -> None:
         async with sagas.open(url, world.all, node="one") as store, sagas.Client(url) as client:
-            found = await store.start(world.top, "t")
+            started = await store.start(world.top, "t")
             await until(lambda: world.done == ["c", "b"])
             async with sagas.open(url, world.all, node="two") as other:
                 for one in (client, other):
@@ -139,14 +141,14 @@ def test_a_client_and_another_node_abort_none(url: str) -> None:
                         await one.abort("t/:kid:undo")
             assert (await client.abort_all(saga="child-undo")).undoing == ["t/:kid:undo"]
             world.gate.set()
-            assert (await found.wait(60)).states["kid"] == "undone"
+            assert (await started.wait(60)).states["kid"] == "undone"
 
     run(main())
 
 
-@pytest.mark.parametrize("place", ["sqlite", "postgresql"], indirect=True)
+@pytest.mark.parametrize("location", ["sqlite", "postgresql"], indirect=True)
 @pytest.mark.parametrize("way", ["retry", "complete", "fail"])
-def test_an_undo_that_failed_waits_for_a_person(place: str, way: str) -> None:
+def test_an_undo_that_failed_waits_for_a_person(location: str, way: str) -> None:
     """It is treated as any compensation, also after a restart.
 
     A retry undoes what is left, in another saga.
@@ -155,14 +157,14 @@ def test_an_undo_that_failed_waits_for_a_person(place: str, way: str) -> None:
     world.gate.set()
 
     async def main() -> None:
-        async with sagas.open(place, world.all) as store:
+        async with sagas.open(location, world.all) as store:
             await store.start(world.top, "t")
-            found = await world.exhausted(store)
-            assert (found.why, found.step, found.undo) == ("exhausted", "kid", True)
+            entry = await world.exhausted(store)
+            assert (entry.why, entry.step, entry.undo) == ("exhausted", "kid", True)
             assert "'t/:kid:undo' has not completed: recovered. b: sagas.Fail: cannot" in str(
-                found.detail
+                entry.detail
             )
-        async with sagas.open(place, world.all) as store:
+        async with sagas.open(location, world.all) as store:
             run_again = await store.get("t")
             assert run_again is not None
             if way == "retry":
@@ -186,13 +188,13 @@ def test_an_undo_that_failed_waits_for_a_person(place: str, way: str) -> None:
     assert len({*world.keys}) == len({*world.done})  # one idempotency key per step, over all sagas
 
 
-def test_nobody_is_asked_if_so_declared(place: str) -> None:
+def test_nobody_is_asked_if_so_declared(location: str) -> None:
     """Then the rest of the child stays."""
     world = Family(fails=True, undo_on_exhausted="fail")
     world.gate.set()
 
     async def main() -> None:
-        async with sagas.open(place, world.all) as store:
+        async with sagas.open(location, world.all) as store:
             end = await (await store.start(world.top, "t")).wait(60)
             assert end.states["kid"] == "undo_failed"
 
@@ -203,7 +205,7 @@ def test_nobody_is_asked_if_so_declared(place: str) -> None:
         sagas.Saga("x").child(world.child, input=lambda task: 1, undo_on_exhausted="retry")  # type: ignore[call-overload]
 
 
-def test_what_is_undone_of_a_grandchild_stays_undone(place: str) -> None:
+def test_what_is_undone_of_a_grandchild_stays_undone(location: str) -> None:
     """The saga that undoes it is retried by itself, or as a part of its parent's."""
     calls, broken = list[str](), [True]
     low, mid, top = (sagas.Saga(name) for name in ("low", "mid", "top"))
@@ -226,21 +228,21 @@ def test_what_is_undone_of_a_grandchild_stays_undone(place: str) -> None:
     top.step(last, name="fin", needs=[kid])
 
     async def main() -> None:
-        async with sagas.open(place, [top, mid, low]) as store:
-            found = await store.start(top, "t")
+        async with sagas.open(location, [top, mid, low]) as store:
+            started = await store.start(top, "t")
 
-            async def asked() -> list[str]:
+            async def exhausted_keys() -> list[str]:
                 return [one.key for one in await store.attention()]
 
-            await until(asked)
-            assert await asked() == ["t/:kid:undo"]
+            await until(exhausted_keys)
+            assert await exhausted_keys() == ["t/:kid:undo"]
             with pytest.raises(sagas.NotAbortable):
                 await store.abort("t/:kid:undo")
             await store.fail("t/:kid:undo", "below", "not now")
-            await until(lambda: is_list(asked, ["t"]))
+            await until(lambda: is_list(exhausted_keys, ["t"]))
             broken.clear()
             await store.retry("t", "kid", undo=True)
-            assert (await found.wait(60)).states == {"kid": "undone", "fin": "failed"}
+            assert (await started.wait(60)).states == {"kid": "undone", "fin": "failed"}
             keys = {one.key for one in await store.list()}
             assert {"t/:kid:undo/:below", "t/:kid:undo/2", "t/:kid:undo/2/:below"} <= keys
 
@@ -249,7 +251,7 @@ def test_what_is_undone_of_a_grandchild_stays_undone(place: str) -> None:
     assert calls == [f"y {low_key}", f"x {low_key}", f"x {low_key}"]
 
 
-def test_what_others_undid_is_not_asked_again(place: str) -> None:
+def test_what_others_undid_is_not_asked_again(location: str) -> None:
     """An external compensation is reported once, and not again in the next saga; with a
     codec, too.
     """
@@ -272,8 +274,8 @@ def test_what_others_undid_is_not_asked_again(place: str) -> None:
     top.step(last, name="fin", needs=[kid])
 
     async def main() -> None:
-        async with sagas.open(place, [top, child], codec=Backwards()) as store:
-            found = await store.start(top, "t", "y" * 5000)
+        async with sagas.open(location, [top, child], codec=Backwards()) as store:
+            started = await store.start(top, "t", "y" * 5000)
             await until(lambda: store.get("t/:kid:undo"))
             await until(lambda: store.active_attempts("t/:kid:undo"))
             await store.complete("t/:kid:undo", "b")
@@ -282,7 +284,7 @@ def test_what_others_undid_is_not_asked_again(place: str) -> None:
             )
             broken.clear()
             await store.retry("t", "kid", undo=True)
-            assert (await found.wait(60)).states["kid"] == "undone"
+            assert (await started.wait(60)).states["kid"] == "undone"
             assert (await store.wait("t/:kid:undo/2", 60)).states == {
                 "b": "committed",
                 "a": "committed",
@@ -292,8 +294,8 @@ def test_what_others_undid_is_not_asked_again(place: str) -> None:
     assert calls == ["a", "a"]
 
 
-async def is_list(asked: Callable[[], Any], wanted: list[str]) -> bool:
-    return bool(await asked() == wanted)
+async def is_list(listing: Callable[[], Any], wanted: list[str]) -> bool:
+    return bool(await listing() == wanted)
 
 
 class Hand:
@@ -320,7 +322,7 @@ class Hand:
         if task.input == "fails":
             raise sagas.Fail("no")
 
-    async def asked(self, store: sagas.Store) -> sagas.Run:
+    async def started_and_waiting(self, store: sagas.Store) -> sagas.Run:
         found = await store.start(self.top, "t", "fails")
         await until(lambda: [one for one in store.active_attempts("t") if one.waits == "exhausted"])
         return found
@@ -354,18 +356,18 @@ WRONG: list[tuple[Any, str]] = [
 
 
 def test_a_child_step_is_completed_with_a_childs_result(
-    place: str, capsys: pytest.CaptureFixture[str]
+    location: str, capsys: pytest.CaptureFixture[str]
 ) -> None:
     """Anything else is refused, with nothing changed, by the store and by the command.
 
     Without a child there is nothing to undo.
     """
-    world, shell = Hand(), Shell(place, capsys)
+    world, shell = Hand(), Shell(location, capsys)
 
     async def main() -> None:
-        async with sagas.open(place, world.all) as store:
+        async with sagas.open(location, world.all) as store:
             good = await store.start(world.top, "good", "works")
-            found = await world.asked(store)
+            started = await world.started_and_waiting(store)
             for wrong, why in WRONG:
                 with pytest.raises(
                     sagas.InvalidResult, match=f"saga 't', step 'kid': {why}.*Nothing was stored"
@@ -373,17 +375,20 @@ def test_a_child_step_is_completed_with_a_childs_result(
                     await store.complete("t", world.kid, wrong, by="ann")
             with pytest.raises(sagas.InvalidResult):
                 await store.complete_all(result("good/:kid"))
-            words = ("complete", "t", "kid", "--result")
+            arguments = ("complete", "t", "kid", "--result")
             for wrong in (None, result("good/:kid")):
-                assert await asyncio.to_thread(shell, *words, json.dumps(wrong), status=1) == ""
+                assert await asyncio.to_thread(shell, *arguments, json.dumps(wrong), status=1) == ""
             assert [one.waits for one in store.active_attempts("t")] == ["exhausted"]
-            told = result(None)
-            assert await asyncio.to_thread(shell, *words, json.dumps(told)) == "t: kid succeeded\n"
-            await store.complete("t", world.kid, told)  # the same again
+            right = result(None)
+            assert (
+                await asyncio.to_thread(shell, *arguments, json.dumps(right))
+                == "t: kid succeeded\n"
+            )
+            await store.complete("t", world.kid, right)  # the same again
             with pytest.raises(sagas.ConflictingReport):
                 await store.complete("t", world.kid, result(None, results={}))
             await store.abort("t")
-            assert (await found.wait(60)).states["kid"] == "undone"
+            assert (await started.wait(60)).states["kid"] == "undone"
             assert await store.get("t/:kid:undo") is None
             await store.complete("good", "sign")
             assert (await good.wait(60)).ok
@@ -392,20 +397,20 @@ def test_a_child_step_is_completed_with_a_childs_result(
     assert world.undone == ["gone t/:kid"]  # by the child itself
 
 
-def test_what_is_left_of_its_own_child_is_undone(place: str) -> None:
+def test_what_is_left_of_its_own_child_is_undone(location: str) -> None:
     """This holds also after a restart; steps that the child has undone are not undone again."""
     world = Hand()
 
     async def main() -> None:
-        async with sagas.open(place, world.all) as store:
-            await world.asked(store)
+        async with sagas.open(location, world.all) as store:
+            await world.started_and_waiting(store)
             await store.retry("t", "kid")
             await until(lambda: store.get("t/:kid/2"))
             await until(
                 lambda: [one for one in store.active_attempts("t") if one.waits == "exhausted"]
             )
             await store.complete("t", "kid", result("t/:kid"))
-        async with sagas.open(place, world.all) as store:
+        async with sagas.open(location, world.all) as store:
             await store.abort("t")
             assert (await store.wait("t", 60)).states["kid"] == "undone"
             assert (await store.wait("t/:kid:undo", 60)).ok
@@ -415,29 +420,29 @@ def test_what_is_left_of_its_own_child_is_undone(place: str) -> None:
 
 
 def test_a_wrong_result_of_before_waits_for_a_person(
-    place: str, monkeypatch: pytest.MonkeyPatch
+    location: str, monkeypatch: pytest.MonkeyPatch
 ) -> None:
     """It undoes no other saga's child, and nothing hangs."""
     world = Hand()
-    monkeypatch.setattr(child_results, "check", lambda *words: None)
+    monkeypatch.setattr(child_results, "check", lambda *arguments: None)
 
     async def main() -> None:
-        async with sagas.open(place, world.all) as store:
-            found = await world.asked(store)
+        async with sagas.open(location, world.all) as store:
+            started = await world.started_and_waiting(store)
             await store.complete("t", "kid", result("nonsense"))
             await store.abort("t")
 
-            async def asked() -> list[sagas.Attention]:
+            async def entries() -> list[sagas.Attention]:
                 return await store.attention()
 
-            (one,) = await until(asked)
+            (one,) = await until(entries)
             assert (one.key, one.step, one.undo) == (
                 "t",
                 "kid",
                 True,
             ) and "no key of a child" in str(one.detail)
             await store.complete("t", "kid", undo=True)
-            assert (await found.wait(60)).states["kid"] == "undone"
+            assert (await started.wait(60)).states["kid"] == "undone"
 
     run(main())
     assert world.undone == ["gone t/:kid"]
@@ -471,7 +476,7 @@ class Account:
     number: str
 
 
-def test_what_an_undo_has_of_its_child(place: str) -> None:
+def test_what_an_undo_has_of_its_child(location: str) -> None:
     """It has labels, the tenant, and the concurrency of its steps, whose calls are counted with
     those that undo them.
     """
@@ -498,8 +503,8 @@ def test_what_an_undo_has_of_its_child(place: str) -> None:
     top.step(last, name="fin", needs=[kid])
 
     async def main() -> None:
-        async with sagas.open(place, [top, child]) as store:
-            found = [
+        async with sagas.open(location, [top, child]) as store:
+            undone_sagas = [
                 await store.start(top, key, number, labels={"of": number})
                 for key, number in (("s", "7"), ("t", "7"), ("u", "8"))
             ]
@@ -518,7 +523,7 @@ def test_what_an_undo_has_of_its_child(place: str) -> None:
             assert tenants == {"s/:kid:undo": '"7"', "t/:kid:undo": '"7"', "u/:kid:undo": '"8"'}
             assert await store.count(saga="child-undo", labels={"of": "7"}) == 2
             gate.set()
-            for one in found:
+            for one in undone_sagas:
                 assert (await one.wait(60)).states["kid"] == "undone"
 
     run(main())
@@ -606,7 +611,7 @@ def test_over_http(tmp_path: pathlib.Path) -> None:
     every = token(tmp_path, "every", "operator")
     leafy = token(tmp_path, "leafy", "operator", "--definition", "leaf")
     other = token(tmp_path, "other", "operator", "--definition", "plain")
-    words = (
+    options = (
         "--app",
         "app:store",
         "--token-file",
@@ -616,7 +621,7 @@ def test_over_http(tmp_path: pathlib.Path) -> None:
         "--local-webhooks",
     )
     path = f"/v1/sagas/{quote(undo, safe='')}"
-    with served(tmp_path, {"one.toml": ONE}, *words) as service, service.client(every) as client:
+    with served(tmp_path, {"one.toml": ONE}, *options) as service, service.client(every) as client:
         assert (
             start(client, "top", "t").status_code == start(client, "hand", "h").status_code == 201
         )
@@ -722,17 +727,17 @@ def test_over_http(tmp_path: pathlib.Path) -> None:
             assert client.get("/v1/sagas/t/wait").json()["phase"] == "recovered"
 
 
-def test_archives_hold_parents_and_deadlines(place: str, tmp_path: pathlib.Path) -> None:
+def test_archives_hold_parents_and_deadlines(location: str, tmp_path: pathlib.Path) -> None:
     """Of each saga: null if there is none."""
     world = Family()
     world.gate.set()
 
     async def main() -> None:
-        async with sagas.open(place, world.all) as store:
+        async with sagas.open(location, world.all) as store:
             await (await store.start(world.top, "t", deadline=3600)).wait(60)
 
     run(main())
-    with admin.writing(place) as link:
+    with admin.writing(location) as link:
         shards = [shard for shard, in link.ask("SELECT shard FROM shards")]
         folders = [archive.write(link, shard, tmp_path / "archive") for shard in shards]
     lines = [
@@ -741,15 +746,15 @@ def test_archives_hold_parents_and_deadlines(place: str, tmp_path: pathlib.Path)
         if folder
         for line in (folder / "sagas.jsonl").read_text().splitlines()
     ]
-    told = {row["key"]: row for row in map(json.loads, lines)}
-    assert {key: row["parent"] for key, row in told.items()} == {
+    entries = {row["key"]: row for row in map(json.loads, lines)}
+    assert {key: row["parent"] for key, row in entries.items()} == {
         "t": None,
         "t/:kid": "t",
         "t/:kid:undo": "t",
     }
     assert (
-        told["t"]["deadline"] == told["t/:kid"]["deadline"] > told["t"]["started"]
-        and told["t/:kid:undo"]["deadline"] is None
+        entries["t"]["deadline"] == entries["t/:kid"]["deadline"] > entries["t"]["started"]
+        and entries["t/:kid:undo"]["deadline"] is None
     )
 
 
@@ -763,14 +768,14 @@ def test_in_a_simulation() -> None:
     kid = top.child(child, name="kid", input=lambda task: 1, on_exhausted="ask", keep=9)
     last = top.step(lambda task: None, name="fin", needs=[kid])
     for answers, state in (({}, "undo_failed"), ({kid: None}, "undone")):
-        found = sagas.testing.run(
+        trial = sagas.testing.run(
             top, fail={last: sagas.Fail("no")}, fail_undo={step: 1}, answers=answers
         )
-        assert found.states["kid"] == state
-    found = sagas.testing.run(top, fail={kid: 1, last: 1}, answers={kid: result(None)})
-    assert found.states["kid"] == "undone" and not found.children
+        assert trial.states["kid"] == state
+    trial = sagas.testing.run(top, fail={kid: 1, last: 1}, answers={kid: result(None)})
+    assert trial.states["kid"] == "undone" and not trial.children
     world = Hand()
-    found = sagas.testing.run(
+    trial = sagas.testing.run(
         world.top, "fails", answers={world.kid: result("test/:kid"), "sign": sagas.Fail("no")}
     )
-    assert found.states["kid"] == "undone" and world.undone == ["gone test/:kid", "first test/:kid"]
+    assert trial.states["kid"] == "undone" and world.undone == ["gone test/:kid", "first test/:kid"]

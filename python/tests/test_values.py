@@ -69,8 +69,8 @@ class Model:
         return {"word": self.word, "mode": mode}
 
     @classmethod
-    def model_validate(cls, told: dict[str, str]) -> Model:
-        return cls(told["word"])
+    def model_validate(cls, fields: dict[str, str]) -> Model:
+        return cls(fields["word"])
 
 
 class OldModel:
@@ -85,8 +85,8 @@ class OldModel:
         return json.dumps({"word": self.word})
 
     @classmethod
-    def parse_obj(cls, told: dict[str, str]) -> OldModel:
-        return cls(told["word"])
+    def parse_obj(cls, fields: dict[str, str]) -> OldModel:
+        return cls(fields["word"])
 
 
 class Pair(NamedTuple):
@@ -292,7 +292,7 @@ def test_a_union_of_classes(hint: Any) -> None:
     assert serialization.read('{"number":"7","gone":1}', decoders.decoder(hint)).number == "7"
 
 
-def test_another_input_of_a_union_is_another_start(place: str) -> None:
+def test_another_input_of_a_union_is_another_start(location: str) -> None:
     """This holds also if another class of the union would read it."""
 
     def pay(task: sagas.Task[Union[Card, Voucher]]) -> int:
@@ -302,7 +302,7 @@ def test_another_input_of_a_union_is_another_start(place: str) -> None:
     kind = simple(pay)
 
     async def main() -> None:
-        async with sagas.open(place, [kind]) as store:
+        async with sagas.open(location, [kind]) as store:
             assert (await (await store.start(kind, "k", Voucher("7", 10))).wait(60)).results == {
                 "a": 10
             }

@@ -24,34 +24,34 @@ from sagas.storage.postgresql import connections
 
 
 def test_a_program_that_is_older_than_the_tables(
-    place: str, capsys: pytest.CaptureFixture[str]
+    location: str, capsys: pytest.CaptureFixture[str]
 ) -> None:
     """It refuses by name and changes nothing; so does the command."""
     saga = simple(lambda task: 7)
 
     async def main() -> None:
-        async with sagas.open(place, [saga]) as store:
+        async with sagas.open(location, [saga]) as store:
             assert (await ended(store, saga)).ok
-        if place.startswith("postgresql:"):
-            with psycopg.connect(place.replace("app@", "owner@")) as link:
+        if location.startswith("postgresql:"):
+            with psycopg.connect(location.replace("app@", "owner@")) as link:
                 link.execute("UPDATE sagas.store SET version = 99")
             with pytest.raises(sagas.StoreSchemaTooNew, match="99"):
-                async with sagas.Client(place):
+                async with sagas.Client(location):
                     pass
         else:
-            db = sqlite3.connect(place)
+            db = sqlite3.connect(location)
             db.execute("PRAGMA user_version = 99")
             db.close()
         with pytest.raises(sagas.StoreSchemaTooNew, match="99"):
-            async with sagas.open(place, [saga]):
+            async with sagas.open(location, [saga]):
                 pass
 
     run(main())
     assert (
-        store_command.main([place, "list"]) == 4
+        store_command.main([location, "list"]) == 4
         and "tables of version 99" in capsys.readouterr().err
     )
-    assert store_command.main([place, "migrate"]) == 4
+    assert store_command.main([location, "migrate"]) == 4
 
 
 def test_two_programs_migrate_at_once(url: str) -> None:
@@ -68,7 +68,7 @@ def test_two_programs_migrate_at_once(url: str) -> None:
     run(main())
 
 
-def asked(url: str) -> bool:
+def is_approval_pending(url: str) -> bool:
     """Return whether an approval is waited for."""
     with psycopg.connect(url) as link:
         return (
@@ -107,12 +107,12 @@ def test_least_rights(postgresql: Server, url: str, capsys: pytest.CaptureFixtur
         async with sagas.open(theirs, [saga, inside]) as store, sagas.Client(theirs) as client:
             assert (await ended(store, saga)).ok
             await store.start(inside, "i")
-            await until(lambda: asked(url))
+            await until(lambda: is_approval_pending(url))
             await client.complete("i", "b", "yes")
             assert (await store.wait("i")).results == {"a": 1, "b": "yes"}
             assert (await (await client.start(saga, "c")).wait()).ok
             assert await client.abort("c") is False
-            assert all(said.startswith("yes") for said in (await store.audit()).values())
+            assert all(verdict.startswith("yes") for verdict in (await store.audit()).values())
 
     run(refused())
     with pytest.raises(
@@ -175,13 +175,13 @@ def test_what_is_no_store(name: str, why: str, capsys: pytest.CaptureFixture[str
         async with sagas.open(name, [simple(lambda task: 1)]):
             pass
 
-    with pytest.raises(sagas.InvalidStore, match=why) as told:
+    with pytest.raises(sagas.InvalidStore, match=why) as error:
         run(main())
     with pytest.raises(sagas.InvalidStore) as client:
         sagas.SyncClient(name)
     assert store_command.main([name, "list"]) == 4 and store_command.main([name, "nodes"]) in (2, 4)
-    for said in (str(told.value), str(client.value), capsys.readouterr().err):
-        assert "postgresql://user@host/database" in said and "geheim" not in said
+    for text in (str(error.value), str(client.value), capsys.readouterr().err):
+        assert "postgresql://user@host/database" in text and "geheim" not in text
 
 
 @pytest.mark.parametrize(
@@ -220,17 +220,17 @@ def test_a_password_is_in_nothing_that_the_command_prints(
 
     run(main())
     theirs = url.replace("owner@", "owner:geheim@")
-    for words in ("stats", "stuck", "list"):
-        assert store_command.main([theirs, words]) == 0
+    for name in ("stats", "stuck", "list"):
+        assert store_command.main([theirs, name]) == 0
     with psycopg.connect(url, autocommit=True) as link:
         link.execute("ALTER TABLE sagas.operator_commands RENAME TO others")
     assert store_command.main([theirs, "abort", "none"]) in (1, 4)
     with psycopg.connect(url, autocommit=True) as link:
         link.execute("UPDATE sagas.sagas SET phase = NULL")
     assert store_command.main([theirs, "abort", "k"]) == 4
-    said = capsys.readouterr()
-    assert "list --phase" in said.out and "cannot write postgresql://owner@" in said.err
-    assert "geheim" not in said.out + said.err
+    printed = capsys.readouterr()
+    assert "list --phase" in printed.out and "cannot write postgresql://owner@" in printed.err
+    assert "geheim" not in printed.out + printed.err
 
 
 def test_a_server_that_is_not_there(monkeypatch: pytest.MonkeyPatch) -> None:
@@ -244,11 +244,11 @@ def test_a_server_that_is_not_there(monkeypatch: pytest.MonkeyPatch) -> None:
 
 
 @contextlib.contextmanager
-def lets_in(server: Server, words: str) -> Iterator[None]:
+def lets_in(server: Server, entries: str) -> Iterator[None]:
     """Put these entries of `pg_hba.conf` before the server's own."""
     file = server.folder / "data" / "pg_hba.conf"
     before = file.read_text()
-    file.write_text(f"{words}\n{before}")
+    file.write_text(f"{entries}\n{before}")
     reload(server)
     try:
         yield
@@ -277,7 +277,7 @@ def test_a_client_that_is_never_let_in(postgresql: Server, url: str) -> None:
     with psycopg.connect(url, autocommit=True) as link:
         link.execute("CREATE ROLE keyed LOGIN PASSWORD 'right'")
         link.execute("CREATE ROLE idle")
-    asked = [
+    is_approval_pending = [
         (url.replace("owner", "keyed:wrong"), "password authentication failed"),
         (url.replace("owner", "keyed"), "no password supplied"),
         (f"{url}_none", 'database ".*" does not exist'),
@@ -285,11 +285,13 @@ def test_a_client_that_is_never_let_in(postgresql: Server, url: str) -> None:
         (url.replace("owner", "idle"), "not permitted to log in"),
     ]
     with lets_in(postgresql, "host all keyed 127.0.0.1/32 scram-sha-256"):
-        for name, text in asked:
+        for name, text in is_approval_pending:
             begun = time.monotonic()
-            with pytest.raises(sagas.StoreUnavailable, match=text) as told, sagas.SyncClient(name):
+            with pytest.raises(sagas.StoreUnavailable, match=text) as error, sagas.SyncClient(name):
                 pass
-            assert time.monotonic() - begun < connections.CONNECT and "wrong" not in str(told.value)
+            assert time.monotonic() - begun < connections.CONNECT and "wrong" not in str(
+                error.value
+            )
         with pytest.raises(sagas.InvalidStore, match="no tables yet"), sagas.SyncClient(
             url.replace("owner", "keyed:right")
         ):
@@ -317,19 +319,19 @@ def test_commits_wait_for_the_disk(url: str, setting: str) -> None:
     with psycopg.connect(url, autocommit=True) as link:
         link.execute(f"ALTER DATABASE {url.rpartition('/')[2]} SET synchronous_commit = {setting}")  # type: ignore[arg-type]
 
-    async def said() -> list[str]:
+    async def settings_of_commits() -> list[str]:
         async with connections.pool(url, 1) as some, some.connection() as pooled:
             own = await connections.connect(url)
-            told = [
+            shown = [
                 await (await link.execute("SHOW synchronous_commit")).fetchone()
                 for link in (pooled, own)
             ]
             await own.close()
         with connections.connect_now(url) as now:
-            told.append(now.execute("SHOW synchronous_commit").fetchone())
-        return [str(row[0]) for row in told if row]
+            shown.append(now.execute("SHOW synchronous_commit").fetchone())
+        return [str(row[0]) for row in shown if row]
 
-    assert run(said()) == ["on"] * 3
+    assert run(settings_of_commits()) == ["on"] * 3
 
 
 def test_nodes_are_shown(
@@ -350,19 +352,23 @@ def test_nodes_are_shown(
         async with sagas.open(url, [old], node="first", shutdown_timeout=0.0) as store:
             await store.start(old, "k")
             assert await asyncio.to_thread(store_command.main, [url, "nodes", "--json"]) == 0
-            told = json.loads(capsys.readouterr().out)
-            (shown,) = told["nodes"]
+            listed = json.loads(capsys.readouterr().out)
+            (shown,) = listed["nodes"]
             assert (shown["name"], shown["shards"], shown["open"], shown["definitions"]) == (
                 "first",
                 1,
                 1,
                 store._shelf.shelf,
             )
-            assert 0 < shown["lease"] <= 10 and told["shards_without_node"] == []
+            assert 0 < shown["lease"] <= 10 and listed["shards_without_node"] == []
         async with sagas.open(url, [new], node="second"):
             assert await asyncio.to_thread(store_command.main, [url, "nodes"]) == 0
-            said = capsys.readouterr().out
-            assert "second" in said and "No node executes:" in said and "simple (version 1)" in said
+            output = capsys.readouterr().out
+            assert (
+                "second" in output
+                and "No node executes:" in output
+                and "simple (version 1)" in output
+            )
         async with sagas.open(url, [old], node="first") as store:
             gate.set()
             assert (await store.wait("k")).ok

@@ -41,7 +41,7 @@ def trip(**pay: Any) -> sagas.Saga:
 
 
 def opened(
-    place: str,
+    location: str,
     saga: sagas.Saga,
     node: str | None = None,
     events: list[Event] | None = None,
@@ -50,13 +50,13 @@ def opened(
     """Open a store that serves workers."""
     names = {"node": node} if node else {}
     store = sagas.open(
-        place, [saga], on_event=None if events is None else events.append, **names, **more
+        location, [saga], on_event=None if events is None else events.append, **names, **more
     )
     store.leased = True
     return store
 
 
-def asked(url: str, text: str) -> list[tuple[Any, ...]]:
+def rows_of(url: str, text: str) -> list[tuple[Any, ...]]:
     """Return the rows of a statement."""
     with psycopg.connect(url, autocommit=True) as link:
         cursor = link.execute(text)  # type: ignore[arg-type]
@@ -93,13 +93,13 @@ def test_a_node_that_lost_its_shard_takes_nothing_back(postgresql: Server, url: 
     async def main(relay: Relay) -> None:
         async with two(postgresql, url, saga, relay, lease=2.0) as (slow, other, events):
             running = await slow.start(saga, "k")
-            await until(lambda: asked(url, ROWS))
+            await until(lambda: rows_of(url, ROWS))
             relay.unanswered = b'"event":"abort"'
             aborting = asyncio.create_task(running.abort())
             await until(relay.owes.is_set)
             await until(
                 lambda: b"abort"
-                in asked(url, "SELECT string_agg(text, '') FROM sagas.event_log")[0][0].encode()
+                in rows_of(url, "SELECT string_agg(text, '') FROM sagas.event_log")[0][0].encode()
             )
             relay.hold()
             await until(lambda: has_offered(other))
@@ -108,8 +108,8 @@ def test_a_node_that_lost_its_shard_takes_nothing_back(postgresql: Server, url: 
             await until(lambda: [event for event in events if event.name == "shard_lost"])
             await asyncio.gather(aborting, return_exceptions=True)
             await asyncio.sleep(1)  # time for the node's reaction to the abort
-            for words in (PAY, HOLD):
-                (task,) = await other.workers.claim(words, wait=60, lease=600)
+            for tasks in (PAY, HOLD):
+                (task,) = await other.workers.claim(tasks, wait=60, lease=600)
                 assert await other.workers.report(task.attempt_id, task.lease, 5)
             end = await other.wait("k", 60)
             assert end.aborted and end.states["pay"] == "committed"
@@ -131,13 +131,13 @@ def test_an_answer_to_a_withdrawal_counts_under_its_epoch_alone(
         async with two(postgresql, url, saga, relay, lease=30.0) as (slow, other, events):
             for key in ("warm", "k"):  # the first one prepares the statements
                 running = await slow.start(saga, key)
-                (row,) = await until(lambda: [row for row in asked(url, ROWS) if row[1] is None])
+                (row,) = await until(lambda: [row for row in rows_of(url, ROWS) if row[1] is None])
                 if key == "warm":
                     assert await running.abort() and (await running.wait(60)).aborted
             relay.unanswered = row[0].encode()
             assert await running.abort()
             await until(relay.owes.is_set)
-            await until(lambda: (row[0], "withdrawn", None) in asked(url, ROWS))
+            await until(lambda: (row[0], "withdrawn", None) in rows_of(url, ROWS))
             relay.still = b"SET outcome = 'withdrawn'"  # a second one would come before the worker
             claiming = asyncio.create_task(other.workers.claim(PAY, wait=60, lease=600))
             for runner in slow._inside.shards.runners.values():
@@ -204,7 +204,7 @@ async def _is_unknown(store: sagas.Store) -> bool:
 
 
 @pytest.mark.parametrize(
-    ("words", "last"),
+    ("kinds_of_change", "last"),
     [
         (("offers", "suspended"), "suspended"),
         (("suspended", "suspended"), "suspended"),
@@ -214,7 +214,7 @@ async def _is_unknown(store: sagas.Store) -> bool:
         (("settled", "offers"), "settled"),
     ],
 )
-def test_a_row_has_one_last_word_in_a_commit(words: tuple[str, ...], last: str) -> None:
+def test_a_row_has_one_last_word_in_a_commit(kinds_of_change: tuple[str, ...], last: str) -> None:
     """The server changes a row once per statement, in an order of the parts that is not defined;
     and a saga that is to be undone changes no row that another part has changed.
     """
@@ -225,8 +225,8 @@ def test_a_row_has_one_last_word_in_a_commit(words: tuple[str, ...], last: str) 
         "withdrawn": Withdrawal(attempt, shard),
         "settled": (attempt, shard, None),
     }
-    batches = [Batch(shard, 1.0, epoch=1) for _ in words]
-    for batch, word in zip(batches, words):
+    batches = [Batch(shard, 1.0, epoch=1) for _ in kinds_of_change]
+    for batch, word in zip(batches, kinds_of_change):
         getattr(batch.more, word).append(rows[word])
     batches[0].more.cancelled.append(("aborted", saga))
     parts = Commit(batches, lambda log: 0, {}).parts
@@ -251,10 +251,10 @@ def test_the_order_of_a_commit_s_parts_is_nothing(
         async with opened(url, saga, "one") as store:
             running = await store.start(saga, "k")
             (task,) = await store.workers.claim(HOLD, wait=60, lease=600)
-            await until(lambda: asked(url, ROWS))
+            await until(lambda: rows_of(url, ROWS))
             await store.fail("k", "pay", "the bank is closed")
             text = "SELECT outcome, cancelled FROM sagas.external_attempts ORDER BY step"
-            assert asked(url, text) == [("settled", None), (None, "failed")]
+            assert rows_of(url, text) == [("settled", None), (None, "failed")]
             assert (
                 await store.workers.heartbeat(task.attempt_id, task.lease)
             ).cancelled == "failed"
@@ -266,35 +266,35 @@ def test_the_order_of_a_commit_s_parts_is_nothing(
 
 @pytest.mark.parametrize("change", ["DELETE FROM {}", "UPDATE {} SET outcome = 'withdrawn'"])
 def test_what_no_worker_could_get_is_offered_again(
-    place: str, change: str, caplog: pytest.LogCaptureFixture, monkeypatch: pytest.MonkeyPatch
+    location: str, change: str, caplog: pytest.LogCaptureFixture, monkeypatch: pytest.MonkeyPatch
 ) -> None:
     """Its row was damaged: that is found, and logged as a warning."""
     saga, events = trip(), list[Event]()
     monkeypatch.setattr(offer_check, "PAUSE", 0.2)
 
     async def main() -> None:
-        async with opened(place, saga, events=events) as store:
+        async with opened(location, saga, events=events) as store:
             running = await store.start(saga, "k")
             await until(lambda: _ready(store))
-            changed(place, change)
-            for words in (PAY, HOLD):
-                (task,) = await store.workers.claim(words, wait=60, lease=600)
+            changed(location, change)
+            for tasks in (PAY, HOLD):
+                (task,) = await store.workers.claim(tasks, wait=60, lease=600)
                 assert await store.workers.report(task.attempt_id, task.lease, 5)
             assert (await running.wait(60)).ok
 
     with caplog.at_level(logging.WARNING, logger="sagas"):
         run(main())
-    told = [event for event in events if event.name == "step_offered_again"]
-    assert {event.step for event in told} == {"pay", "hold"}
+    offered = [event for event in events if event.name == "step_offered_again"]
+    assert {event.step for event in offered} == {"pay", "hold"}
     assert "step_offered_again key=k saga=trip step=pay attempt=1" in caplog.text
 
 
-def changed(place: str, change: str) -> None:
+def changed(location: str, change: str) -> None:
     """Change the table by hand."""
-    if "://" in place:
-        asked(place, change.format("sagas.external_attempts"))
+    if "://" in location:
+        rows_of(location, change.format("sagas.external_attempts"))
         return
-    with contextlib.closing(sqlite3.connect(place, isolation_level=None, timeout=60)) as link:
+    with contextlib.closing(sqlite3.connect(location, isolation_level=None, timeout=60)) as link:
         link.execute(change.format("external_attempts"))
 
 

@@ -23,12 +23,12 @@ def test_there_are_enough() -> None:
 def test_a_wrong_coordinator_is_found(name: str) -> None:
     """The kind of strike that reveals it finds it within a few stores."""
     module = importlib.import_module(f"wrong.{name}")
-    found: set[str] = set()
+    faults: set[str] = set()
     for seed in range(4):
         one = play(module.STRIKES, seed, 30, most=15, wrong=name, quiet=5)
-        found |= one.verdict.names
+        faults |= one.verdict.names
         if one.folder is not None:
             shutil.rmtree(pathlib.Path(one.folder))
-        if module.FINDS in found:
+        if module.FINDS in faults:
             return
-    pytest.fail(f"{name} was not found by {module.FINDS}, but by {sorted(found)}")
+    pytest.fail(f"{name} was not found by {module.FINDS}, but by {sorted(faults)}")

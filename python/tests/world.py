@@ -1,7 +1,7 @@
 """The program that the kill tests kill: five sagas, each of whose calls is reported to a witness.
 
     python3 tests/world.py STORE SOCKET COUNT [--concurrency N] [--small] [--wrong NAME]
-        [--eye URL] [--node NAME] [--lease SECONDS]
+        [--reader URL] [--node NAME] [--lease SECONDS]
 
 Over PostgreSQL there are a sixth saga whose steps are inside, and a seventh whose steps workers do:
 each node has one worker, which gets tasks of the sagas of all nodes.
@@ -53,7 +53,7 @@ def expected(key: str, step: str) -> Any:
     return None if chance(f"{key}/{step}/none") < 0.3 else {"of": [key, step]}
 
 
-class Eye:
+class OutsideReader:
     """A reader of the store outside of the program."""
 
     def __init__(self, store: str) -> None:
@@ -61,27 +61,27 @@ class Eye:
         self._idle: list[psycopg.Connection[tuple[Any, ...]]] = []
         """connections that are not in use at this moment"""
 
-    def _ask(self, text: str, *words: Any) -> list[tuple[Any, ...]]:
+    def _ask(self, text: str, *parameters: Any) -> list[tuple[Any, ...]]:
         if self.store.startswith("postgresql:"):
-            return self._ask_server(text.replace("%", "%%").replace("?", "%s"), words)
+            return self._ask_server(text.replace("%", "%%").replace("?", "%s"), parameters)
         db = sqlite3.connect(f"file:{self.store}?mode=ro", uri=True, timeout=10)
         try:
-            return db.execute(text, words).fetchall()
+            return db.execute(text, parameters).fetchall()
         finally:
             db.close()
 
-    def _ask_server(self, text: str, words: tuple[Any, ...]) -> list[tuple[Any, ...]]:
+    def _ask_server(self, text: str, parameters: tuple[Any, ...]) -> list[tuple[Any, ...]]:
         """Repeat a query while the server is down: what it does not answer cannot be judged."""
         until = time.monotonic() + 120
         while True:
             try:
-                return self._look(text, words)
+                return self._look(text, parameters)
             except psycopg.OperationalError:
                 if time.monotonic() > until:
                     raise
                 time.sleep(0.05)
 
-    def _look(self, text: str, words: tuple[Any, ...]) -> list[tuple[Any, ...]]:
+    def _look(self, text: str, parameters: tuple[Any, ...]) -> list[tuple[Any, ...]]:
         """Execute a query once, through a connection that is used again if the query succeeds."""
         try:
             link = self._idle.pop()
@@ -93,7 +93,7 @@ class Eye:
                 autocommit=True,
             )
         try:
-            rows = link.execute(text, words or None).fetchall()
+            rows = link.execute(text, parameters or None).fetchall()
         except BaseException:
             link.close()
             raise
@@ -113,7 +113,7 @@ class Eye:
         )
         return sum(text.count(line) for (text,) in rows)
 
-    def asked(self) -> list[str]:
+    def awaiting_approval(self) -> list[str]:
         """Return the keys of the sagas that wait for an approval."""
         return [
             key
@@ -124,11 +124,11 @@ class Eye:
 
     def finished(self, key: str, value: Any) -> bool:
         """Return whether a result exists."""
-        words = (
+        query = (
             "SELECT value FROM attempts JOIN sagas USING (id) WHERE key = ? AND event = 'commit'"
         )
         return json.dumps(value, separators=(",", ":"), sort_keys=True) in {
-            text for (text,) in self._ask(words, key)
+            text for (text,) in self._ask(query, key)
         }
 
     def aborts(self, key: str) -> bool:
@@ -143,8 +143,8 @@ class Eye:
 class World:
     """The sagas, over a witness and a reader of the store."""
 
-    def __init__(self, witness: Witness, eye: Eye, inside: bool = False) -> None:
-        self.witness, self.eye = witness, eye
+    def __init__(self, witness: Witness, reader: OutsideReader, inside: bool = False) -> None:
+        self.witness, self.reader = witness, reader
         self.sagas = [
             self.chain(),
             self.trip(),
@@ -156,11 +156,11 @@ class World:
 
     def act(self, task: Any, failing: float, unknown: float = 0.0) -> Any:
         """Make a call: it starts, fails or has its effect, and its outcome may be unknown."""
-        said = self.begins(task)
+        call = self.begins(task)
         if chance(self.named(task)) < failing:
             self.fail(task, failing)
-        self.witness.note(what="effect", **said, **self.handed(task))
-        if self.is_hazy(said, unknown):
+        self.witness.note(what="effect", **call, **self.handed(task))
+        if self.is_hazy(call, unknown):
             raise ConnectionError("nobody knows")
         return expected(task.key, task.step)
 
@@ -179,20 +179,20 @@ class World:
 
     def row(self, task: Any, failing: float) -> tuple[str, str, str]:
         """Return the row that it writes, if it does not fail before."""
-        said = self.begins(task)
+        call = self.begins(task)
         fails = chance(self.named(task)) < failing
         if fails and chance(f"{self.named(task)}/where") < 0.5:
             self.fail(task, failing)
         return (
             task.attempt_id,
-            json.dumps({"what": "effect", **said, **self.handed(task)}),
+            json.dumps({"what": "effect", **call, **self.handed(task)}),
             "bad" if fails else "good",
         )
 
     def begins(self, task: Any) -> dict[str, Any]:
         """Report the start of a call."""
         kind = "undo" if task.is_compensation else "run"
-        said = {
+        call = {
             "key": task.key,
             "step": task.step,
             "kind": kind,
@@ -200,15 +200,15 @@ class World:
             "token": task.attempt_id,
         }
         name, number, _ = task.attempt_id.split("-", 2)
-        begins = self.eye.begins(name, int(number), self.steps(task).index(task.step), kind)
+        begins = self.reader.begins(name, int(number), self.steps(task).index(task.step), kind)
         self.witness.note(
             what="begin",
             input=task.input,
             begun=begins,
             idempotency_key=task.idempotency_key,
-            **said,
+            **call,
         )
-        return said
+        return call
 
     def steps(self, task: Any) -> list[str]:
         """Return the names of the saga's steps in order.
@@ -220,8 +220,8 @@ class World:
         if at not in names:
             saga = next(saga for saga in self.sagas if saga.name == task.saga)
             names[at] = re.findall(r'^name = "(.*)"$', saga.toml(task.input), re.M)[1:]
-        found: list[str] = names[at]
-        return found
+        step_names: list[str] = names[at]
+        return step_names
 
     def named(self, task: Any) -> str:
         """Return the text that the draws of an attempt come from."""
@@ -249,7 +249,7 @@ class World:
             more |= {"of": task.original_idempotency_key, "result": task.result}
         return more
 
-    def is_hazy(self, said: dict[str, Any], unknown: float) -> bool:
+    def is_hazy(self, call: dict[str, Any], unknown: float) -> bool:
         """Return whether the outcome of this call is unknown to the caller, this time."""
         return random.random() < unknown
 
@@ -468,11 +468,11 @@ LEASE = 1.0
 
 async def work(world: World, store: sagas.Store) -> None:
     """Work on the tasks of this node, whichever node drives their sagas."""
-    words = [("far", step, kind) for step, kind in FAR]
+    tasks = [("far", step, kind) for step, kind in FAR]
     while True:
         # the store is unavailable, or the lease is lost: another worker does it again
         with contextlib.suppress(sagas.SagasError):
-            for leased in await store.workers.claim(words, limit=2, wait=0.2, lease=LEASE):
+            for leased in await store.workers.claim(tasks, limit=2, wait=0.2, lease=LEASE):
                 report = await asyncio.to_thread(done, world, leased.task)
                 await store.workers.report(leased.attempt_id, leased.lease, **report)
         await asyncio.sleep(0.01)
@@ -496,7 +496,9 @@ async def abort_unknown(world: World, store: sagas.Store, run: sagas.Run) -> Non
         with contextlib.suppress(sagas.StoreUnavailable):
             if any(attempt.key == run.key for attempt in await store.unknown()):
                 if await run.abort():
-                    world.witness.note(what="aborted", key=run.key, there=world.eye.aborts(run.key))
+                    world.witness.note(
+                        what="aborted", key=run.key, there=world.reader.aborts(run.key)
+                    )
                 return
         await asyncio.sleep(0.02)
 
@@ -504,11 +506,13 @@ async def abort_unknown(world: World, store: sagas.Store, run: sagas.Run) -> Non
 async def approve_all(world: World, store: sagas.Store) -> None:
     """Approve every request."""
     while True:
-        for key in world.eye.asked():
+        for key in world.reader.awaiting_approval():
             value = expected(key, "approve")
             with contextlib.suppress(sagas.SagasError):
                 await store.complete(key, "approve", value)
-                world.witness.note(what="finished", key=key, there=world.eye.finished(key, value))
+                world.witness.note(
+                    what="finished", key=key, there=world.reader.finished(key, value)
+                )
         await asyncio.sleep(0.05)
 
 
@@ -523,14 +527,14 @@ async def started(store: sagas.Store, saga: sagas.Saga, key: str, given: Any) ->
 
 async def one(world: World, store: sagas.Store, number: int) -> None:
     """Run a saga to its end, and report each reply to the witness once the program has it."""
-    key, note, eye = f"k{number}", world.witness.note, world.eye
+    key, note, reader = f"k{number}", world.witness.note, world.reader
     run = await started(store, world.sagas[number % len(world.sagas)], key, {"i": number})
-    note(what="started", key=key, there=eye.phase(key)[0])
+    note(what="started", key=key, there=reader.phase(key)[0])
     if number % 17 == 0:
         await asyncio.sleep(0.01)
         with contextlib.suppress(sagas.StoreUnavailable):
             if await run.abort():
-                note(what="aborted", key=key, there=eye.aborts(key))
+                note(what="aborted", key=key, there=reader.aborts(key))
     aborting = (
         asyncio.create_task(abort_unknown(world, store, run))
         if number % 2 and number % len(world.sagas) == 6
@@ -541,14 +545,14 @@ async def one(world: World, store: sagas.Store, number: int) -> None:
     finally:
         if aborting:
             aborting.cancel()
-    told = {
+    end_note = {
         "phase": end.phase,
         "states": end.states,
         "results": end.results,
         "cost": end.cost,
         "aborted": end.aborted,
     }
-    note(what="over", key=key, there=eye.phase(key)[1], **told)
+    note(what="over", key=key, there=reader.phase(key)[1], **end_note)
 
 
 async def every(world: World, store: sagas.Store, count: int) -> None:
@@ -579,37 +583,39 @@ async def opened(stack: contextlib.AsyncExitStack, make: Callable[[], sagas.Stor
             await asyncio.sleep(0.05)
 
 
-async def main(words: argparse.Namespace) -> None:
+async def main(options: argparse.Namespace) -> None:
     """Start the sagas that do not exist, wait for all, and close. SIGTERM closes it earlier."""
     world = World(
-        Witness(words.socket), Eye(words.eye or words.store), inside=words.node is not None
+        Witness(options.socket),
+        OutsideReader(options.reader or options.store),
+        inside=options.node is not None,
     )
-    if words.wrong:
-        package = "wrong_stores" if words.node else "wrong"
-        importlib.import_module(f"{package}.{words.wrong}").apply()
-    if words.small:
+    if options.wrong:
+        package = "wrong_stores" if options.node else "wrong"
+        importlib.import_module(f"{package}.{options.wrong}").apply()
+    if options.small:
         setattr(sagas.definition.shelf, "SHARD_CAPACITY", 10)
-    children = 2 if words.small else 16
+    children = 2 if options.small else 16
     async with contextlib.AsyncExitStack() as stack:
 
         def make() -> sagas.Store:
             store = sagas.open(
-                words.store,
+                options.store,
                 world.sagas,
-                concurrency=words.concurrency,
+                concurrency=options.concurrency,
                 engine_processes=children,
-                node=words.node,
-                lease=words.lease,
+                node=options.node,
+                lease=options.lease,
             )
-            store.leased = words.node is not None
+            store.leased = options.node is not None
             return store
 
         store = await opened(stack, make)
         others = [
             asyncio.create_task(approve_all(world, store)),
-            *([asyncio.create_task(work(world, store))] if words.node else []),
+            *([asyncio.create_task(work(world, store))] if options.node else []),
         ]
-        starting = asyncio.create_task(every(world, store, words.count))
+        starting = asyncio.create_task(every(world, store, options.count))
         asyncio.get_running_loop().add_signal_handler(signal.SIGTERM, starting.cancel)
         print("open", flush=True)
         try:
@@ -639,7 +645,7 @@ if __name__ == "__main__":
     parser.add_argument("--concurrency", type=int, default=16)
     parser.add_argument("--small", action="store_true")
     parser.add_argument("--wrong")
-    parser.add_argument("--eye")
+    parser.add_argument("--reader")
     parser.add_argument("--node")
     parser.add_argument("--lease", type=float, default=10.0)
     logging.basicConfig(level=logging.WARNING, format="%(asctime)s %(name)s %(message)s")

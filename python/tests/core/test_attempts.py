@@ -44,7 +44,7 @@ class Where:
 
     timeout = 60.0
 
-    def declare(self, *words: Any) -> None:
+    def declare(self, *arguments: Any) -> None:
         ...
 
 
@@ -261,7 +261,7 @@ def test_a_wait_until_a_time_that_the_program_says() -> None:
 
 
 @pytest.mark.parametrize(
-    ("text", "kind", "told"),
+    ("text", "kind", "message"),
     [
         ('"raises"', OutcomeKind.FAILED, "ValueError: no idea"),
         ('"fails"', OutcomeKind.FAILED_PERMANENTLY, "Fail: never"),
@@ -271,11 +271,11 @@ def test_a_wait_until_a_time_that_the_program_says() -> None:
     ],
 )
 def test_a_wait_that_cannot_say_its_time_has_failed(
-    text: str, kind: OutcomeKind, told: str
+    text: str, kind: OutcomeKind, message: str
 ) -> None:
     attempt = attempt_of("later", text=text)
     assert answered(attempt) is REPORT
-    assert attempt.outcome and attempt.outcome.kind is kind and told in error_of(attempt)
+    assert attempt.outcome and attempt.outcome.kind is kind and message in error_of(attempt)
 
 
 def test_a_wait_of_a_saga_that_drains_while_its_definition_is_asked() -> None:
@@ -355,8 +355,8 @@ def test_a_wait_that_was_given_up_leaves_its_place_to_others() -> None:
 
 def test_what_cannot_be_decoded_is_parked() -> None:
     attempt = running("plain")
-    told = Outcome(OutcomeKind.CANNOT_DECODE, "input lacks x")
-    decision = MACHINE.ended(attempt, told, NOW)
+    outcome = Outcome(OutcomeKind.CANNOT_DECODE, "input lacks x")
+    decision = MACHINE.ended(attempt, outcome, NOW)
     assert decision == Decision(
         Do.SUSPEND,
         SuspensionRow(Suspension.CANNOT_DECODE, None, "input lacks x"),
@@ -370,7 +370,7 @@ def test_what_cannot_be_decoded_is_parked() -> None:
     )
     wait = running("pause")
     wait.instance.rare.due[wait.word] = 0.0
-    assert MACHINE.ended(wait, told, NOW).row == SuspensionRow(
+    assert MACHINE.ended(wait, outcome, NOW).row == SuspensionRow(
         Suspension.CANNOT_DECODE, 0.0, "input lacks x"
     )
 
@@ -391,15 +391,15 @@ def test_an_approval_is_asked_for_and_given_up_in_time() -> None:
 
 
 @pytest.mark.parametrize(
-    ("said", "kind"),
+    ("answer", "kind"),
     [
         (sagas.Approved(5), OutcomeKind.SUCCEEDED),
         (sagas.Rejected("no"), OutcomeKind.FAILED_PERMANENTLY),
     ],
 )
-def test_an_approval_may_be_decided_by_its_function(said: Any, kind: OutcomeKind) -> None:
+def test_an_approval_may_be_decided_by_its_function(answer: Any, kind: OutcomeKind) -> None:
     attempt = running("sign")
-    outcome = outcomes.succeeded(outcomes.Answer(said))
+    outcome = outcomes.succeeded(outcomes.Answer(answer))
     assert outcome.kind is OutcomeKind.ANSWERED and MACHINE.ended(attempt, outcome, NOW) is REPORT
     assert attempt.outcome and attempt.outcome.kind is kind
 
@@ -550,8 +550,8 @@ def test_a_saga_that_drains_gives_up_what_waits_and_was_not_called() -> None:
     made["later"].queue()
     assert MACHINE.drain(instance, NOW) == []  # it was planned in the meantime
     instance.draining = True
-    found = dict(MACHINE.drain(instance, NOW))
-    assert found == {
+    decisions = dict(MACHINE.drain(instance, NOW))
+    assert decisions == {
         made["simple"]: REPORT,
         made["plain"]: CALL,
         made["timed"]: CALL,
@@ -684,7 +684,7 @@ def test_which_reports_are_taken_early() -> None:
         assert early_reports.refusal(instance, KIND.names.index(step), kind)
     for step in ("sign", "outside"):
         instance = attempt_of(step).instance
-        place = KIND.names.index(step)
-        assert early_reports.refusal(instance, place, "run") is None
+        number = KIND.names.index(step)
+        assert early_reports.refusal(instance, number, "run") is None
         instance.draining = True
-        assert "is being undone" in str(early_reports.refusal(instance, place, "run"))
+        assert "is being undone" in str(early_reports.refusal(instance, number, "run"))

@@ -63,13 +63,13 @@ def attempt_of(given: Any, kind: str = "run") -> Attempt:
 
 def limited(attempt: Attempt) -> tuple[str, Decision]:
     """Return the functions that were called for the limits of its step, and the decision."""
-    decision, words = AttemptMachine().limit(attempt, 5.0), ""
+    decision, names = AttemptMachine().limit(attempt, 5.0), ""
     if decision.do is Do.ASK:
         assert decision.question and attempt.state is AttemptState.CLAIMED
-        words = decision.question.words
+        names = decision.question.words
         attempt.rare.returned |= decision.question.answers()
         decision = AttemptMachine().limit(attempt, 5.0)
-    return words, decision
+    return names, decision
 
 
 def test_the_key_of_a_limit_is_asked_for_once() -> None:

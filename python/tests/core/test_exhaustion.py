@@ -21,12 +21,12 @@ NO, NEVER = outcomes.failure("no"), outcomes.failure("never", final=True)
 SOON = outcomes.failure("soon", retry_after=3.0)
 
 
-def attempt_of(kind: str = "run", number: int = 1, **words: Any) -> Attempt:
+def attempt_of(kind: str = "run", number: int = 1, **options: Any) -> Attempt:
     """Return a running attempt, of two tries."""
     saga = sagas.Saga("s")
-    forward = words if kind == "run" else {}
+    forward = options if kind == "run" else {}
     step = saga.step(name="a", tries=2, backoff=WAIT, **forward)(lambda task: None)
-    backward = {} if kind == "run" else words
+    backward = {} if kind == "run" else options
     step.compensation(tries=2, **backward)(lambda task: None)
     instance = SagaInstance("k", "null", Shelf([saga]).kinds[0], 0)
     instance.token = "test-0"
@@ -43,7 +43,7 @@ def again(attempt: Attempt) -> None:
 
 
 @pytest.mark.parametrize(
-    ("kind", "number", "words", "outcome", "comes"),
+    ("kind", "number", "options", "outcome", "comes"),
     [
         ("run", 2, {}, NO, None),
         ("run", 1, {"on_exhausted": "ask"}, NO, None),
@@ -63,9 +63,9 @@ def again(attempt: Attempt) -> None:
     ],
 )
 def test_what_a_failure_leads_to(
-    kind: str, number: int, words: dict[str, Any], outcome: outcomes.Outcome, comes: Any
+    kind: str, number: int, options: dict[str, Any], outcome: outcomes.Outcome, comes: Any
 ) -> None:
-    attempt = attempt_of(kind, number, **words)
+    attempt = attempt_of(kind, number, **options)
     decision = MACHINE.ended(attempt, outcome, NOW)
     if comes is None:
         assert decision is REPORT and attempt.outcome is outcome
@@ -119,22 +119,22 @@ def test_an_unknown_one_stays_unknown_where_it_is_retried() -> None:
     assert attempt.count == 0 and attempt.outcome and attempt.outcome.kind is OutcomeKind.UNKNOWN
 
 
-@pytest.mark.parametrize("words", [{"on_exhausted": "ask"}, {"on_exhausted": "retry"}])
-def test_a_saga_that_drains_waits_for_no_failure(words: dict[str, Any]) -> None:
+@pytest.mark.parametrize("options", [{"on_exhausted": "ask"}, {"on_exhausted": "retry"}])
+def test_a_saga_that_drains_waits_for_no_failure(options: dict[str, Any]) -> None:
     """An attempt that failed has failed, unless an operator was asked and the saga is not aborted.
 
     A compensation continues to wait.
     """
-    attempt, undo = attempt_of(number=2, **words), attempt_of("undo", 2, **words)
+    attempt, undo = attempt_of(number=2, **options), attempt_of("undo", 2, **options)
     for one in (attempt, undo):
         MACHINE.ended(one, NO, NOW)
         one.instance.draining = True
-    if words["on_exhausted"] == "ask":
+    if options["on_exhausted"] == "ask":
         assert MACHINE.drain(attempt.instance, NOW) == [] and exhaustion.may_retry(attempt)
         attempt.instance.aborted = True
     assert MACHINE.drain(attempt.instance, NOW) == [(attempt, REPORT)] and attempt.outcome is NO
     assert MACHINE.drain(undo.instance, NOW) == []
-    late = attempt_of(number=2, **words)
+    late = attempt_of(number=2, **options)
     late.instance.draining = True
     assert MACHINE.ended(late, NO, NOW) is REPORT
 

@@ -43,22 +43,22 @@ def two() -> Shelf:
     return Shelf([saga])
 
 
-SHELF = two()
+DEFINITIONS = two()
 
 
 def driver() -> ShardDriver:
     """Return a new shard with an engine."""
-    found = ShardDriver.created(
-        ShardIdentity(NUMBER, "name", ShardDefinitions(SHELF.kinds)), "line"
+    shard = ShardDriver.created(
+        ShardIdentity(NUMBER, "name", ShardDefinitions(DEFINITIONS.kinds)), "line"
     )
-    found.to(ShardState.STARTING)
-    found.to(ShardState.ACTIVE)
-    return found
+    shard.to(ShardState.STARTING)
+    shard.to(ShardState.ACTIVE)
+    return shard
 
 
 def instance(key: str) -> SagaInstance:
     """Return a saga that is to be opened."""
-    return SagaInstance(key, '{"n":1}', SHELF.kinds[0], 0)
+    return SagaInstance(key, '{"n":1}', DEFINITIONS.kinds[0], 0)
 
 
 def opened(number: int) -> str:
@@ -71,11 +71,11 @@ def event(word: str, phase: str = "going", number: int = 0) -> str:
     return f'{{"event":{{"event":"{word}","saga":{number},"step":0}},"phase":"{phase}"}}'
 
 
-def tasks(*found: tuple[int, int, str, int], settled: bool = False) -> str:
+def tasks(*rows: tuple[int, int, str, int], settled: bool = False) -> str:
     """Return the reply to a claim: saga, step, action and number of each."""
     each = ",".join(
         f'{{"attempt":{count},"name":"x","saga":{saga},"step":{step},"task":"{word}"}}'
-        for saga, step, word, count in found
+        for saga, step, word, count in rows
     )
     return (
         f'{{{chr(34)}settled{chr(34)}:true,"tasks":[{each}]}}'
@@ -86,9 +86,9 @@ def tasks(*found: tuple[int, int, str, int], settled: bool = False) -> str:
 
 def come(shard: ShardDriver, *replies: str, text: str = "line\n") -> Effects:
     """Return the effects of a reply."""
-    found = shard.replies(replies, text, NOW)
-    assert isinstance(found, Effects)
-    return found
+    effects = shard.replies(replies, text, NOW)
+    assert isinstance(effects, Effects)
+    return effects
 
 
 def kept(shard: ShardDriver, effects: Effects) -> Effects:
@@ -206,7 +206,8 @@ def test_a_saga_whose_deadline_has_passed_is_aborted_as_it_is_opened() -> None:
     """
     shard, soon = driver(), instance("soon")
     late, later = (
-        SagaInstance(key, '{"n":1}', SHELF.kinds[0], 0, StartOptions(deadline=NOW)) for key in "ab"
+        SagaInstance(key, '{"n":1}', DEFINITIONS.kinds[0], 0, StartOptions(deadline=NOW))
+        for key in "ab"
     )
     for saga in (soon, late, later):
         shard.open(saga)
@@ -279,7 +280,7 @@ def test_a_refused_commit_makes_it_stale() -> None:
 
 def shown(phase: str, answer: object, states: list[str]) -> str:
     """Return a reply to `show`."""
-    told = {
+    reply = {
         "aborted": False,
         "kept": [],
         "name": "trip",
@@ -288,7 +289,7 @@ def shown(phase: str, answer: object, states: list[str]) -> str:
         "states": states,
     }
     return json.dumps(
-        told | ({"answer": answer} if answer else {}), separators=(",", ":"), sort_keys=True
+        reply | ({"answer": answer} if answer else {}), separators=(",", ":"), sort_keys=True
     )
 
 
@@ -395,10 +396,12 @@ def recovered(
     shard.to(ShardState.LOADING)
     shard.loaded(loaded)
     known = {saga.key: saga for saga in shard.sagas.values()}
-    asked, new = recovery.unopened(shard, loaded, known)
-    assert not asked and not new and recovery.requests(loaded) == ['{"do":"busy"}']
-    told = [{"saga": 0, "step": step, "task": word, "attempt": count} for step, word, count in busy]
-    return recovery.recover(loaded, [json.dumps({"busy": told})], NOW, shard, known)
+    starting, new = recovery.unopened(shard, loaded, known)
+    assert not starting and not new and recovery.requests(loaded) == ['{"do":"busy"}']
+    busy_tasks = [
+        {"saga": 0, "step": step, "task": word, "attempt": count} for step, word, count in busy
+    ]
+    return recovery.recover(loaded, [json.dumps({"busy": busy_tasks})], NOW, shard, known)
 
 
 def test_what_runs_stays_and_what_had_not_begun_is_forgotten() -> None:
@@ -408,18 +411,24 @@ def test_what_runs_stays_and_what_had_not_begun_is_forgotten() -> None:
     shard = driver()
     attempt = begun(shard)
     attempt.start()
-    found = recovered(shard, rows(), [(0, "run", 1)])
+    recovery_result = recovered(shard, rows(), [(0, "run", 1)])
     assert (
-        found.resumed == [attempt] and attempt.state is AttemptState.RUNNING and not found.forgotten
+        recovery_result.resumed == [attempt]
+        and attempt.state is AttemptState.RUNNING
+        and not recovery_result.forgotten
     )
     assert (
         shard.state is ShardState.ACTIVE
         and shard.known == (3, "other")
         and shard.epoch == 3
-        and found.restored == [attempt.instance]
+        and recovery_result.restored == [attempt.instance]
     )
-    found = recovered(shard, rows(), [])
-    assert found.resumed == [] and found.forgotten == [attempt] and attempt.instance.busy == {}
+    recovery_result = recovered(shard, rows(), [])
+    assert (
+        recovery_result.resumed == []
+        and recovery_result.forgotten == [attempt]
+        and attempt.instance.busy == {}
+    )
 
 
 def test_a_finished_attempt_is_reported_again_or_replaced() -> None:
@@ -428,17 +437,17 @@ def test_a_finished_attempt_is_reported_again_or_replaced() -> None:
     attempt = begun(shard)
     attempt.finish(outcomes.Outcome(outcomes.SUCCEEDED, "1"), NOW)
     shard.report(attempt)
-    found = recovered(shard, rows(), [(0, "run", 1)])
+    recovery_result = recovered(shard, rows(), [(0, "run", 1)])
     assert (
-        found.resumed == [attempt]
+        recovery_result.resumed == [attempt]
         and attempt.state is AttemptState.FINISHED
         and [*shard.unkept()] == []
     )
     attempt.recorded = True
-    found = recovered(shard, rows(), [(0, "run", 1)])
-    (other,) = found.resumed
+    recovery_result = recovered(shard, rows(), [(0, "run", 1)])
+    (other,) = recovery_result.resumed
     assert (
-        found.forgotten == [attempt]
+        recovery_result.forgotten == [attempt]
         and other is not attempt
         and other.state is AttemptState.CLAIMED
         and not other.fresh
@@ -466,11 +475,11 @@ def test_what_was_given_up_is_decided_again(epoch: int, line: str, is_ours: bool
     )
     shard.known = (1, "line")
     given_up.suspend(Suspension.BACKOFF, NOW + 1)
-    found = recovered(shard, loaded, [(0, "run", 1)])
-    (other,) = found.resumed
+    recovery_result = recovered(shard, loaded, [(0, "run", 1)])
+    (other,) = recovery_result.resumed
     assert (
         (other is given_up) is is_ours
-        and (given_up in found.forgotten) is not is_ours
+        and (given_up in recovery_result.forgotten) is not is_ours
         and other.fresh is is_ours
     )
 
@@ -519,8 +528,8 @@ def test_aborts_are_asked_again_or_answered() -> None:
         and shard.aborts == [abort]
         and shard.aborting == []
     )
-    found = recovered(shard, rows(open=False), [])
-    assert found.aborted == [abort] and abort.done is False and shard.aborts == []
+    recovery_result = recovered(shard, rows(open=False), [])
+    assert recovery_result.aborted == [abort] and abort.done is False and shard.aborts == []
 
 
 def aborted_by_the_log(shard: ShardDriver) -> recovery.Recovery:
@@ -532,8 +541,8 @@ def aborted_by_the_log(shard: ShardDriver) -> recovery.Recovery:
     shard.loaded(loaded)
     reply = shown("draining", None, ["running", "waiting"]).replace("false", "true", 1)
     known = {saga.key: saga for saga in shard.sagas.values()}
-    told = json.dumps({"busy": [{"saga": 0, "step": 0, "task": "run", "attempt": 1}]})
-    return recovery.recover(loaded, [told, reply], NOW, shard, known)
+    busy_reply = json.dumps({"busy": [{"saga": 0, "step": 0, "task": "run", "attempt": 1}]})
+    return recovery.recover(loaded, [busy_reply, reply], NOW, shard, known)
 
 
 @pytest.mark.parametrize("is_answered", [False, True])
@@ -553,16 +562,16 @@ def test_a_saga_is_aborted_by_one_abort(is_answered: bool) -> None:
     for abort in aborts:
         shard.abort(abort)
     shard.requests(0)
-    found = aborted_by_the_log(shard)
-    assert found.aborted == aborts
+    recovery_result = aborted_by_the_log(shard)
+    assert recovery_result.aborted == aborts
     assert [abort.done for abort in aborts] == [not is_answered, False]
 
 
 def test_a_saga_that_comes_from_the_store_has_its_options() -> None:
     """Another program started it: deadline and trace context are in the store."""
     shard = driver()
-    found = recovered(shard, rows(), [])
-    (saga,) = found.restored
+    recovery_result = recovered(shard, rows(), [])
+    (saga,) = recovery_result.restored
     assert (saga.options.deadline, saga.options.traceparent) == (9.0, TRACE)
     attempt = Attempt(saga, 0, "run", 1, fresh=True)
     assert attempt.traceparent == attempt.task().traceparent == TRACE
@@ -573,7 +582,7 @@ def test_labels_go_with_the_row_of_their_saga() -> None:
     saga = SagaInstance(
         "k",
         "1",
-        SHELF.kinds[0],
+        DEFINITIONS.kinds[0],
         0,
         StartOptions({"customer": "7", "region": "north"}, 5.0, traceparent=TRACE),
     )

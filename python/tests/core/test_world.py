@@ -59,38 +59,43 @@ async def simple(task: sagas.Task[Any]) -> None:
 def declare(saga: sagas.Saga, drawn: list[StepDraw], number: int, manner: str) -> None:
     """Declare one step of that kind."""
     one = drawn[number]
-    words: dict[str, Any] = {
+    options: dict[str, Any] = {
         "name": one.name,
         "needs": [drawn[need].name for need in one.needs],
         "skip": cost(one.skip),
     }
     if one.undo != "never":
-        words["undo"] = cost(one.undo)
+        options["undo"] = cost(one.undo)
     if manner == "wait":
         step = saga.wait(
             until=datetime.timedelta(hours=1),
             tries=one.tries,
             backoff=SOON,
             keep=cost(one.keep),
-            **words,
+            **options,
         )(nothing)
     elif manner.endswith("approval"):
         timeout = 3600 if manner.startswith("timed") else None
-        step = saga.approval(timeout=timeout, tries=one.tries, backoff=SOON, **words)(nothing)
+        step = saga.approval(timeout=timeout, tries=one.tries, backoff=SOON, **options)(nothing)
     else:
-        words |= {"run": cost(one.run), "keep": cost(one.keep), "tries": one.tries, "backoff": SOON}
+        options |= {
+            "run": cost(one.run),
+            "keep": cost(one.keep),
+            "tries": one.tries,
+            "backoff": SOON,
+        }
         if manner == "external":
-            step = saga.step(external=True, **words)
+            step = saga.step(external=True, **options)
             if one.undo != "never":
                 step.compensation(external=True, tries=one.undo_tries, backoff=SOON)
             return
         most = datetime.timedelta(minutes=1) if manner == "timed" else 2
         function = simple if manner == "simple" else nothing
-        words |= ENDS.get(manner, {})
-        step = saga.step(max_unknown=most, transaction=manner == "transaction", **words)(function)
+        options |= ENDS.get(manner, {})
+        step = saga.step(max_unknown=most, transaction=manner == "transaction", **options)(function)
     if one.undo != "never":
-        words = ENDS.get(manner, {"on_exhausted": "fail"})
-        step.compensation(tries=one.undo_tries, backoff=SOON, max_unknown=1, **words)(nothing)
+        options = ENDS.get(manner, {"on_exhausted": "fail"})
+        step.compensation(tries=one.undo_tries, backoff=SOON, max_unknown=1, **options)(nothing)
 
 
 @st.composite

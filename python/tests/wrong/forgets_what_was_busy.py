@@ -14,8 +14,8 @@ def apply() -> None:
     """Take nothing for busy."""
     right = recovery._resume
 
-    def resume(found: recovery.Recovery, *words: Any) -> None:
-        right(found, *words)
-        found.resumed.clear()
+    def resume(recovered: recovery.Recovery, *arguments: Any) -> None:
+        right(recovered, *arguments)
+        recovered.resumed.clear()
 
     setattr(recovery, "_resume", resume)

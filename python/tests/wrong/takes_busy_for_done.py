@@ -15,9 +15,9 @@ def apply() -> None:
     """Report busy attempts without a call."""
     right = recovery._resume
 
-    def resume(found: recovery.Recovery, *words: Any) -> None:
-        right(found, *words)
-        for attempt in found.resumed:
+    def resume(recovered: recovery.Recovery, *arguments: Any) -> None:
+        right(recovered, *arguments)
+        for attempt in recovered.resumed:
             if attempt.state is AttemptState.CLAIMED:
                 attempt.finish(outcomes.succeeded(None), 0.0)
 

@@ -29,7 +29,7 @@ def apply() -> None:
                     batch.first, at = at, at + batch.text.count("\n")
             right(self, batches, then, now)
 
-        def told(
+        def reported(
             batches: Sequence[Batch], fault: BaseException | None, lost: frozenset[int]
         ) -> None:
             if isinstance(fault, StoreUnavailable):
@@ -39,6 +39,6 @@ def apply() -> None:
             else:
                 then(batches, fault, lost)
 
-        right(self, batches, told, now)
+        right(self, batches, reported, now)
 
     setattr(PostgreSQL, "commit", commit)

@@ -19,7 +19,7 @@ def apply() -> None:
     right = Work._task
 
     def task(self: Work, order: Order, begun: Begun) -> Task[Any]:
-        told = whole(right(self, order, begun)._about)
-        return Task(dataclasses.replace(told, own="null" if told.undo else None))
+        about = whole(right(self, order, begun)._about)
+        return Task(dataclasses.replace(about, own="null" if about.undo else None))
 
     setattr(Work, "_task", task)

@@ -20,7 +20,7 @@ def apply() -> None:
     seen: dict[str, str] = {}
 
     def task(self: Work, order: Order, begun: Begun) -> Task[Any]:
-        told = whole(right(self, order, begun)._about)
-        return Task(dataclasses.replace(told, input=seen.setdefault(order.saga, told.input)))
+        about = whole(right(self, order, begun)._about)
+        return Task(dataclasses.replace(about, input=seen.setdefault(order.saga, about.input)))
 
     setattr(Work, "_task", task)

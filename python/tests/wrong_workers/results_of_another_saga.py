@@ -20,10 +20,11 @@ def apply() -> None:
     seen: dict[str, str] = {}
 
     def task(self: Work, order: Order, begun: Begun) -> Task[Any]:
-        told = whole(right(self, order, begun)._about)
+        about = whole(right(self, order, begun)._about)
         return Task(
             dataclasses.replace(
-                told, given={name: seen.setdefault(name, text) for name, text in told.given.items()}
+                about,
+                given={name: seen.setdefault(name, text) for name, text in about.given.items()},
             )
         )
 

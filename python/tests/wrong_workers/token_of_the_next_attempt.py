@@ -19,7 +19,7 @@ def apply() -> None:
     right = Work._task
 
     def task(self: Work, order: Order, begun: Begun) -> Task[Any]:
-        told = whole(right(self, order, begun)._about)
-        return Task(dataclasses.replace(told, attempt=told.attempt + 1))
+        about = whole(right(self, order, begun)._about)
+        return Task(dataclasses.replace(about, attempt=about.attempt + 1))
 
     setattr(Work, "_task", task)

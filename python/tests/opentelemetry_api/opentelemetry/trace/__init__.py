@@ -161,10 +161,10 @@ INVALID_SPAN = NonRecordingSpan(SpanContext(0, 0, False))
 
 def get_current_span(context: Optional[Context] = None) -> NonRecordingSpan:
     """Return the span of a context, or of the current one."""
-    found: NonRecordingSpan = (_CURRENT.get() if context is None else context).get(
+    current: NonRecordingSpan = (_CURRENT.get() if context is None else context).get(
         "span", INVALID_SPAN
     )
-    return found
+    return current
 
 
 def set_span_in_context(span: NonRecordingSpan, context: Optional[Context] = None) -> Context:
