@@ -527,7 +527,7 @@ def test_lost_answers(make: Make, service: Served, operator: str) -> None:
             driver.ask("stop", worker=key)
 
 
-def test_a_service_that_stands_still(make: Make, service: Served, operator: str) -> None:
+def test_a_stopped_service(make: Make, service: Served, operator: str) -> None:
     """A stopped service costs no lease: the next service gets a heartbeat and an outcome while the
     lease lasts.
     """

@@ -77,7 +77,7 @@ FIRST = f"sent 0 {digest('a' + chr(10) + 'b' + chr(10))}"
 SECOND = f"sent 2 {digest(('a' + chr(10) + 'b' + chr(10)) * 2)}"
 
 
-def test_what_follows_an_answer_is_written_with_it(record: RecordFile) -> None:
+def test_an_acknowledgement_is_written_with_its_reply(record: RecordFile) -> None:
     """An acknowledgement can wait if it depends on no more than another one."""
     session, one = record.session(SHARD, 1), commit(0)
     record.commit = one
@@ -104,7 +104,7 @@ def test_an_acknowledgement_of_an_older_chunk_while_another_is_sent(record: Reco
     assert noted(record)[4:] == [SECOND, "heard 4"]
 
 
-def test_what_is_acknowledged_too_early_is_behind_what_was_sent(record: RecordFile) -> None:
+def test_an_early_acknowledgement_follows_what_was_sent(record: RecordFile) -> None:
     """It also precedes the reply, if one comes."""
     session, one, two = record.session(SHARD, 1), commit(0), commit(2)
     record.commit = one
@@ -288,7 +288,7 @@ def recovered(shard: ShardDriver, busy: Sequence[tuple[int, str, int]]) -> recov
     return recovery.recover(loaded, [json.dumps({"busy": busy_tasks})], 0.0, shard, known)
 
 
-def test_an_attempt_that_the_store_does_not_have_rests_on_nothing(record: RecordFile) -> None:
+def test_acknowledgements_of_an_attempt_outside_the_store(record: RecordFile) -> None:
     """Its saga may be the same one as before, and restored.
 
     If it were called anyway, the record would not be allowed, even if an older session had its
@@ -311,7 +311,7 @@ def test_an_attempt_that_the_store_does_not_have_rests_on_nothing(record: Record
     ]
 
 
-def test_what_is_not_in_the_store_rests_on_nothing(record: RecordFile) -> None:
+def test_acknowledgements_of_sagas_outside_the_store(record: RecordFile) -> None:
     """No acknowledgement of it depends on the decision."""
     acknowledgements = Acknowledgements(record)
     shard, attempt = begun(acknowledgements)
@@ -328,7 +328,7 @@ def test_what_is_not_in_the_store_rests_on_nothing(record: RecordFile) -> None:
     assert noted(record) == ["took 0 0"]
 
 
-def test_a_saga_that_is_not_of_this_program_rests_on_nothing(record: RecordFile) -> None:
+def test_acknowledgements_of_another_nodes_saga(record: RecordFile) -> None:
     """Another node has it. If its function were called, the record would not be allowed."""
     acknowledgements = Acknowledgements(record)
     shard, attempt = begun(acknowledgements)

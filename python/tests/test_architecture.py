@@ -61,7 +61,7 @@ def test_each_layer_is_in_a_page() -> None:
     assert layers == {path.relative_to(package_map.SRC).parts[0] for path in folders}
 
 
-def test_each_line_says_one_thing() -> None:
+def test_each_line_is_short() -> None:
     """It fits into a line of 120 columns."""
     layers = [layer for _, layers in package_map.PAGES.values() for layer in layers]
     assert [line for layer in layers for line in package_map.lines(layer) if len(line) > 120] == []

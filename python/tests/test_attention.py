@@ -79,7 +79,7 @@ async def fill(store: sagas.Store, kinds: list[sagas.Saga]) -> None:
     await until(lambda: asked_of(store))
 
 
-def test_what_needs_a_person(
+def test_items_that_need_an_operator(
     location: str, capsys: pytest.CaptureFixture[str], caplog: pytest.LogCaptureFixture
 ) -> None:
     """The program, an operator's command and the service's first page have the same list.
@@ -180,7 +180,7 @@ EVERYBODY = [
 
 
 @pytest.mark.parametrize(("location", "who"), EVERYBODY, indirect=["location"])
-def test_one_whose_compensation_failed_is_resolved(
+def test_a_saga_with_a_failed_compensation_is_resolved(
     location: str, who: Any, capsys: pytest.CaptureFixture[str]
 ) -> None:
     """Any operator may resolve it: then it needs no operator, and is in the list of resolved sagas.

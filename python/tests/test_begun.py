@@ -59,7 +59,7 @@ def test_without_async(tmp_path: pathlib.Path) -> None:
         store.complete("k", "a")
 
 
-def test_what_waited_for_its_time_is_called(location: str) -> None:
+def test_a_call_after_a_wait_is_not_listed_as_waiting(location: str) -> None:
     """Once the time has come, no list reports the wait any more."""
     gate, late = asyncio.Event(), sagas.Saga("late")
 
@@ -127,7 +127,7 @@ def test_the_store_and_its_program_together() -> None:
     )
 
 
-def test_what_has_begun_says_for_what_it_waits(
+def test_started_attempts_have_a_reason_to_wait(
     location: str, capsys: pytest.CaptureFixture[str]
 ) -> None:
     """The reasons are its limit, its rate, a back-off, or an external worker.

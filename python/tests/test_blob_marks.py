@@ -131,7 +131,7 @@ def test_a_copy_deletes_nothing_of_the_original(
     assert "None of them is deleted" in caplog.text and LARGE not in caplog.text
 
 
-def test_an_exact_copy_at_the_same_place(tmp_path: pathlib.Path) -> None:
+def test_an_exact_copy_at_the_same_path(tmp_path: pathlib.Path) -> None:
     """A backup that replaces the store has an older token.
 
     It takes over a separate folder without marks at once. If two open stores each take over the
@@ -230,7 +230,7 @@ class Flaky(Memory):
         return self.there[key]
 
 
-def test_a_value_that_is_not_given_parks_its_attempt_alone(
+def test_a_missing_value_parks_only_its_attempt(
     location: str, caplog: pytest.LogCaptureFixture, monkeypatch: pytest.MonkeyPatch
 ) -> None:
     """Opening reads no value.
@@ -286,7 +286,7 @@ def test_a_value_that_is_not_given_parks_its_attempt_alone(
     run(main())
 
 
-def test_a_worker_gets_other_tasks_meanwhile(
+def test_a_worker_gets_tasks_with_readable_values(
     tmp_path: pathlib.Path, monkeypatch: pytest.MonkeyPatch
 ) -> None:
     """The task whose input is missing is set aside, and is claimed later."""

@@ -120,7 +120,7 @@ async def called(result: Any) -> Any:
     return await result if asyncio.iscoroutine(result) else result
 
 
-def test_a_blob_store_alone(blobs: Any) -> None:
+def test_a_blob_store_by_itself(blobs: Any) -> None:
     """Values are put twice, read, listed and deleted; a missing one is a `KeyError`."""
 
     async def main() -> None:
@@ -321,7 +321,7 @@ def test_a_child_with_large_values_is_undone(
     run(main())
 
 
-def test_it_is_away(location: str) -> None:
+def test_an_unavailable_blob_store(location: str) -> None:
     """A start raises an error, and writes nothing; a result waits until the blob store is available
     again. If a value that was put is missing, the attempt is parked. An input that looks like a
     reference is data.
@@ -406,7 +406,7 @@ def test_a_service_has_them(tmp_path: pathlib.Path) -> None:
         assert done.returncode == 2 and wrong[0].strip("-") in done.stderr.decode()
 
 
-def test_what_is_wrong_is_told(location: str) -> None:
+def test_invalid_blob_options(location: str) -> None:
     for options in ({"blobs": object()}, {"blob_threshold": "1"}, {"blob_threshold": True}):
         with pytest.raises(TypeError):
             sagas.open(location, [copy()], **options)  # type: ignore[arg-type]
@@ -435,7 +435,7 @@ asyncio.run(main())
 """
 
 
-def test_what_was_acknowledged_is_there_after_a_kill(location: str, tmp_path: pathlib.Path) -> None:
+def test_acknowledged_starts_survive_a_kill(location: str, tmp_path: pathlib.Path) -> None:
     """A program is killed during its starts, three times.
 
     The next one runs each acknowledged saga to its end, with its values.

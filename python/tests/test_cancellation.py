@@ -51,7 +51,7 @@ async def hear(task: Task) -> None:
     pairs(PLACES, (hear, hear_plain), ("aborted", "failed")),
     indirect=["location"],
 )
-def test_a_function_hears_that_it_is_not_wanted(location: str, function: Any, why: str) -> None:
+def test_a_function_is_notified_of_its_cancellation(location: str, function: Any, why: str) -> None:
     """The function decides how it ends; the saga is planned as soon as it has."""
     begun = asyncio.Event()
 
@@ -77,7 +77,7 @@ def test_a_function_hears_that_it_is_not_wanted(location: str, function: Any, wh
     run(main())
 
 
-def test_a_function_that_hears_of_the_end_of_the_store_goes_on_later(location: str) -> None:
+def test_a_function_cancelled_by_closing_continues_later(location: str) -> None:
     """It reports an unknown outcome, and the next program calls it again with its key."""
     keys: list[str] = []
 
@@ -147,7 +147,7 @@ def test_a_function_that_is_cancelled_with_its_saga(
     assert calls == ["call 1 False", "cancelled", *again]
 
 
-def test_what_cannot_be_cancelled_is_refused() -> None:
+def test_steps_that_cannot_be_cancelled_are_refused() -> None:
     """The error says what to do instead."""
     saga = sagas.Saga("s")
 
@@ -166,7 +166,7 @@ def test_what_cannot_be_cancelled_is_refused() -> None:
         saga.step(cancel_on_abort=True, name="b")(lambda task: None)
 
 
-def test_what_is_wrong_with_progress_is_told_to_the_function() -> None:
+def test_invalid_progress_raises_in_the_function() -> None:
     """A copy in another process reports to no store, and is never cancelled."""
     control = Control()
     for arguments, error in [
@@ -309,7 +309,7 @@ def test_a_program_that_is_killed_while_a_function_is_cancelled(
     assert noted[-1]["aborted"] and noted[-1]["states"] == {"long": "failed"}
 
 
-def test_a_worker_tells_its_progress_with_its_heartbeat(
+def test_a_worker_reports_progress_with_its_heartbeat(
     store: str | None, tmp_path: pathlib.Path
 ) -> None:
     """The service, its dashboard and the command show it.
@@ -359,9 +359,7 @@ keep = 5
 """
 
 
-def test_a_worker_hears_that_its_task_is_not_wanted(
-    store: str | None, tmp_path: pathlib.Path
-) -> None:
+def test_a_worker_is_notified_of_a_cancellation(store: str | None, tmp_path: pathlib.Path) -> None:
     """The heartbeat reports it, and so does a later claim.
 
     An async function is cancelled once if it asks for that; a worker that lost its lease is

@@ -95,7 +95,7 @@ def test_the_functions_are_still_functions(shop: Shop) -> None:
     assert trial.phase == "completed" and trial.results["tour"] == {"seat": "Rome"}
 
 
-def test_what_cannot_be_declared(shop: Shop, tmp_path: pathlib.Path) -> None:
+def test_invalid_declarations(shop: Shop, tmp_path: pathlib.Path) -> None:
     """No store, another store, two steps of one task, an external step."""
     path = str(tmp_path / "store.db")
 
@@ -265,7 +265,7 @@ async def _soft(shop: Shop) -> None:
         assert (await going.wait()).results == {"long": "by hand"}
 
 
-def test_a_message_that_nobody_took_in_time(either: Shop, tmp_path: pathlib.Path) -> None:
+def test_a_message_that_no_worker_took_in_time(either: Shop, tmp_path: pathlib.Path) -> None:
     """It is unknown and needs an operator, and the late report is the answer."""
     run(_late(either, tmp_path))
 
@@ -546,7 +546,7 @@ async def _equal(shop: Shop, location: str) -> None:
     desk.close()
 
 
-def test_a_file_that_is_not_there(tmp_path: pathlib.Path) -> None:
+def test_a_missing_file(tmp_path: pathlib.Path) -> None:
     """A worker creates no store."""
     with pytest.raises(sagas.WrongStore, match="does not exist"):
         desk_of(str(tmp_path / "none.db")).begin(order("0" * 16))

@@ -284,7 +284,7 @@ def test_another_node_has_it(url: str) -> None:
     run(main())
 
 
-def test_two_nodes_of_which_none_can(url: str) -> None:
+def test_two_nodes_that_cannot_read_a_value(url: str) -> None:
     """Each leaves it for the other, and one has it in the end: the readable sagas continue."""
     one, two = Shop(Wants), Shop(Wants)
 

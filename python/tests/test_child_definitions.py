@@ -83,7 +83,7 @@ ONES_UNDONE = ["undo y x", "undo x"]
 
 
 @pytest.mark.parametrize("steps, lacks", [(("x2", "y"), "x"), (("x", "y-"), "y")])
-def test_a_compensation_that_is_gone(location: str, steps: tuple[str, ...], lacks: str) -> None:
+def test_a_removed_compensation(location: str, steps: tuple[str, ...], lacks: str) -> None:
     """Its step was renamed or removed, or only the compensation was.
 
     No program without it opens the file, and over PostgreSQL no node without it has the shard.
@@ -174,7 +174,7 @@ def test_the_program_changes_while_a_child_is_undone(location: str) -> None:
     assert world.done == ["x", "y", *ONES_UNDONE]
 
 
-def test_who_may_undo_a_child(tmp_path: pathlib.Path) -> None:
+def test_functions_that_undo_a_child(tmp_path: pathlib.Path) -> None:
     """A parent that never undoes it, or does so by its own function, needs none of its
     compensations. Nor does one whose version the program has twice.
     """
@@ -409,7 +409,7 @@ def test_definitions_that_undo_children() -> None:
     ]
 
 
-def test_a_child_of_which_nothing_can_be_undone(caplog: pytest.LogCaptureFixture) -> None:
+def test_a_child_without_compensations(caplog: pytest.LogCaptureFixture) -> None:
     """A number as `undo` is then probably a mistake."""
     child = World().child("x")
     child.step(name="held", needs=["x"])(lambda task: None)

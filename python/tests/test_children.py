@@ -264,7 +264,7 @@ def test_a_plan_that_drops_the_child(location: str, stays: bool) -> None:
     assert len(world.done) != stays
 
 
-def test_another_child_behind_one_that_failed(location: str) -> None:
+def test_another_child_after_a_failed_one(location: str) -> None:
     """An operator may request that; its key shows it. A stuck child is resolved first."""
     failing, calls = sagas.Saga("failing"), list[str]()
 

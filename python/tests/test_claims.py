@@ -68,7 +68,7 @@ class Table:
         return [what * 2 for what in some]
 
 
-def test_a_lot_has_one_group_at_most() -> None:
+def test_a_batch_has_one_group_at_most() -> None:
     """Requests that come while the first batch is in progress wait.
 
     Each batch has those that have waited longest.
@@ -93,7 +93,7 @@ def test_a_lot_has_one_group_at_most() -> None:
     run(main())
 
 
-def test_a_lot_that_fails() -> None:
+def test_a_batch_that_fails() -> None:
     """Its callers get the error, and the next batch is asked."""
 
     async def main() -> None:
@@ -128,7 +128,7 @@ def test_callers_that_are_cancelled() -> None:
     run(main())
 
 
-def test_what_is_cancelled_before_it_is_asked() -> None:
+def test_a_cancelled_request_is_not_asked() -> None:
     """It is not asked: a claim would take tasks from others, and release them at once."""
 
     async def main() -> None:
@@ -196,7 +196,7 @@ def test_many_at_once(location: str) -> None:
     run(main())
 
 
-def test_a_wrong_claim_fails_no_other(location: str) -> None:
+def test_an_invalid_claim_fails_no_other(location: str) -> None:
     """It has half of a surrogate pair in a worker's name or in its report, or a limit below 0.
 
     Concurrent claims and reports are kept.
@@ -267,7 +267,7 @@ def test_tasks_that_cannot_be_read_are_given_back(
     run(main())
 
 
-def test_what_is_reported_is_not_claimed(location: str) -> None:
+def test_a_reported_task_is_not_claimed(location: str) -> None:
     """The lease is over, and its worker reports *done* while another one claims, in any order."""
     saga = far()
 
@@ -353,7 +353,7 @@ class Claims:
         (["t2"], asyncio.CancelledError(), None, ["t1"]),
     ],
 )
-def test_what_was_claimed_and_is_not_answered(
+def test_a_claim_without_a_response_is_released(
     second: list[str] | BaseException,
     of_report: BaseException | None,
     expected_tasks: list[str] | None,

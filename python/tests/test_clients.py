@@ -72,7 +72,7 @@ async def connected(url: str, client: sagas.Client, kind: sagas.Saga, count: int
         assert [(await one).new for one in some] == [True] * count
 
 
-def test_a_start_behind_the_server_s_restart(postgresql: Server, url: str) -> None:
+def test_a_start_after_a_restart_of_the_server(postgresql: Server, url: str) -> None:
     """The client skips connections that have ended in the meantime, however many it has: the start
     is made, and once.
     """
@@ -148,7 +148,7 @@ def test_a_client_starts_and_waits(url: str) -> None:
     assert len(records.read(url).sagas) == 41 and inbox(url) == 0
 
 
-def test_what_a_client_is_not_made_with() -> None:
+def test_invalid_arguments_of_a_client() -> None:
     """The error comes before it connects."""
     for url in (None, 5, "store.db"):
         with pytest.raises(sagas.InvalidStore, match="not a URL of a PostgreSQL database"):
@@ -191,7 +191,7 @@ def test_a_start_waits_for_a_node(url: str, capsys: pytest.CaptureFixture[str]) 
     run(main())
 
 
-def test_a_start_whose_caller_is_cancelled_takes_no_connection_away(url: str) -> None:
+def test_a_cancelled_start_returns_its_connection(url: str) -> None:
     """It waits for the client's only connection, and its caller has no time.
 
     Later callers get the connection, and one of them may be a start.
@@ -350,7 +350,7 @@ def test_a_node_withdraws_a_start_of_a_saga_that_it_lacks(url: str) -> None:
             store.abort("k")
 
 
-def test_an_abort_whose_start_goes_away_hears_of_it(url: str) -> None:
+def test_an_abort_of_a_start_that_is_removed(url: str) -> None:
     """A node has taken the start, so the abort waits.
 
     It returns when the start is deleted, and withdraws it when the node releases it.
@@ -383,7 +383,7 @@ def test_an_abort_whose_start_goes_away_hears_of_it(url: str) -> None:
     run(main())
 
 
-def test_a_finish_of_a_start_that_is_withdrawn_hears_of_it(url: str) -> None:
+def test_a_finish_of_a_withdrawn_start_raises(url: str) -> None:
     """It waits for a node; the abort of another client removes the start, and the request
     with it.
     """
@@ -502,7 +502,7 @@ def made(url: str, kind: sagas.Saga) -> None:
     run(main())
 
 
-def test_a_start_that_somebody_is_at_holds_up_no_other(url: str) -> None:
+def test_a_locked_start_delays_no_other(url: str) -> None:
     """Its row is locked: a node takes the starts before and after it, and takes it later."""
     kind = shop()
     made(url, kind)
@@ -787,7 +787,7 @@ def test_a_connection_of_the_other_kind(url: str) -> None:
     assert inbox(url) == 0
 
 
-def test_what_a_clients_run_tells(url: str) -> None:
+def test_the_attributes_of_a_clients_run(url: str) -> None:
     """It returns whether this start began the saga, its events and its plan, as at a node; before a
     node has it there are none.
     """
@@ -874,7 +874,7 @@ CREATE TRIGGER stays_once BEFORE DELETE ON sagas.pending_starts
 
 
 @pytest.mark.parametrize("is_seen", [True, False], ids=["seen", "met"])
-def test_a_start_whose_key_has_a_saga_goes_away(
+def test_a_start_of_a_taken_key_is_removed(
     url: str, monkeypatch: pytest.MonkeyPatch, is_seen: bool
 ) -> None:
     """The commit that removes it fails: the next one removes it, and it is never opened."""
@@ -945,7 +945,7 @@ def test_a_start_that_fails_at_first_is_taken_again(
     run(main())
 
 
-def test_a_race_for_one_key_fails_no_other_start(url: str, monkeypatch: pytest.MonkeyPatch) -> None:
+def test_a_race_for_a_key_fails_no_other_start(url: str, monkeypatch: pytest.MonkeyPatch) -> None:
     """Two nodes start one key at once.
 
     The loser finds the other's saga, and starts the other sagas of the same commit again; no caller
@@ -975,9 +975,7 @@ def test_a_race_for_one_key_fails_no_other_start(url: str, monkeypatch: pytest.M
 
 
 @pytest.mark.parametrize("plain", [False, True])
-def test_faults_of_the_given_connection_are_told_as_its_own(
-    url: str, postgresql: Server, plain: bool
-) -> None:
+def test_errors_of_a_given_connection(url: str, postgresql: Server, plain: bool) -> None:
     """The connection is closed, in a failed transaction, to a database without the tables, or to
     that of another store. Nothing is written, and each text says what to do.
     """

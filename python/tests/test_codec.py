@@ -222,7 +222,7 @@ def approvals_pending(location: str) -> int:
         return len(link.ask("SELECT 1 FROM suspensions WHERE reason = 'approval'"))
 
 
-def test_a_store_of_before(location: str) -> None:
+def test_a_store_without_a_codec_before(location: str) -> None:
     """Values that were written without a codec can be read with one."""
 
     async def main() -> None:
@@ -327,7 +327,7 @@ def test_nodes_and_clients_agree(url: str, caplog: pytest.LogCaptureFixture) -> 
     assert holds_secret(url) == []
 
 
-def test_a_key_that_is_not_there(location: str, caplog: pytest.LogCaptureFixture) -> None:
+def test_a_missing_encryption_key(location: str, caplog: pytest.LogCaptureFixture) -> None:
     """The attempt waits and does not count as failed; it continues with the key."""
 
     async def main() -> None:
@@ -444,7 +444,7 @@ def test_a_result_of_a_worker_is_never_plain(location: str) -> None:
             assert SECRET.encode() not in path.read_bytes()
 
 
-def test_a_start_that_one_node_cannot_decode(url: str, monkeypatch: pytest.MonkeyPatch) -> None:
+def test_a_start_that_a_node_cannot_decode(url: str, monkeypatch: pytest.MonkeyPatch) -> None:
     """It is left to a node that can: it blocks no other start, and can be aborted."""
     monkeypatch.setattr(client_starts, "MANY", 2)
     kind = simple(lambda task: task.input)

@@ -306,7 +306,7 @@ def test_progress_on_a_terminal(path: str, monkeypatch: pytest.MonkeyPatch) -> N
     assert re.findall(r"shards: \d+ of \d+", screen.getvalue())[-1] == "shards: 1 of 1"
 
 
-def test_what_is_not_there(
+def test_missing_keys_and_files(
     shell: Shell, tmp_path: pathlib.Path, capsys: pytest.CaptureFixture[str]
 ) -> None:
     """Keys and files that do not exist, arguments that are not text, and files that are not a store
@@ -333,7 +333,7 @@ def test_what_is_not_there(
     assert usage.value.code == 2
 
 
-def test_show_says_why(tmp_path: pathlib.Path, capsys: pytest.CaptureFixture[str]) -> None:
+def test_show_has_the_error(tmp_path: pathlib.Path, capsys: pytest.CaptureFixture[str]) -> None:
     """It shows the error of a step, and not that the later tries were given up.
 
     For a step that is kept since its compensation failed, it shows both.
@@ -580,7 +580,7 @@ def test_a_compensation_that_failed_is_seen(
         )
 
 
-def test_a_log_says_who_did_what_and_why(
+def test_the_log_names_operators_and_their_reasons(
     location: str, capsys: pytest.CaptureFixture[str], monkeypatch: pytest.MonkeyPatch
 ) -> None:
     """It has each action of an operator, also a refused one; only a terminal cuts the texts."""
@@ -646,7 +646,7 @@ def test_a_far_time_hides_nothing(
     assert "an approval" in shell("show", "far") and shell.json("pending")[0]["until"] > 1e12
 
 
-def test_wrong_words_of_lists(location: str, capsys: pytest.CaptureFixture[str]) -> None:
+def test_invalid_arguments_of_lists(location: str, capsys: pytest.CaptureFixture[str]) -> None:
     """The status is 2, with one line; the arguments for the next page are quoted for a shell."""
     kind = simple(lambda task: None)
 
@@ -711,7 +711,7 @@ def test_an_output_that_takes_nothing(tmp_path: pathlib.Path) -> None:
             assert (done.returncode, done.stderr) == (4, line)
 
 
-def test_errors_that_nobody_reads(
+def test_errors_with_a_closed_standard_error(
     path: str, capsys: pytest.CaptureFixture[str], monkeypatch: pytest.MonkeyPatch
 ) -> None:
     """If standard error is closed, only the status reports the error: it is not printed between the
@@ -724,7 +724,7 @@ def test_errors_that_nobody_reads(
         assert bool(json.loads(output) if output else None) == (status == 0)
 
 
-def test_beside_the_running_program(location: str, capsys: pytest.CaptureFixture[str]) -> None:
+def test_commands_while_the_program_runs(location: str, capsys: pytest.CaptureFixture[str]) -> None:
     """abort, finish and resolve while the program has the store open: it executes them, and the
     command says so.
     """
@@ -763,7 +763,7 @@ def test_beside_the_running_program(location: str, capsys: pytest.CaptureFixture
     run(main())
 
 
-def test_finish_says_what_is_wrong(location: str, capsys: pytest.CaptureFixture[str]) -> None:
+def test_errors_of_finish(location: str, capsys: pytest.CaptureFixture[str]) -> None:
     """It reports on standard error, without an error's name: a step that has not started, a
     finished one, a misspelt name, a text that is not JSON.
     """
@@ -874,7 +874,7 @@ def test_without_a_program(location: str, capsys: pytest.CaptureFixture[str]) ->
     )
 
 
-def test_words_for_people() -> None:
+def test_times_and_counts_in_words() -> None:
     """Times are in UTC, in the same form in the command, on the page and in the service's log; a
     count of one has the singular.
     """
@@ -960,7 +960,7 @@ def test_rows_that_differ_from_the_events(
         ]
 
 
-def test_an_audit_of_what_is_being_written(location: str) -> None:
+def test_an_audit_during_writes(location: str) -> None:
     """Rows and events are of the same moment, at each of them."""
     kind = shop()
 

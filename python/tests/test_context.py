@@ -101,7 +101,7 @@ def factories(clients: Clients) -> dict[str, Any]:
 
 
 @pytest.mark.parametrize("form", ["object", "async", "plain", "class"])
-def test_each_function_gets_it_and_it_is_left_behind_the_last(location: str, form: str) -> None:
+def test_each_function_gets_the_context(location: str, form: str) -> None:
     """However it is called: plain, in a thread, in its time, in a transaction, as a
     compensation.
     """
@@ -132,7 +132,7 @@ def test_a_store_without_async_opens_and_closes_it_in_one_task(location: str) ->
     assert not clients.is_open and clients.uses == USES
 
 
-def test_it_is_made_anew_for_what_goes_on(location: str) -> None:
+def test_the_context_is_entered_again_after_a_restart(location: str) -> None:
     """It exists before the first function of a recovered saga is called, and while
     functions end.
     """
@@ -182,7 +182,7 @@ def bad_factories() -> dict[str, tuple[Callable[[], Any], type[Exception], str]]
 
 
 @pytest.mark.parametrize("what", bad_factories())
-def test_a_store_whose_context_cannot_be_entered_is_not_open(location: str, what: str) -> None:
+def test_an_error_of_the_context_prevents_opening(location: str, what: str) -> None:
     """The error is the factory's own, and no process has the store afterwards."""
     factory, error, text = bad_factories()[what]
     saga = shop(inside=False)
@@ -197,7 +197,7 @@ def test_a_store_whose_context_cannot_be_entered_is_not_open(location: str, what
     run(main())
 
 
-def test_what_is_raised_as_it_is_left_is_raised_by_close(tmp_path: pathlib.Path) -> None:
+def test_close_raises_the_error_of_the_context(tmp_path: pathlib.Path) -> None:
     """The store is closed anyway."""
     saga = shop(inside=False)
 
@@ -216,7 +216,7 @@ def test_what_is_raised_as_it_is_left_is_raised_by_close(tmp_path: pathlib.Path)
     run(main())
 
 
-def test_a_store_without_one_says_so(tmp_path: pathlib.Path) -> None:
+def test_a_store_without_a_context(tmp_path: pathlib.Path) -> None:
     """So does a copy in another process, which never gets the object itself."""
     saga = sagas.Saga("none")
 

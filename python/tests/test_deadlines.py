@@ -207,7 +207,7 @@ def chain(
     return saga, calls
 
 
-def test_nothing_begins_of_a_start_that_is_late(location: str) -> None:
+def test_nothing_starts_of_a_late_start(location: str) -> None:
     """It is started and aborted at once: also with other starts, with steps that come from the
     input, and encoded. The same start again is the same saga.
     """
@@ -271,7 +271,7 @@ def test_nothing_begins_of_a_start_that_is_late(location: str) -> None:
     run(main())
 
 
-def test_nothing_begins_behind_the_deadline_of_a_saga_that_is_taken_up(location: str) -> None:
+def test_nothing_starts_after_the_deadline_of_a_recovered_saga(location: str) -> None:
     """Its program died in a step, which may have had its effect.
 
     The step is called again, is notified of the abort, and is undone. No other step starts: in the
@@ -307,7 +307,7 @@ def test_nothing_begins_behind_the_deadline_of_a_saga_that_is_taken_up(location:
     assert events.count("saga_overdue") == events.count("saga_aborted") == 1
 
 
-def test_no_step_begins_behind_a_deadline(location: str) -> None:
+def test_no_step_starts_after_a_deadline(location: str) -> None:
     """It passes while a step runs: the next one does not start, though no program has looked at the
     time since.
     """
@@ -365,7 +365,7 @@ def test_in_a_simulation() -> None:
         (datetime.datetime(2030, 1, 1), TypeError),
     ],
 )
-def test_what_is_no_time(tmp_path: pathlib.Path, deadline: Any, error: type[Exception]) -> None:
+def test_invalid_times(tmp_path: pathlib.Path, deadline: Any, error: type[Exception]) -> None:
     kind = slow()
     with sagas.open_sync(tmp_path / "store.db", [kind]) as store:
         with pytest.raises(error, match="deadline="):

@@ -72,7 +72,7 @@ def shop(gate: Gate) -> list[sagas.Saga]:
     ]
 
 
-def test_slow_functions_hold_up_nobody_else(location: str) -> None:
+def test_slow_functions_block_nothing_else(location: str) -> None:
     """All of them wait at once, and other sagas continue."""
     gate, other = Gate(), quick()
     kid, *slow = shop(gate)
@@ -129,7 +129,7 @@ def test_schedules_and_starts_of_clients(url: str) -> None:
 
 
 @pytest.mark.parametrize("timeout", [None, 0])
-def test_a_store_that_is_closed_meanwhile(location: str, timeout: float | None) -> None:
+def test_a_store_that_is_closed_during_calls(location: str, timeout: float | None) -> None:
     """It waits for them, as it does for steps; a later program asks again."""
     gate, other = Gate(), quick()
     slow = {saga.name: saga for saga in shop(gate)}
@@ -158,7 +158,7 @@ def test_a_store_that_is_closed_meanwhile(location: str, timeout: float | None) 
     run(main())
 
 
-def test_an_abort_meanwhile(location: str) -> None:
+def test_an_abort_during_a_call(location: str) -> None:
     """Their return values are not used, and no function of a step is called."""
     gate, other = Gate(), quick()
     slow = {saga.name: saga for saga in shop(gate)}
@@ -215,7 +215,7 @@ def test_threads_of_functions() -> None:
     assert not any(t.name.startswith("test") for t in threading.enumerate())
 
 
-def test_a_loop_that_is_closed_meanwhile() -> None:
+def test_a_loop_that_is_closed_during_calls() -> None:
     """Its threads end anyway."""
     gate, threads = Gate(), FunctionThreads(2, "test")
     job: Any = None

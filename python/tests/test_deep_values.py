@@ -224,7 +224,7 @@ def put(location: str, key: str, text: str) -> None:
 
 
 @pytest.mark.parametrize("levels", [600, 967])
-def test_what_is_stored_already(location: str, tmp_path: pathlib.Path, levels: int) -> None:
+def test_stored_deep_values(location: str, tmp_path: pathlib.Path, levels: int) -> None:
     """A claim has the other tasks.
 
     The one that fits no reply needs an operator, at the node that executes its saga too, and can be

@@ -78,7 +78,7 @@ def test_toml(tmp_path: pathlib.Path) -> None:
     ).stdout.startswith(b"digraph")
 
 
-def test_what_the_package_shows() -> None:
+def test_the_public_names_of_the_package() -> None:
     """It shows its names for users, and none of the modules inside."""
     shown = dir(sagas)
     assert set(sagas.__all__) < set(shown) and {
@@ -528,7 +528,7 @@ def test_nothing_to_undo(location: str) -> None:
     ] == ["charge"]
 
 
-def test_a_compensation_behind_undo_0() -> None:
+def test_a_compensation_with_undo_0() -> None:
     """A declared compensation replaces doing nothing."""
     saga, undone = chained(0)
     saga.steps[1].compensation(lambda task: undone.append(task.step))
@@ -539,7 +539,7 @@ def test_a_compensation_behind_undo_0() -> None:
     assert saga.toml().replace('"receipt"\n# compensated\n', '"receipt"\n') == plain
 
 
-def test_what_keeps_others_from_being_undone() -> None:
+def test_steps_that_keep_others_from_being_undone() -> None:
     """A step without a compensation follows one with a compensation, and does not say what it
     means. There is no warning if no later or parallel step may fail.
     """
@@ -556,7 +556,7 @@ def test_what_keeps_others_from_being_undone() -> None:
         assert quiet[0].warnings() == []
 
 
-def test_what_keeps_others_is_told_once() -> None:
+def test_a_keeping_step_is_reported_once() -> None:
     """It holds for the last step too; the warning names all steps that it keeps, except those that
     an earlier step keeps already.
     """
@@ -585,7 +585,7 @@ def test_what_keeps_others_is_told_once() -> None:
     assert "'a' and 'b', which it needs, can never be undone" in warning
 
 
-def test_why_a_step_stands() -> None:
+def test_the_reason_to_keep_a_step() -> None:
     """Another step that is kept, or is running, needs it.
 
     That is not the reason if keeping it costs less, or it cannot be dropped.
@@ -617,7 +617,7 @@ def test_why_a_step_stands() -> None:
     ]
 
 
-def test_hints_that_are_not_read() -> None:
+def test_hints_that_cannot_be_evaluated() -> None:
     """A name that only the type checker has: `open` reports that values are as JSON has them."""
     saga = sagas.Saga("s")
 
@@ -629,7 +629,7 @@ def test_hints_that_are_not_read() -> None:
     assert "'Elsewhere' is not defined" in warning and warning.startswith(f"{__file__}:")
 
 
-def test_decorators_with_and_without_words() -> None:
+def test_decorators_with_and_without_arguments() -> None:
     """`@saga.approval` works as `@saga.step`; a function is decorated, and not passed as
     `handler`.
     """
@@ -646,7 +646,7 @@ def test_decorators_with_and_without_words() -> None:
         saga.step(external=print, name="x")  # type: ignore[call-overload]
 
 
-def test_a_decorator_that_is_left_alone() -> None:
+def test_a_decorator_without_a_function() -> None:
     """The error for such a step or compensation has its line.
 
     One decorator may make several steps.

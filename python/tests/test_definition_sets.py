@@ -134,7 +134,7 @@ def test_definitions_without_a_shard_leave(location: str) -> None:
     assert rows(location, "SELECT count(*) FROM definitions") == [(0,)]
 
 
-def test_a_start_beside_a_deletion(url: str) -> None:
+def test_a_start_during_a_deletion(url: str) -> None:
     """Shards are made while sets without one are deleted: each shard has its set."""
 
     async def main() -> None:

@@ -121,9 +121,7 @@ def test_a_failure_ends_it(location: str) -> None:
     run(main())
 
 
-def test_one_that_is_not_used_is_known_still(
-    location: str, capsys: pytest.CaptureFixture[str]
-) -> None:
+def test_an_unused_report_stays_known(location: str, capsys: pytest.CaptureFixture[str]) -> None:
     """A saga that is undone takes no report of another step.
 
     The same report again is no error, and another one conflicts. This holds while it is undone and
@@ -241,7 +239,7 @@ def test_with_a_codec(location: str) -> None:
     run(parts(codec, 2))
 
 
-def test_beside_the_beginning(location: str) -> None:
+def test_reports_during_the_start_of_their_step(location: str) -> None:
     """Reports come while their steps start: each counts once, whatever the state of its step."""
     saga = visit()
 
@@ -307,9 +305,7 @@ def test_in_a_simulation() -> None:
 
 
 @pytest.mark.parametrize("way", ["abort", "failure"])
-def test_one_whose_needs_are_committed_is_committed_before_a_recovery(
-    location: str, way: str
-) -> None:
+def test_an_early_report_is_committed_before_a_recovery(location: str, way: str) -> None:
     """No slot is free for it, and its saga is aborted, or a step fails: it is undone as any other.
 
     So is one that needs it.

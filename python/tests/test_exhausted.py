@@ -169,7 +169,7 @@ def test_a_refund_that_fails_asks(
     assert len({line.split()[0] for line in notes.lines}) == 1
 
 
-def test_a_step_asks_where_it_says_so(location: str, tmp_path: pathlib.Path) -> None:
+def test_a_step_that_asks_an_operator(location: str, tmp_path: pathlib.Path) -> None:
     """Each waits by itself, and is answered by itself or with all of a filter.
 
     `Fail` asks no operator; an attempt whose saga is aborted has failed.
@@ -311,7 +311,7 @@ def test_more_attempts_than_a_definition_has(
     assert {line.split()[1] for line in notes.lines} == {"1", "2", "3"}
 
 
-def test_a_function_says_when(location: str, tmp_path: pathlib.Path) -> None:
+def test_a_function_requests_the_time_of_its_retry(location: str, tmp_path: pathlib.Path) -> None:
     """`RetryAfter` precedes the back-off, in attempts of the definition and after them, and before
     one of an earlier program.
     """
@@ -570,6 +570,8 @@ def test_in_a_simulation() -> None:
         ),
     ],
 )
-def test_wrong_words(options: dict[str, Any], message: str, tmp_path: pathlib.Path) -> None:
+def test_invalid_options_of_retries(
+    options: dict[str, Any], message: str, tmp_path: pathlib.Path
+) -> None:
     with pytest.raises(sagas.DefinitionError, match=message):
         alone(Notes(tmp_path), **options)

@@ -36,7 +36,7 @@ def test_each_has_the_same_time() -> None:
     assert "evil" in order[3:15]  # and it is not starved either
 
 
-def test_who_takes_long_leaves_a_thread() -> None:
+def test_a_slow_caller_leaves_a_thread() -> None:
     """The others get it, even if the slow one came first.
 
     If each piece is short, one caller may have all threads.
@@ -56,7 +56,7 @@ def test_who_takes_long_leaves_a_thread() -> None:
     assert queue.take() == ("other", "o")
 
 
-def test_who_computes_has_one_thread_of_all() -> None:
+def test_computations_have_one_thread() -> None:
     """It is one of two kinds of threads, until the computation is over."""
     computing: set[str] = set()
     reads: FairQueue[str] = FairQueue(2, computing)

@@ -100,7 +100,7 @@ def test_is_killed_with_the_program(tmp_path: pathlib.Path, location: str) -> No
     assert sorted(then.splitlines()) == sorted([b, "started", "{'a': 1, 'b': 2}"])
 
 
-def test_serves_without_async_until_it_is_told_to_end(tmp_path: pathlib.Path) -> None:
+def test_serves_without_async_until_sigterm(tmp_path: pathlib.Path) -> None:
     """Then the store is closed, and running functions have ended before."""
     program = f"""
         import os, sagas, signal, time
@@ -195,7 +195,9 @@ def test_a_store_of_two_names(tmp_path: pathlib.Path) -> None:
     run(main())
 
 
-def test_a_look_is_no_program(tmp_path: pathlib.Path, monkeypatch: pytest.MonkeyPatch) -> None:
+def test_a_check_for_programs_is_not_a_program(
+    tmp_path: pathlib.Path, monkeypatch: pytest.MonkeyPatch
+) -> None:
     """A command that checks whether a program has the store open is not taken for a program by
     another command, and a program that opens waits for it.
     """
@@ -425,7 +427,7 @@ def test_the_program_goes_elsewhere(
     assert not [*(tmp_path / "there").iterdir()]
 
 
-def test_an_older_copy_in_place_of_the_store(tmp_path: pathlib.Path) -> None:
+def test_an_older_copy_replaces_the_store(tmp_path: pathlib.Path) -> None:
     """Its open sagas continue under their tokens; no other saga gets the tokens of lost ones."""
     saga, keys_of, waits = sagas.Saga("row"), defaultdict[str, set[str]](set), ["open"]
 
@@ -517,7 +519,7 @@ def test_ctrl_c(tmp_path: pathlib.Path, times: int) -> None:
 MONTH = datetime.timedelta(days=30)
 
 
-def test_what_is_no_file(tmp_path: pathlib.Path) -> None:
+def test_names_that_are_not_a_file(tmp_path: pathlib.Path) -> None:
     """These are names that users of other programs give as a store, folders, and invalid numbers:
     the error comes before anything is made.
     """
@@ -610,7 +612,7 @@ async def heard(event: sagas.Event) -> None:
         ),
     ],
 )
-def test_what_a_store_is_not_opened_with(
+def test_invalid_options_of_a_store(
     tmp_path: pathlib.Path, options: dict[str, Any], kind: type[Exception], text: str
 ) -> None:
     """Each is refused at once, by its name, and nothing is made or locked."""
@@ -1123,7 +1125,7 @@ ODD = (SystemExit, KeyboardInterrupt, GeneratorExit, asyncio.CancelledError, Sto
 @pytest.mark.parametrize(
     "location, kind, in_thread", pairs(PLACES, ODD, (False, True)), indirect=["location"]
 )
-def test_a_function_raises_what_it_should_not(
+def test_a_function_raises_a_base_exception(
     location: str, kind: type[BaseException], in_thread: bool
 ) -> None:
     """The program continues; the attempt is made again with its token, or fails if the exception is
@@ -1327,7 +1329,7 @@ def test_a_commit_fails_again_and_again(
     run(main())
 
 
-def test_a_failure_for_good_is_not_kept_at_first(tmp_path: pathlib.Path) -> None:
+def test_the_commit_of_a_permanent_failure_fails(tmp_path: pathlib.Path) -> None:
     """Its commit fails: the failure is reported again, and the step is not called again."""
     gate, event_counts, calls = asyncio.Event(), Counter[str](), list[int]()
     saga = sagas.Saga("one")
@@ -1473,7 +1475,7 @@ def test_closing_while_starts_wait(location: str, monkeypatch: pytest.MonkeyPatc
     run(main())
 
 
-def test_closing_says_what_it_waits_for(
+def test_closing_logs_what_it_waits_for(
     tmp_path: pathlib.Path, caplog: pytest.LogCaptureFixture, monkeypatch: pytest.MonkeyPatch
 ) -> None:
     """A function runs for long: closing waits for its end, and logs that."""
@@ -1502,7 +1504,7 @@ def test_closing_says_what_it_waits_for(
 
 
 @pytest.mark.parametrize("seconds", [None, 0])
-def test_closing_goes_on_where_its_caller_is_cancelled(location: str, seconds: int | None) -> None:
+def test_closing_continues_after_a_cancelled_call(location: str, seconds: int | None) -> None:
     """A further call waits for that, or cancels the running functions; then the store is free for
     other programs. A caller that waits until no saga is open is notified that it is closed.
     """
@@ -1544,7 +1546,7 @@ def test_closing_goes_on_where_its_caller_is_cancelled(location: str, seconds: i
     run(main())
 
 
-def test_a_retry_that_cannot_be_stored_hears_that_the_store_is_closed(
+def test_a_retry_that_cannot_be_stored_raises_when_the_store_closes(
     tmp_path: pathlib.Path, monkeypatch: pytest.MonkeyPatch
 ) -> None:
     """Another program holds the file: nothing is written until the store is closed, and the caller
@@ -1624,7 +1626,7 @@ def test_closing_cancels_after_its_grace(location: str) -> None:
 
 
 @pytest.mark.parametrize("must", [False, True])
-def test_a_compensation_fails_for_good(location: str, must: bool) -> None:
+def test_a_compensation_fails_permanently(location: str, must: bool) -> None:
     """The plan continues with the step kept; or no plan is left, and the saga is stuck with its
     chain until an operator resolves it.
     """

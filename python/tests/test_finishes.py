@@ -213,7 +213,7 @@ def test_the_second_of_two_is_answered_once_the_first_is_stored(
 
 
 @pytest.mark.parametrize("same", [True, False], ids=["same", "other"])
-def test_what_the_function_said_is_told_once_it_is_stored(url: str, same: bool) -> None:
+def test_a_report_waits_for_the_stored_outcome_of_the_function(url: str, same: bool) -> None:
     """A report that comes while the step's function runs waits for it; the function gives the
     outcome.
     """
@@ -246,7 +246,7 @@ def test_what_the_function_said_is_told_once_it_is_stored(url: str, same: bool) 
     run(main())
 
 
-def test_a_refusal_is_told_once_what_it_rests_on_is_stored(url: str) -> None:
+def test_a_refusal_waits_until_its_reason_is_stored(url: str) -> None:
     """The step does not start any more, because another one failed."""
     saga, gate, calls = sagas.Saga("fails"), asyncio.Event(), list[str]()
 
@@ -275,7 +275,7 @@ def test_a_refusal_is_told_once_what_it_rests_on_is_stored(url: str) -> None:
 
 
 @pytest.mark.parametrize("on_its_way", ["retry", "failure"])
-def test_a_retry_is_said_again_of_where_the_shard_is(url: str, on_its_way: str) -> None:
+def test_a_retry_follows_its_shard(url: str, on_its_way: str) -> None:
     """It was in progress to the store when the shard moved, or waited for the failure before it."""
     saga, calls, may_fail = sagas.Saga("retried"), list[str](), asyncio.Event()
 

@@ -104,7 +104,7 @@ def test_a_limit_holds_over_all_nodes(url: str) -> None:
     assert count.most == 4 and count.by == {f"n{number}": 20 for number in range(3)}
 
 
-def test_a_held_step_keeps_nobody_back(location: str) -> None:
+def test_a_step_at_its_fleet_limit_takes_no_slot(location: str) -> None:
     """Attempts that wait for a slot of the limit take no slot of the program: another step runs
     past them with the only other one.
     """
@@ -142,7 +142,7 @@ NODE = """
 """
 
 
-def test_a_killed_nodes_places_are_free_after_its_lease(url: str, tmp_path: pathlib.Path) -> None:
+def test_a_killed_nodes_slots_are_free_after_its_lease(url: str, tmp_path: pathlib.Path) -> None:
     """While the node lives its slot is its own; when it is killed, another node's step has it."""
     script = tmp_path / "node.py"
     script.write_text(textwrap.dedent(NODE.format(url=url)))
@@ -248,7 +248,7 @@ def test_a_clock_that_jumped_back_stops_no_rate(location: str) -> None:
     run(main())
 
 
-def test_places_are_not_lost_with_their_answers(url: str, monkeypatch: pytest.MonkeyPatch) -> None:
+def test_slots_are_not_lost_with_their_replies(url: str, monkeypatch: pytest.MonkeyPatch) -> None:
     """Statements are done and their replies lost: the limit holds, all sagas end, and each slot is
     free again.
     """
@@ -280,7 +280,7 @@ def test_places_are_not_lost_with_their_answers(url: str, monkeypatch: pytest.Mo
     assert count.most <= 2
 
 
-def test_what_is_in_doubt_is_told_by_its_own_gate(
+def test_a_lost_reply_is_resolved_by_its_own_gate(
     url: str, monkeypatch: pytest.MonkeyPatch
 ) -> None:
     """The reply for a key is lost, and other keys come in the meantime: a later report of it
@@ -325,7 +325,7 @@ def test_what_is_in_doubt_is_told_by_its_own_gate(
     run(main())
 
 
-def test_what_is_no_limit_is_refused() -> None:
+def test_invalid_limits_are_refused() -> None:
     """The error has the step, and the allowed values."""
     for options, message in (
         ({"fleet_concurrency": 0}, "fleet_concurrency=0"),

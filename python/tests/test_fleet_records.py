@@ -159,7 +159,7 @@ def test_a_log_with_a_gap(
     assert "  NO    yes sessions " in shown and f"shard 0: gap: {one['gaps'][0]}" in shown
 
 
-def test_an_end_that_was_told_and_is_not_there(
+def test_an_acknowledged_end_that_is_missing(
     store: str,
     judge: Callable[..., list[Json]],
     tmp_path: pathlib.Path,
@@ -181,7 +181,9 @@ def test_an_end_that_was_told_and_is_not_there(
     assert "shard 0: lost: the acknowledged ends of the sagas 1" in capsys.readouterr().out
 
 
-def test_what_a_service_acknowledges(url: str, tmp_path: pathlib.Path, receiver: Receiver) -> None:
+def test_acknowledgements_of_a_service(
+    url: str, tmp_path: pathlib.Path, receiver: Receiver
+) -> None:
     """Starts by its replies, ends by its webhooks, and to waiting callers."""
     options = [
         "--local-webhooks",
@@ -261,7 +263,7 @@ def test_records_that_cannot_be(
         ("sagas-record 2 a\n", "line 1: its format is not 1"),
     ],
 )
-def test_files_that_are_none(
+def test_invalid_files(
     store: str,
     tmp_path: pathlib.Path,
     capsys: pytest.CaptureFixture[str],
@@ -304,7 +306,7 @@ def test_a_folder_that_cannot_be_written(
     assert "Not a directory. Name a folder by --save" in capsys.readouterr().err
 
 
-def test_a_node_that_takes_up_what_another_left(url: str, tmp_path: pathlib.Path) -> None:
+def test_a_node_that_takes_over_shards(url: str, tmp_path: pathlib.Path) -> None:
     """The node continues after it, so that the epochs of one record are in the other one."""
     gate, calls = asyncio.Event(), list[str]()
 
@@ -328,7 +330,7 @@ def test_a_node_that_takes_up_what_another_left(url: str, tmp_path: pathlib.Path
 
 
 @pytest.mark.parametrize("ends", [False, True])
-def test_an_abort_is_answered_behind_what_it_rests_on(
+def test_an_abort_is_answered_after_the_commit_of_its_reason(
     url: str, tmp_path: pathlib.Path, ends: bool
 ) -> None:
     """An abort that comes too late writes nothing.

@@ -69,7 +69,7 @@ def test_a_thousand_steps_are_drawn() -> None:
     )
 
 
-def test_what_failed_comes_first() -> None:
+def test_failed_steps_come_first() -> None:
     """It is first in its layer of the picture, in a table of which most rows are folded, and in a
     timeline.
     """

@@ -74,7 +74,7 @@ def finish(drive: Drive, follower: Follower) -> None:
 
 @EXAMPLES
 @given(st.lists(steps(), min_size=1, max_size=2), st.data())
-def test_drive_does_what_the_rules_say(definitions: list[Any], data: st.DataObject) -> None:
+def test_drive_follows_the_rules(definitions: list[Any], data: st.DataObject) -> None:
     """Each reply is the model's; the log is the replies' events; an audit and a restart agree with
     both.
     """

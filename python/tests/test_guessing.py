@@ -191,7 +191,7 @@ def test_a_key_of_another_node(url: str, looks: list[str]) -> None:
     assert count(url) == 2
 
 
-def test_what_a_refused_commit_offered(url: str, looks: list[str]) -> None:
+def test_offers_of_a_refused_commit(url: str, looks: list[str]) -> None:
     """Its sagas are opened again, in other slots: only what is offered then is theirs."""
     kinds = [outside(), outside()]
 
@@ -245,7 +245,7 @@ def test_a_key_that_a_client_started(url: str, looks: list[str]) -> None:
     assert count(url) == 1
 
 
-def test_who_asks_meanwhile(url: str, looks: list[str]) -> None:
+def test_requests_during_a_guess(url: str, looks: list[str]) -> None:
     """While a guess is being stored, a caller that aborts, waits for or starts its key waits, and
     gets the saga that has it.
     """

@@ -230,7 +230,7 @@ def test_an_optional_field_that_was_added(location: str, client: bool) -> None:
     run(main())
 
 
-def test_what_a_reader_without_a_type_sees_counts(location: str) -> None:
+def test_fields_count_for_a_reader_without_a_type(location: str) -> None:
     """If a step reads the input without a type, a field that no type knows is a part of it."""
     saga = sagas.Saga("both")
 
@@ -286,7 +286,7 @@ def test_conflicts_show_no_values(location: str) -> None:
     run(main())
 
 
-def test_how_long_a_value_is_said_to_be() -> None:
+def test_the_reported_length_of_a_value() -> None:
     """Its own letters, without the quotation marks of Python."""
     with pytest.raises(sagas.InvalidKey, match=r"\(513 characters\): must be a text of 1 to 512"):
         arguments.key("k" * 513)
@@ -295,7 +295,9 @@ def test_how_long_a_value_is_said_to_be() -> None:
     )
 
 
-def test_what_a_wait_gives_is_not_told(location: str, caplog: pytest.LogCaptureFixture) -> None:
+def test_the_value_of_a_wait_is_not_reported(
+    location: str, caplog: pytest.LogCaptureFixture
+) -> None:
     """`until` may return what it read of the input."""
     saga = sagas.Saga("waits")
     saga.wait(name="w", until=lambda task: task.input, tries=1)(lambda task: None)

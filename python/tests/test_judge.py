@@ -195,7 +195,7 @@ def test_a_good_store_is_good(good: pathlib.Path) -> None:
 
 
 @pytest.mark.parametrize("spoil, name", SPOILT)
-def test_what_is_spoilt_is_found(
+def test_damage_is_detected(
     good: pathlib.Path, tmp_path: pathlib.Path, spoil: Callable[[Copy], None], name: str
 ) -> None:
     """The verifier finds each fault by its name."""

@@ -169,7 +169,7 @@ def test_rows_of_keys_are_those_of_calls(url: str) -> None:
     run(main())
 
 
-def test_a_place_of_a_node_that_is_gone_is_taken(url: str) -> None:
+def test_a_slot_of_a_dead_node_is_taken(url: str) -> None:
     """Its rows do not block a key."""
     inside = Inside(1)
     saga = bank(inside, False, fleet_concurrency=2)
@@ -207,7 +207,7 @@ def test_a_key_is_of_all_nodes(url: str) -> None:
     assert set(inside.most.values()) == {1} and inside.all == 2
 
 
-def test_a_key_that_cannot_be_said_fails_the_step(location: str) -> None:
+def test_an_error_in_the_key_of_a_limit_fails_the_step(location: str) -> None:
     """Its function is not called; a key is JSON."""
 
     def account(given: Any) -> Any:
@@ -236,7 +236,7 @@ def test_a_key_that_cannot_be_said_fails_the_step(location: str) -> None:
     run(main())
 
 
-def test_what_is_no_limit_with_a_key_is_refused() -> None:
+def test_invalid_limits_with_a_key_are_refused() -> None:
     """Each error says what to do."""
     saga = sagas.Saga("s")
 
@@ -314,7 +314,7 @@ def test_a_small_tenant_does_not_wait_for_a_large_one(
     run(main())
 
 
-def test_whose_a_saga_is_cannot_be_said(
+def test_the_tenant_of_a_saga_cannot_be_computed(
     tmp_path: pathlib.Path, caplog: pytest.LogCaptureFixture
 ) -> None:
     """Then the saga has no tenant; the log reports that without the input."""

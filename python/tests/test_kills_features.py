@@ -50,7 +50,7 @@ def test_there_are_enough_wrong_variants() -> None:
 
 
 @pytest.mark.parametrize("name", SOME)
-def test_a_wrong_variant_is_found(name: str) -> None:
+def test_a_mutant_of_the_package_is_detected(name: str) -> None:
     """One round without strikes finds it."""
     played = try_wrong(name)
     assert VARIANTS[name].finds in played.names, played.verdict.faults[:5]

@@ -58,7 +58,7 @@ def aborts(path: str) -> dict[str, int]:
     return counts
 
 
-def test_sagas_are_found_by_their_labels(location: str) -> None:
+def test_sagas_are_listed_by_their_labels(location: str) -> None:
     """This holds also after a restart; a second start of a key keeps the labels of the first."""
 
     async def main() -> None:
@@ -102,7 +102,7 @@ def test_sagas_are_found_by_their_labels(location: str) -> None:
         ({str(number): "7" for number in range(17)}, "17 labels"),
     ],
 )
-def test_labels_that_are_none(tmp_path: pathlib.Path, labels: Any, text: str) -> None:
+def test_invalid_labels(tmp_path: pathlib.Path, labels: Any, text: str) -> None:
     """No saga is started, and no filter accepts them."""
 
     async def main() -> None:
@@ -333,7 +333,7 @@ def heard(process: subprocess.Popen[str], count: int) -> list[str]:
     return lines
 
 
-def test_a_batch_that_is_killed_goes_on(location: str, tmp_path: pathlib.Path) -> None:
+def test_a_killed_batch_continues(location: str, tmp_path: pathlib.Path) -> None:
     """The program that starts sagas, the command after its second transaction, and the program that
     executes it are killed: no label is lost, and each saga is aborted once.
     """

@@ -68,7 +68,7 @@ def test_texts_that_are_not_of_their_form(
     assert str(error.value) == line
 
 
-def test_definitions_are_told_by_their_places(way: str) -> None:
+def test_definitions_are_named_by_their_index(way: str) -> None:
     with pytest.raises(sagas.InvalidText, match="^sagas: definition 1: bad-format$"):
         sagas.audit("", DEFINITION, "")
     with pytest.raises(sagas.InvalidText, match="^sagas: too many definitions$"):

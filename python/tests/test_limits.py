@@ -19,7 +19,7 @@ TAKEN = "UPDATE sagas.shards SET owner = 'other/1', epoch = epoch + 1"
 
 
 @pytest.mark.parametrize("in_thread", [False, True])
-def test_what_is_let_go_has_its_place_until_it_is_over(url: str, in_thread: bool) -> None:
+def test_a_released_call_keeps_its_slot_until_it_ends(url: str, in_thread: bool) -> None:
     """A log goes to another node while one of its functions runs here, and cannot be stopped, or
     takes time to end: no other call starts before.
     """

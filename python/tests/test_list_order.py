@@ -156,7 +156,7 @@ def test_two_nodes_and_a_client_list_alike(url: str) -> None:
     assert (ids := of_both(url)) != sorted(ids)
 
 
-def test_what_needs_a_person_is_by_age(location: str) -> None:
+def test_attention_is_ordered_by_age(location: str) -> None:
     """A limit returns the oldest ones: stuck sagas, and failed compensations."""
 
     async def main() -> None:
@@ -242,7 +242,7 @@ def test_attention_is_by_age(client: httpx.Client) -> None:
 
 
 @pytest.mark.parametrize("path", ["/v1/sagas", "/v1/attention"])
-def test_a_cursor_that_is_none(client: httpx.Client, path: str) -> None:
+def test_an_invalid_cursor(client: httpx.Client, path: str) -> None:
     """It gets the same error as any invalid parameter of a query."""
     kind = "" if path == "/v1/sagas" else "stuck."
     step = kind and ".-1"

@@ -130,7 +130,7 @@ def test_all_that_are_wanted_go_together(url: str, logs: list[int]) -> None:
 
 @pytest.mark.parametrize("together", [False, True])
 @pytest.mark.parametrize("has_lines", [False, True])
-def test_a_commit_behind_a_chunk_that_is_not_there(
+def test_a_commit_after_a_missing_chunk(
     url: str, logs: list[int], together: bool, has_lines: bool
 ) -> None:
     """Nothing is written of a log whose last chunk is missing or different in the database; of the
@@ -185,7 +185,7 @@ def test_a_commit_behind_a_chunk_that_is_not_there(
         assert {log for (log,) in rows} == (written if has_lines else set())
 
 
-def test_a_log_whose_commit_is_under_way(url: str, logs: list[int]) -> None:
+def test_loading_a_log_waits_for_its_commit(url: str, logs: list[int]) -> None:
     """It is loaded after that commit; logs that are requested with it and after it are loaded
     before.
     """
@@ -215,7 +215,7 @@ def test_a_log_whose_commit_is_under_way(url: str, logs: list[int]) -> None:
     run(main())
 
 
-def test_locked_logs_hold_up_nobody(url: str, logs: list[int]) -> None:
+def test_locked_logs_delay_no_request(url: str, logs: list[int]) -> None:
     """More of them than there are connections are requested at once: another request gets a
     connection.
     """

@@ -36,7 +36,7 @@ def asking() -> sagas.Saga:
     return asking
 
 
-def test_looks_and_who_did_what(location: str) -> None:
+def test_reads_and_the_record_of_operators(location: str) -> None:
     """Check counts, pages, a search, what needs an operator, one saga, and the notes of an abort
     and of a finish.
     """
@@ -97,7 +97,7 @@ class Clock:
         return time.time() + self.by
 
 
-def test_a_log_is_told_in_its_own_order(location: str) -> None:
+def test_events_keep_the_order_of_their_log(location: str) -> None:
     """Its times go back when a clock is set back.
 
     Its events keep the order of the log, each with its effects, and an action of an operator comes

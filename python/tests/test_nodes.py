@@ -156,7 +156,7 @@ def test_a_key_is_unique_over_all_nodes(url: str) -> None:
     assert set(kept.sagas) == {f"k{number}" for number in range(60)}
 
 
-def test_who_waits_elsewhere_hears_of_the_end(url: str) -> None:
+def test_a_caller_at_another_node_gets_the_end(url: str) -> None:
     """`wait`, `abort` and `finish` work at a node that does not have the saga."""
     gate = asyncio.Event()
     kind = pair(gate)
@@ -344,7 +344,7 @@ def test_two_nodes_of_one_name(url: str) -> None:
     assert all(row.phase == "ended" for row in records.read(url).sagas.values())
 
 
-def test_a_log_that_another_wrote_while_its_child_was_let_go(
+def test_a_log_that_another_node_wrote_in_the_meantime(
     url: str, caplog: pytest.LogCaptureFixture
 ) -> None:
     """A node reports into a log that another one has ended in the meantime: it finds that the log
@@ -420,7 +420,9 @@ def test_a_log_that_was_left_is_judged_again(url: str, caplog: pytest.LogCapture
     assert not [one for one in caplog.records if "no node executes" in one.getMessage()]
 
 
-def test_what_no_node_drives_is_told(url: str, caplog: pytest.LogCaptureFixture) -> None:
+def test_sagas_without_a_driving_node_are_reported(
+    url: str, caplog: pytest.LogCaptureFixture
+) -> None:
     """A node without the functions of open sagas reports once which they are and how many, as soon
     as no node has driven them for a lease. To find that out it does not give up its own shards,
     even if a table is locked. The report of a log that was left is dropped once it is closed.
@@ -522,7 +524,7 @@ async def all_reported_unknown(store: sagas.Store, count: int) -> bool:
     return len(await store.unknown()) == count
 
 
-def test_a_lost_connection_is_no_childs_death(postgresql: Server, url: str) -> None:
+def test_a_lost_connection_is_not_reported_as_a_dead_engine(postgresql: Server, url: str) -> None:
     """The server cannot be reached as logs are to be loaded: the error names the database."""
     gate, calls, events = asyncio.Event(), list[str](), list[sagas.Event]()
     kind = pair(gate, calls)
@@ -624,7 +626,7 @@ def test_a_lease_is_over_before_its_end() -> None:
     assert not lease.fresh
 
 
-def test_no_function_begins_behind_the_lease(url: str) -> None:
+def test_no_function_starts_after_the_lease(url: str) -> None:
     """A node cannot renew its lease: its sagas pause, and no call starts until it has renewed it
     and looked at its logs.
     """
@@ -672,7 +674,7 @@ TAKEN = (
 )
 
 
-def test_behind_its_lease_a_node_keeps_what_is_still_its_own(
+def test_a_node_past_its_lease_keeps_its_own_logs(
     url: str, monkeypatch: pytest.MonkeyPatch
 ) -> None:
     """Another node has taken one of its two logs in the meantime: it ends the engines of both,
@@ -770,7 +772,7 @@ def test_new_sagas_go_to_a_log_of_the_nodes_own(url: str) -> None:
     run(main())
 
 
-def test_takeover_in_lots_goes_past_a_locked_log(url: str, monkeypatch: pytest.MonkeyPatch) -> None:
+def test_takeover_in_batches_skips_a_locked_log(url: str, monkeypatch: pytest.MonkeyPatch) -> None:
     """There are more logs than a batch takes; a locked one is left, and taken later."""
     monkeypatch.setattr("sagas.definition.shelf.SHARD_CAPACITY", 1)
     calls: list[str] = []
@@ -802,9 +804,7 @@ def test_takeover_in_lots_goes_past_a_locked_log(url: str, monkeypatch: pytest.M
     assert Counter(calls) == Counter(f"k{number}" for number in range(60))
 
 
-def test_a_node_says_between_two_lots_that_it_lives(
-    url: str, monkeypatch: pytest.MonkeyPatch
-) -> None:
+def test_a_node_renews_its_lease_between_batches(url: str, monkeypatch: pytest.MonkeyPatch) -> None:
     """It takes over the shards of another node, and has the functions of some: one batch for each
     heartbeat.
     """
@@ -995,7 +995,7 @@ def test_a_log_that_could_not_be_given_back(url: str, monkeypatch: pytest.Monkey
     run(main())
 
 
-def test_what_happens_is_told(url: str, monkeypatch: pytest.MonkeyPatch) -> None:
+def test_notifications_of_events(url: str, monkeypatch: pytest.MonkeyPatch) -> None:
     """A client's start that is taken, a reply, an end: a waiting caller is notified.
 
     Without that it would look only minutes later.
@@ -1027,7 +1027,7 @@ def test_what_happens_is_told(url: str, monkeypatch: pytest.MonkeyPatch) -> None
     run(main())
 
 
-def test_what_was_heard_before_a_connection_broke_counts_no_more(url: str) -> None:
+def test_notifications_before_a_reconnect_do_not_count(url: str) -> None:
     """Another server may have taken over, at which a saga is open that had ended: a caller that
     waits for it pauses between two looks.
     """
@@ -1055,7 +1055,9 @@ def test_what_was_heard_before_a_connection_broke_counts_no_more(url: str) -> No
     run(main())
 
 
-def test_an_end_is_heard_of_without_a_word(url: str, monkeypatch: pytest.MonkeyPatch) -> None:
+def test_an_end_is_noticed_without_a_notification(
+    url: str, monkeypatch: pytest.MonkeyPatch
+) -> None:
     """A notification of the database may be lost: waiting callers look by themselves, at growing
     intervals.
     """
@@ -1147,7 +1149,7 @@ def test_a_start_without_a_server_is_refused(url: str, monkeypatch: pytest.Monke
     run(main())
 
 
-def test_who_looks_for_a_key_hears_that_the_store_is_closed(
+def test_a_look_for_a_key_ends_when_the_store_closes(
     postgresql: Server, url: str, monkeypatch: pytest.MonkeyPatch
 ) -> None:
     """The server does not respond: a caller that waits for it does not wait longer than the store
@@ -1354,7 +1356,7 @@ while.
 
 
 @pytest.mark.parametrize("table", ["sagas", "event_log", "attempts", "suspensions", "definitions"])
-def test_who_reads_holds_up_nobody(url: str, table: str) -> None:
+def test_reads_do_not_block_the_loop(url: str, table: str) -> None:
     """Another program locks a table for longer than a lease.
 
     The loop continues while the store reads, the node keeps its lease, and each reply comes once
@@ -1431,7 +1433,7 @@ async def echo(task: Task) -> Any:
     return task.input
 
 
-def test_an_audit_in_the_background_holds_up_nobody(url: str) -> None:
+def test_an_audit_in_the_background_blocks_nothing(url: str) -> None:
     """A finished log is to be audited, and another program locks the table of its lines for longer
     than a lease: the loop continues, the lease is kept, and the log is closed once the table is
     free.

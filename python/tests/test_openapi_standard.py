@@ -155,7 +155,7 @@ WRONG: dict[str, tuple[str, Any, str]] = {
 
 
 @pytest.mark.parametrize("what", WRONG)
-def test_what_is_wrong_is_found(what: str) -> None:
+def test_rule_violations_are_found(what: str) -> None:
     """Each rule finds a document that breaks it."""
     location, value, text = WRONG[what]
     document = copy.deepcopy(DOCUMENT)

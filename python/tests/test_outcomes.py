@@ -34,7 +34,7 @@ def test_returns(location: str) -> None:
     assert end.ok and end.results == {"a": {"id": 7, "days": [1, 2]}} and end.cost is None
 
 
-def test_returns_what_is_no_json(location: str, caplog: pytest.LogCaptureFixture) -> None:
+def test_returns_a_value_that_is_not_json(location: str, caplog: pytest.LogCaptureFixture) -> None:
     """The effect exists and is not lost: the result is kept as unstorable, with a warning."""
 
     async def main() -> sagas.SagaResult:

@@ -35,7 +35,7 @@ async def opened(url: str) -> tuple[Asker, Kept]:
     return asker, kept
 
 
-def test_what_is_under_way_is_answered_before_the_end(url: str) -> None:
+def test_statements_in_progress_end_before_the_close(url: str) -> None:
     """Later statements are refused."""
 
     async def main() -> None:
@@ -100,7 +100,7 @@ def test_a_connection_that_the_server_ends(url: str) -> None:
     run(main())
 
 
-def test_words_of_statements(url: str) -> None:
+def test_parameters_of_statements(url: str) -> None:
     """Any text comes back unchanged."""
     texts = ["", "NULL", "a,b", "{}", '"', "\\", '\\\\"', "\n\t ", "\u00e9\U0001f600", "'"]
     assert numbered("%(b)s %(a)s %(b)s", "a", "b") == "$2 $1 $2"

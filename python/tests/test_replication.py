@@ -162,7 +162,7 @@ def test_starts_wait_for_the_standby_side_by_side(away: Away, store: str, kind: 
     run(main())
 
 
-def test_a_canceled_wait_is_no_acknowledgement(away: Away, store: str, kind: sagas.Saga) -> None:
+def test_a_canceled_wait_is_not_acknowledged(away: Away, store: str, kind: sagas.Saga) -> None:
     """The server answers a start as if all was well.
 
     It is not acknowledged, and neither is the next one of its key, before the standby is back.

@@ -79,7 +79,7 @@ async def waits_for_a_person(url: str, store: sagas.Store, key: str) -> None:
 @pytest.mark.parametrize(
     "by, what, same", pairs(("client", "node"), ("complete", "abort"), (True, False))
 )
-def test_who_asked_is_gone_when_another_saga_has_the_key(
+def test_a_request_of_a_cancelled_caller_is_for_no_other_saga(
     url: str, link: psycopg.Connection[Any], kind: sagas.Saga, by: str, what: str, same: bool
 ) -> None:
     """A request for a start is in transit to the server; the start is withdrawn, the caller is
@@ -142,7 +142,7 @@ def test_a_start_of_the_same_key_is_not_taken_back(
 
 
 @pytest.mark.parametrize("what", ["complete", "abort"])
-def test_what_is_asked_of_a_start_is_asked_of_its_saga(
+def test_a_request_for_a_start_is_for_its_saga(
     url: str, link: psycopg.Connection[Any], kind: sagas.Saga, what: str
 ) -> None:
     """The caller is gone before a node comes; the request is executed anyway, once."""
@@ -165,7 +165,7 @@ def test_what_is_asked_of_a_start_is_asked_of_its_saga(
     run(main())
 
 
-def test_what_is_asked_while_a_start_is_opened(
+def test_a_request_during_the_opening_of_a_start(
     url: str, link: psycopg.Connection[Any], kind: sagas.Saga
 ) -> None:
     """A node's commit opens the saga, and a request that comes in the meantime waits for that
@@ -189,7 +189,7 @@ def test_what_is_asked_while_a_start_is_opened(
     run(main())
 
 
-def test_what_was_asked_of_a_saga_that_is_gone(
+def test_a_request_for_a_deleted_saga(
     url: str, link: psycopg.Connection[Any], kind: sagas.Saga
 ) -> None:
     """It is executed for no other saga of its key, and deleted with its own."""
@@ -215,7 +215,7 @@ def test_what_was_asked_of_a_saga_that_is_gone(
     run(main())
 
 
-def test_who_asks_of_a_saga_that_is_let_go(
+def test_a_request_during_the_deletion_of_its_saga(
     url: str, link: psycopg.Connection[Any], kind: sagas.Saga
 ) -> None:
     """The saga is deleted while a request is made: nothing is left of it, and a saga that has the
@@ -246,7 +246,7 @@ def test_who_asks_of_a_saga_that_is_let_go(
 
 
 @pytest.mark.parametrize("by, what", pairs(("client", "node"), ("complete", "abort", "fail")))
-def test_what_is_asked_as_a_start_with_a_large_input_becomes_a_saga(
+def test_a_request_during_the_opening_of_a_large_start(
     url: str, link: psycopg.Connection[Any], kind: sagas.Saga, by: str, what: str, tmp_path: Path
 ) -> None:
     """The commit that opens the saga, whose input is then a blob, comes between the caller's look

@@ -142,9 +142,7 @@ def tables(location: str) -> dict[str, int]:
         }
 
 
-def test_old_logs_go_as_a_whole_and_their_keys_are_free(
-    location: str, capsys: pytest.CaptureFixture[str]
-) -> None:
+def test_old_logs_are_deleted_as_a_whole(location: str, capsys: pytest.CaptureFixture[str]) -> None:
     """Younger, open and unclosed ones stay; nothing is left of a deleted one; a free key takes
     another input.
     """
@@ -202,7 +200,7 @@ def test_old_logs_go_as_a_whole_and_their_keys_are_free(
     assert f"deleted {2 * ROOM + 2} sagas (3 shards)" in capsys.readouterr().out
 
 
-def test_what_a_person_has_to_see_stays(location: str) -> None:
+def test_sagas_that_need_an_operator_stay(location: str) -> None:
     """They are a log with a stuck saga that is not resolved, and one whose audit failed."""
     kind = must()
 
@@ -246,7 +244,7 @@ def test_a_compensation_that_failed_stays(location: str) -> None:
     run(main())
 
 
-def test_an_export_is_what_the_audit_judges(location: str, tmp_path: pathlib.Path) -> None:
+def test_an_export_has_the_input_of_the_audit(location: str, tmp_path: pathlib.Path) -> None:
     """It has log and definitions, keys with inputs and results, and each plan with its certificate,
     as the program judges them.
     """
@@ -295,7 +293,7 @@ def test_an_export_is_what_the_audit_judges(location: str, tmp_path: pathlib.Pat
         assert subprocess.run(command, capture_output=True, text=True).stdout.startswith("least ")
 
 
-def test_nothing_goes_that_cannot_be_exported(
+def test_nothing_is_deleted_that_cannot_be_exported(
     location: str, tmp_path: pathlib.Path, capsys: pytest.CaptureFixture[str]
 ) -> None:
     """The folder cannot be made: the command reports that, and the log stays."""
@@ -395,7 +393,7 @@ def test_one_run_at_a_time(
     assert len([*(tmp_path / "archive").iterdir()]) == 1
 
 
-def test_a_log_goes_while_it_is_exported(location: str, tmp_path: pathlib.Path) -> None:
+def test_a_log_is_deleted_during_its_export(location: str, tmp_path: pathlib.Path) -> None:
     """The export is of one moment: all of the log.
 
     A later export has nothing, and the first one stays.
@@ -440,7 +438,7 @@ def test_a_forked_child_keeps_no_archive(tmp_path: pathlib.Path) -> None:
         os.waitpid(child, 0)
 
 
-def test_a_run_takes_no_more_than_its_most(location: str) -> None:
+def test_a_run_has_a_limit(location: str) -> None:
     """It goes in order of the logs' numbers, and the rest follows in further runs; the default is
     100,000 sagas.
     """
@@ -453,7 +451,7 @@ def test_a_run_takes_no_more_than_its_most(location: str) -> None:
     assert gone.sagas == ROOM and not gone.more
 
 
-def test_a_clock_that_is_put_forward_lets_nothing_go(location: str) -> None:
+def test_a_clock_set_forward_deletes_nothing(location: str) -> None:
     """The earlier one of two clocks counts."""
     logs = run(fill(location, shop(), ROOM))
     later = records.read(location)
@@ -465,7 +463,7 @@ def test_a_clock_that_is_put_forward_lets_nothing_go(location: str) -> None:
     assert retention.prune(location, MONTH, clock=lambda: 0.0).logs == []
 
 
-def test_an_open_store_lets_them_go(location: str, tmp_path: pathlib.Path) -> None:
+def test_an_open_store_prunes(location: str, tmp_path: pathlib.Path) -> None:
     """`retention` and `archive_dir` work while sagas are started: a node reports what was
     deleted.
     """
@@ -544,7 +542,7 @@ ASKS: dict[str, Callable[[Any], Any]] = {
     [("attempts", "wait"), ("attempts", "log"), ("event_log", "log"), ("event_log", "plan")],
 )
 @pytest.mark.parametrize("who", ["client", "node"])
-def test_a_saga_that_goes_while_it_is_read(url: str, who: str, table: str, ask: str) -> None:
+def test_a_saga_that_is_deleted_during_a_read(url: str, who: str, table: str, ask: str) -> None:
     """Its row was read, and its log is deleted before the rest is: the error says that it is gone.
 
     It is never returned with results of None, without events or without its plan.
@@ -574,7 +572,7 @@ FROM sagas WHERE key = 'k1'
 """
 
 
-def test_a_saga_that_goes_while_it_is_looked_at(url: str) -> None:
+def test_a_saga_that_is_deleted_during_a_look(url: str) -> None:
     """The same holds for all of its data; another saga that has the key by then is returned."""
     kind = shop()
 

@@ -70,7 +70,7 @@ async def used(path: pathlib.Path) -> None:
         assert (await ended(store, SAGA)).ok
 
 
-def test_the_command_says_what_it_may_not(
+def test_the_command_reports_missing_rights(
     store: pathlib.Path, capsys: pytest.CaptureFixture[str]
 ) -> None:
     """For an unreadable file or folder it prints one line, with the remedy."""
@@ -94,7 +94,7 @@ def test_the_command_says_what_it_may_not(
         store.parent.chmod(0o755)
 
 
-def test_the_command_tells_of_what_is_spoilt(
+def test_the_command_reports_a_damaged_file(
     store: pathlib.Path, capsys: pytest.CaptureFixture[str]
 ) -> None:
     """A file that turns out to be a damaged database is reported in one line as well."""
@@ -107,7 +107,7 @@ def test_the_command_tells_of_what_is_spoilt(
 
 
 @pytest.mark.skipif(os.geteuid() != 0, reason="only root can give files to others")
-def test_open_says_whose_the_lock_is(store: pathlib.Path) -> None:
+def test_open_names_the_owner_of_the_lock(store: pathlib.Path) -> None:
     """The error has the lock of another user, and a file that cannot be written or read, with the
     remedy.
     """
@@ -139,7 +139,7 @@ def test_the_owner_deletes_after_root(store: pathlib.Path) -> None:
         assert store_command.main(arguments) == 0
 
 
-def test_nothing_is_left_beside_what_is_no_store(tmp_path: pathlib.Path) -> None:
+def test_no_files_next_to_a_file_that_is_not_a_store(tmp_path: pathlib.Path) -> None:
     """A user who gives a program instead of a store's path finds it unchanged, and no file next to
     it.
     """

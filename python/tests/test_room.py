@@ -59,7 +59,7 @@ def test_the_greatest_definition_runs(location: str) -> None:
 
 
 @pytest.mark.parametrize("location", ["sqlite"], indirect=True)
-def test_a_log_that_fills_up_goes_on_in_another(location: str) -> None:
+def test_a_full_log_is_followed_by_another(location: str) -> None:
     """One log takes four open sagas of 1,024 steps with 8,156 needs.
 
     The sagas of both logs end, and both logs pass their audit.

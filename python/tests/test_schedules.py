@@ -106,7 +106,7 @@ def test_times_in_equal_distances() -> None:
 
 
 @pytest.mark.parametrize("seconds", [1.1, 7.3, DAY / 7])
-def test_each_time_is_behind_the_one_before(seconds: float) -> None:
+def test_each_time_follows_the_one_before(seconds: float) -> None:
     """This holds also if the interval is not a binary fraction, so that times are rounded."""
     every = datetime.timedelta(seconds=seconds)
     each, last = (timing.timing(None, every, "UTC", catch_up) for catch_up in ("all", "last"))
@@ -139,7 +139,7 @@ WRONG = [
 ]
 
 
-def test_schedules_that_are_none(tmp_path: pathlib.Path) -> None:
+def test_invalid_schedules(tmp_path: pathlib.Path) -> None:
     """They are not stored."""
 
     async def main() -> None:
@@ -226,7 +226,7 @@ def test_times_that_were_missed(
 
 
 @pytest.mark.parametrize("what", ["pause", "remove", "change"])
-def test_nothing_is_started_behind_the_answer(location: str, what: str) -> None:
+def test_nothing_is_started_after_a_change(location: str, what: str) -> None:
     """Several times are due; when the first saga has started, another program changes that."""
     clock, event_names = Clock(), list[str]()
 
@@ -595,7 +595,7 @@ def test_a_program_that_lacks_the_definition(location: str) -> None:
     run(main())
 
 
-def test_bounds_and_overlaps_that_are_none() -> None:
+def test_invalid_bounds_and_overlaps() -> None:
     for options in (
         {"max": 0},
         {"max": True},

@@ -379,7 +379,7 @@ def test_a_step_inside_ends_at_a_server_that_took_over(in_thread: bool) -> None:
         assert two.calls.count("a") == 2
 
 
-def test_a_step_inside_that_is_alone_ends_at_the_server_that_was_there_before() -> None:
+def test_a_lone_step_inside_ends_at_the_former_server() -> None:
     """Its commit is done there when its node has recovered from the new server, which does not have
     it: it is called again there.
     """
@@ -509,7 +509,7 @@ class Lacking:
 
 @pytest.mark.parametrize("taken_up", [False, True])
 @pytest.mark.parametrize("in_thread", [False, True])
-def test_a_step_inside_of_a_saga_that_is_not_there(in_thread: bool, taken_up: bool) -> None:
+def test_a_step_inside_of_a_saga_that_the_new_server_lacks(in_thread: bool, taken_up: bool) -> None:
     """Its node knows that another server has taken over, and loads the log from there only then, or
     in the meantime: nothing of a saga is written that the server lacks.
     """
@@ -577,7 +577,7 @@ def test_tables_that_are_gone(url: str, caplog: pytest.LogCaptureFixture) -> Non
     assert caplog.text.count("the tables of the store are gone") == 1
 
 
-def test_a_program_ends_whose_tables_are_gone(url: str, tmp_path: pathlib.Path) -> None:
+def test_a_program_ends_if_its_tables_are_gone(url: str, tmp_path: pathlib.Path) -> None:
     """A program without async does, and so does the service."""
     with served(tmp_path, store=url) as service:
         with sagas.open_sync(url, [simple(lambda task: "done")]) as store:

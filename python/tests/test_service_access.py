@@ -293,7 +293,7 @@ def test_an_approval_is_given_on_purpose(guarded: Guarded) -> None:
         }
 
 
-def test_who_may_approve(guarded: Guarded) -> None:
+def test_the_right_to_approve(guarded: Guarded) -> None:
     """Neither the token that starts a saga nor a worker's may; and an approver reports no other
     step.
     """
@@ -537,7 +537,7 @@ def half_sent(
         yield one, body[1:]
 
 
-def test_a_token_that_is_taken_away(tmp_path: pathlib.Path) -> None:
+def test_a_revoked_token(tmp_path: pathlib.Path) -> None:
     """Its bearer and its sessions end with it, without a restart, and so does a request whose body
     is still to come; if the file cannot be read, the others stay valid.
     """

@@ -273,7 +273,7 @@ def test_a_deadline(service: Served, client: httpx.Client) -> None:
     client.post("/v1/sagas/never/abort", json={})
 
 
-def test_what_has_begun(client: httpx.Client) -> None:
+def test_started_attempts(client: httpx.Client) -> None:
     """Until a worker takes it, it has started and waits for one; then it runs at that worker; and
     when the lease has expired it waits again.
     """
@@ -524,7 +524,7 @@ def test_a_task_that_is_offered_again_has_no_worker(client: httpx.Client) -> Non
     assert report(client, task).status_code == 200
 
 
-def test_unknown_is_said_once_under_a_lease(client: httpx.Client) -> None:
+def test_unknown_is_reported_once_per_lease(client: httpx.Client) -> None:
     """It holds also when the task waits for a worker again; under that lease only a success counts
     then.
     """
@@ -552,7 +552,7 @@ def test_unknown_is_said_once_under_a_lease(client: httpx.Client) -> None:
     assert get(client, "/v1/sagas/hazy-few/wait?seconds=60")["results"]["a"] == 1
 
 
-def test_nobody_knows(client: httpx.Client) -> None:
+def test_unknown_outcomes(client: httpx.Client) -> None:
     """After the last unknown outcome an operator must report; no earlier lease gives the task to a
     worker.
     """
@@ -627,7 +627,7 @@ def test_a_report_comes_before_its_step(client: httpx.Client) -> None:
     assert end["phase"] == "completed" and end["results"]["send"] == "sent" and end["early"] == {}
 
 
-def test_an_aborted_task_that_nobody_took_is_not_begun(client: httpx.Client) -> None:
+def test_an_aborted_task_without_a_worker_is_not_started(client: httpx.Client) -> None:
     start(client, "order", "early")
     client.post("/v1/sagas/early/steps/review/complete", json={"result": None})
     assert client.post("/v1/sagas/early/abort", json={"note": "wrong address"}).json() == {
@@ -710,7 +710,7 @@ def test_events_are_streamed(service: Served, client: httpx.Client) -> None:
         assert "event: missed" in [line.strip() for _, line in zip(range(3), stream.iter_lines())]
 
 
-def test_a_stuck_one_is_resolved(client: httpx.Client) -> None:
+def test_a_stuck_saga_is_resolved(client: httpx.Client) -> None:
     stuck(client, "stuck-1")
     assert get(client, "/v1/sagas/stuck-1")["plan"] == {
         "cost": None,
@@ -819,7 +819,7 @@ def test_the_log_is_lines_of_json(service: Served, client: httpx.Client) -> None
     )
 
 
-def test_it_goes_on_after_a_kill(tmp_path: pathlib.Path, location: str) -> None:
+def test_it_continues_after_a_kill(tmp_path: pathlib.Path, location: str) -> None:
     """Leases, approvals and reports outlive the service; the same report again is still one."""
     with served(
         tmp_path, DEFINITIONS, "--node", "one", store=location
@@ -905,7 +905,7 @@ def test_it_stops_although_clients_ask_on(tmp_path: pathlib.Path) -> None:
         (DEFINITIONS, ("--app", "nowhere:store"), "--app nowhere:store: No module"),
     ],
 )
-def test_what_cannot_be_served(
+def test_invalid_options_of_a_service(
     tmp_path: pathlib.Path, files: dict[str, str], arguments: tuple[str, ...], says: str
 ) -> None:
     """It reports what is wrong and where, and does not start."""
@@ -919,7 +919,7 @@ def test_what_cannot_be_served(
     assert "Traceback" not in done.stderr
 
 
-def test_numbers_that_options_do_not_take() -> None:
+def test_invalid_option_values() -> None:
     """They end the command with status 2 and a line that says what to use, before anything starts;
     so do invalid names.
     """
@@ -949,7 +949,7 @@ def test_numbers_that_options_do_not_take() -> None:
         ), done.stderr
 
 
-def test_what_is_meant_for_a_database(tmp_path: pathlib.Path) -> None:
+def test_connection_parameters_instead_of_a_file(tmp_path: pathlib.Path) -> None:
     """Connection parameters and a misspelled URL are not a file's name: nothing is made, and the
     password is not printed.
     """

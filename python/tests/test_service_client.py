@@ -147,7 +147,7 @@ def test_lists(client: sagas.ServiceClient) -> None:
     assert [one.key for one in client.list(phase="recovered", search="listed")] == [keys[0]]
 
 
-def test_events_go_on_behind_the_last_one(service: Served) -> None:
+def test_events_continue_after_the_last_one(service: Served) -> None:
     """Connections are cut, and a later stream continues after an id: no event is missed, and none
     comes twice.
     """
@@ -174,7 +174,7 @@ def test_events_go_on_behind_the_last_one(service: Served) -> None:
     )
 
 
-def test_nobody_answers(service: Served) -> None:
+def test_an_unreachable_service(service: Served) -> None:
     """The error comes once the time is over; the next one of several services is asked."""
     dead = f"http://{host()}:9"
     with sagas.ServiceClient(dead, timeout=0.2) as client:
@@ -193,7 +193,7 @@ def test_nobody_answers(service: Served) -> None:
         assert client.get("late") is None and client.url == service.url
 
 
-def test_close_ends_what_waits(service: Served) -> None:
+def test_close_ends_waits(service: Served) -> None:
     """A wait raises `Closed`, a loop over events ends, and so does each later call."""
     client, ended = sagas.ServiceClient(service.url), []
     client.start("order", "closed")
@@ -230,7 +230,7 @@ def test_a_fork_has_connections_of_its_own(client: sagas.ServiceClient) -> None:
     assert os.waitpid(child, 0)[1] == 0
 
 
-def test_what_it_is_made_with(tmp_path: pathlib.Path) -> None:
+def test_invalid_arguments(tmp_path: pathlib.Path) -> None:
     """Invalid arguments are reported at once, and no token is in a message."""
     for url, token, timeout in (
         ("nowhere", None, 1),

@@ -210,7 +210,7 @@ def test_a_fault_has_its_line(
     assert ".py" not in str(fault.value)
 
 
-def test_what_is_good(tmp_path: pathlib.Path) -> None:
+def test_valid_files(tmp_path: pathlib.Path) -> None:
     """It is read; its warnings have their lines as well, and two of one name and version
     name both.
     """

@@ -106,7 +106,7 @@ def test_the_page_lists_them(world: World, receiver: Receiver) -> None:
     assert page.get("/ui/webhooks?state=lost").status_code == 422
 
 
-def test_who_may_look_and_post_again(world: World, receiver: Receiver) -> None:
+def test_the_right_to_see_and_repeat_deliveries(world: World, receiver: Receiver) -> None:
     """Operators that see all definitions may, by a form of their own session."""
     one = settled(world["operator"], "<b>given-up")
     again = f"/ui/webhooks/{one['id']}/redeliver"
@@ -173,6 +173,6 @@ def test_the_command(world: World, receiver: Receiver) -> None:
         assert (done.returncode, done.stdout) == (status, "") and text in done.stderr, arguments
 
 
-def test_a_store_that_is_none(tmp_path: pathlib.Path) -> None:
+def test_a_file_that_is_not_a_store(tmp_path: pathlib.Path) -> None:
     done = command("store", str(tmp_path / "none.db"), "deliveries")
     assert done.returncode == 4 and "the file does not exist" in done.stderr

@@ -168,7 +168,7 @@ def guarded(tmp_path_factory: pytest.TempPathFactory) -> Iterator[tuple[Served, 
         yield service, tokens
 
 
-def test_who_may_not_is_told_by_the_head_alone(guarded: tuple[Served, dict[str, str]]) -> None:
+def test_a_refusal_needs_only_the_head(guarded: tuple[Served, dict[str, str]]) -> None:
     """The response comes before a byte of the body; the body is discarded, and the connection stays
     usable.
     """
@@ -189,7 +189,7 @@ def test_who_may_not_is_told_by_the_head_alone(guarded: tuple[Served, dict[str, 
             assert answered(one) == (200, "")
 
 
-def test_a_body_is_looked_at_behind_the_token(guarded: tuple[Served, dict[str, str]]) -> None:
+def test_a_body_is_checked_after_the_token(guarded: tuple[Served, dict[str, str]]) -> None:
     """A body that is not JSON is reported only to clients that may send it."""
     service, tokens = guarded
     for role, status in (("worker", 403), ("approver", 403), ("caller", 400)):
@@ -221,7 +221,7 @@ def inside(folder: pathlib.Path, ask: Ask, **more: object) -> None:
     asyncio.run(asyncio.wait_for(main(), LONG))
 
 
-def test_a_body_has_one_time(tmp_path: pathlib.Path, monkeypatch: pytest.MonkeyPatch) -> None:
+def test_a_body_has_one_time_limit(tmp_path: pathlib.Path, monkeypatch: pytest.MonkeyPatch) -> None:
     """Whatever bytes come in between: then it is 408, and the connection ends."""
     monkeypatch.setenv("SAGAS_PROGRAM", program())
 

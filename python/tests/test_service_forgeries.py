@@ -176,7 +176,7 @@ def is_unmoved(world: World, key: str, before: Any) -> None:
     ],
     ids=["a task that nobody took", "an approval", "a timer", "a function of the program"],
 )
-def test_what_no_worker_was_given(
+def test_reports_of_unclaimed_tasks(
     world: World, definition: str, step: str, why: str | None
 ) -> None:
     """No report of it counts, whatever the lease: nothing changes, and the response says nothing
@@ -266,7 +266,7 @@ def test_a_lease_is_of_one_attempt(world: World) -> None:
     )
 
 
-def test_what_waits_for_a_person(world: World) -> None:
+def test_a_lease_cannot_report_an_attempt_that_needs_an_operator(world: World) -> None:
     """Neither a forged lease nor the one under which it was issued reports the outcome: only an
     operator does.
     """

@@ -258,7 +258,7 @@ DEEP = b'{"definition":"trip","key":"deep","input":' + b"[" * 5000 + b"]" * 5000
 BODIES = [b"[" * 200_000, DEEP, b"1" * 50_000, b'"\xff"', b'{"a":1e999}', b"\x00" * 100]
 
 
-def test_bodies_that_are_none(service: Served) -> None:
+def test_invalid_bodies(service: Served) -> None:
     with service.client() as client:
         for body in BODIES:
             answer = client.post(
@@ -304,7 +304,7 @@ def test_any_bytes_leave_it_well(service: Served) -> None:
 
 
 @pytest.mark.parametrize("path", ["/", "/health/live", "/v1/events"])
-def test_a_body_that_is_no_http(service: Served, path: str) -> None:
+def test_a_body_that_is_not_http(service: Served, path: str) -> None:
     """It follows a request that needs none, at once and once its response has started: the
     connection ends, and there is no internal error.
     """
@@ -468,7 +468,7 @@ def test_whoever_does_not_read_is_cut_off() -> None:
     asyncio.run(asyncio.wait_for(main(), LONG))
 
 
-def test_a_client_that_says_no_more_is_gone() -> None:
+def test_a_half_closed_client_counts_as_gone() -> None:
     """It is closed, and counts as gone from then on, before the connection is lost: no task goes to
     it in the meantime.
     """

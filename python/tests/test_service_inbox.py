@@ -171,7 +171,7 @@ def test_each_is_within_reach(service: Served) -> None:
             assert client.post("/ui/inbox", data=other).status_code in (403, 422)
 
 
-def test_what_nobody_saw_is_not_approved(service: Served) -> None:
+def test_unseen_sagas_are_not_approved(service: Served) -> None:
     """A form is for the sagas that it was shown with, as far as they still wait.
 
     It is not for others that have come to their group, also if it was sent before.
@@ -196,7 +196,7 @@ def test_what_nobody_saw_is_not_approved(service: Served) -> None:
         client.post("/v1/sagas/seen-3/abort", json={})
 
 
-def test_a_form_is_for_what_its_reader_saw(service: Served) -> None:
+def test_a_form_is_for_the_sagas_it_showed(service: Served) -> None:
     """An outcome is not reported of a step that a worker has again, nor once its next outcome is
     unknown: the form is shown again. If it is sent twice, it is executed once.
     """
@@ -260,7 +260,7 @@ QUESTIONS: list[tuple[str, list[Target], str, str]] = [
 ]
 
 
-def test_what_is_asked_of_steps_and_of_compensations() -> None:
+def test_questions_about_steps_and_compensations() -> None:
     """An operator who reports on a compensation is asked about that, and not about its step."""
     for verb, targets, title, text in QUESTIONS:
         dialog = question_of("unknown", verb, targets).of(targets, verb)

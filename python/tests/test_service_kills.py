@@ -13,7 +13,7 @@ from service_kills import play
 
 
 @pytest.mark.parametrize("kind", ["sqlite", "postgresql"])
-def test_nothing_told_is_lost(kind: str, request: pytest.FixtureRequest) -> None:
+def test_no_acknowledgement_is_lost(kind: str, request: pytest.FixtureRequest) -> None:
     """Four workers and six callers over forty sagas; the service, over PostgreSQL two of them, and
     the workers are struck ten times.
     """

@@ -101,7 +101,7 @@ def test_large_values_are_as_they_were(service: Served) -> None:
 @pytest.mark.parametrize(
     "text", ["[" * 300_000, '{"key": ' + " " * 300_000, TEXT], ids=["deep", "cut", "list"]
 )
-def test_a_large_body_that_is_no_object(service: Served, text: str) -> None:
+def test_a_large_body_that_is_not_an_object(service: Served, text: str) -> None:
     """It is too deep, cut off, or another value: the response is that for a small one."""
     with service.client() as client:
         answer = client.post("/v1/sagas", content=text, headers=JSON)

@@ -77,7 +77,7 @@ def both(tmp_path_factory: pytest.TempPathFactory, postgresql: Server) -> Iterat
     postgresql.drop(url)
 
 
-def test_a_worker_hears_of_an_abort_at_either(both: Pair) -> None:
+def test_a_worker_is_notified_of_an_abort_at_either_service(both: Pair) -> None:
     """Whichever service drives the saga, and whichever took the abort."""
     start(both.one, "trip", "off")
     (flight,) = take(both.two, "trip/flight")
@@ -160,7 +160,7 @@ def test_a_task_goes_through_both(both: Pair) -> None:
         assert "both" in client.get("/ui/sagas/both").text
 
 
-def test_what_has_begun_at_the_other(both: Pair) -> None:
+def test_started_attempts_at_the_other_service(both: Pair) -> None:
     """Each reports what a step waits for, whichever of them has the saga."""
     start(both.one, "trip", "begun")
     for client in (both.one, both.two):
@@ -173,7 +173,7 @@ def test_what_has_begun_at_the_other(both: Pair) -> None:
     assert both.one.get("/v1/sagas/begun/wait?seconds=60").json()["aborted"] is True
 
 
-def test_a_long_take_hears_of_the_other_s_task(both: Pair) -> None:
+def test_a_waiting_claim_gets_a_task_of_the_other_service(both: Pair) -> None:
     """A worker that waits at one gets what comes at the other; one that has gone gets none."""
     with pytest.raises(httpx.ReadTimeout), both.services[1].client() as gone:
         gone.post("/v1/tasks/claim", json={"steps": ["licence/server"], "wait": 30}, timeout=0.5)
@@ -201,7 +201,7 @@ def test_a_long_take_hears_of_the_other_s_task(both: Pair) -> None:
     all_done(both.two, "licence/licence")
 
 
-def test_what_has_waited_longest_comes_first(both: Pair) -> None:
+def test_the_longest_waiting_task_comes_first(both: Pair) -> None:
     """Whichever service has it; and many workers that wait at one get what comes at the other, all
     of them.
     """
@@ -318,7 +318,7 @@ def test_events_that_a_service_did_not_hear() -> None:
     asyncio.run(main())
 
 
-def test_whatever_is_asked(both: Pair) -> None:
+def test_any_request(both: Pair) -> None:
     """As over a file: no request leads to an internal error, of PostgreSQL or of the service that
     has the saga.
     """

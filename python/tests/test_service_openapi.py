@@ -78,7 +78,7 @@ def references(value_or_object: Any) -> Iterator[str]:
             yield from references(value)
 
 
-def test_the_document_is_sound() -> None:
+def test_the_document_is_valid() -> None:
     """By the rules of OpenAPI 3.1 that matter to generators: ids are unique, parameters of paths
     are declared, references lead to objects, schemas are valid, examples fit.
     """
@@ -147,7 +147,7 @@ def test_heads_and_methods(client: httpx.Client) -> None:
         assert (answer.status_code, answer.headers["allow"]) == (405, allowed)
 
 
-def test_a_saga_has_a_place_and_a_tag(client: httpx.Client) -> None:
+def test_a_saga_has_a_url_and_a_tag(client: httpx.Client) -> None:
     """It has its URL from its start on; the tag changes only with the saga."""
     answer = start(client, "order", "a/b ü")
     assert answer.headers["location"] == "/v1/sagas/a%2Fb%20%C3%BC"

@@ -192,7 +192,7 @@ def seed(client: httpx.Client) -> None:
     take(client, "trip/flight", lease=3000)
 
 
-def test_a_failed_saga_says_what_stands(browser: Browser) -> None:
+def test_a_failed_saga_shows_kept_steps(browser: Browser) -> None:
     """Its picture has each step, the steps that were kept and why, and the cost of the plan."""
     browser.go("/ui/sagas/failed-1")
     titles = browser.driver.execute_script(
@@ -219,7 +219,7 @@ def test_a_failed_saga_says_what_stands(browser: Browser) -> None:
     browser.is_quiet()
 
 
-def test_a_stuck_one_is_found_in_two_clicks_and_resolved(browser: Browser) -> None:
+def test_a_stuck_saga_is_resolved_in_two_clicks(browser: Browser) -> None:
     """From the first page: look, mark as resolved; then a confirmation, with a note that
     is stored.
     """
@@ -309,7 +309,7 @@ def test_an_unknown_outcome_and_an_abort(browser: Browser) -> None:
     browser.is_quiet()
 
 
-def test_what_no_worker_takes(browser: Browser) -> None:
+def test_steps_without_a_worker(browser: Browser) -> None:
     """A step that waits for a worker says so, and workers that claim an unknown step are shown."""
     with browser.service.client() as client:
         start(client, "trip", "idle-1")
@@ -390,7 +390,7 @@ def test_the_first_page_shows_what_is_new_by_itself(browser: Browser) -> None:
     browser.is_quiet()
 
 
-def test_the_page_says_when_it_is_not_live(tmp_path: pathlib.Path) -> None:
+def test_the_page_shows_when_it_is_not_live(tmp_path: pathlib.Path) -> None:
     """It does once its stream has ended, and no more once it has one again, with the events in
     between.
     """
@@ -413,7 +413,7 @@ def test_the_page_says_when_it_is_not_live(tmp_path: pathlib.Path) -> None:
             one.driver.quit()
 
 
-def test_the_page_says_when_its_stream_is_refused(tmp_path: pathlib.Path) -> None:
+def test_the_page_shows_when_its_stream_is_refused(tmp_path: pathlib.Path) -> None:
     """A service that has too many streams refuses one: it is requested again, and the page then
     shows that it is live.
     """
@@ -648,7 +648,7 @@ def focus(browser: Browser, css: str) -> None:
     browser.driver.execute_script("document.querySelector(arguments[0]).focus()", css)
 
 
-def test_what_is_new_takes_nothing_away(browser: Browser) -> None:
+def test_new_rows_keep_the_state_of_the_page(browser: Browser) -> None:
     """A list shows new sagas also to a user who types; typed, unfolded and focused elements stay.
 
     Screen readers are notified, and not once a second.
@@ -699,7 +699,7 @@ def test_an_entry_before_the_others_moves_no_focus(browser: Browser) -> None:
     browser.is_quiet()
 
 
-def test_a_saga_goes_on_below_who_looks(browser: Browser) -> None:
+def test_a_page_keeps_its_view_while_its_saga_continues(browser: Browser) -> None:
     """Its picture stays at its position and zoom, and its input at its scroll position."""
     with browser.service.client() as client:
         start(client, "trip", "looked-at", {"lines": ["word " * 9] * 99})

@@ -225,7 +225,9 @@ def test_connections_of_an_address(
     inside(tmp_path, ask, tokens=tmp_path / "tokens.toml", places=places, **options)
 
 
-def test_places_for_health_and_operators(tmp_path: pathlib.Path, tokens: dict[str, str]) -> None:
+def test_connections_for_health_and_operators(
+    tmp_path: pathlib.Path, tokens: dict[str, str]
+) -> None:
     """When all others are taken, and above: each request is answered, and not reset."""
 
     async def ask(address: tuple[str, int]) -> None:
@@ -246,7 +248,7 @@ def test_places_for_health_and_operators(tmp_path: pathlib.Path, tokens: dict[st
     inside(tmp_path, ask, tokens=tmp_path / "tokens.toml", places=places)
 
 
-def test_who_reads_nothing_gives_way(tmp_path: pathlib.Path, tokens: dict[str, str]) -> None:
+def test_clients_that_read_nothing_give_way(tmp_path: pathlib.Path, tokens: dict[str, str]) -> None:
     """More clients than there may be connections, without a token, request much and read nothing:
     each new one is answered.
     """
@@ -267,7 +269,7 @@ def test_who_reads_nothing_gives_way(tmp_path: pathlib.Path, tokens: dict[str, s
 
 
 @pytest.mark.parametrize("parser", ["h11", "httptools"])
-def test_nothing_hides_behind_a_wait(
+def test_data_after_a_wait_ends_it(
     tmp_path: pathlib.Path, tokens: dict[str, str], parser: str, monkeypatch: pytest.MonkeyPatch
 ) -> None:
     """Data that is sent after a wait, a claim or a stream ends it; so does the client's end, at
@@ -439,7 +441,7 @@ def test_requests_that_may_be_read_in_two_ways(request_text: bytes, size: int) -
                 ...
 
 
-def test_what_is_no_request_is_refused(tmp_path: pathlib.Path) -> None:
+def test_malformed_requests_are_refused(tmp_path: pathlib.Path) -> None:
     """The response says so; also after a request that was answered.
 
     Its connection ends, and what the client still sends does not reset it.

@@ -40,7 +40,7 @@ def begun(client: httpx.Client, name: str, count: int, given: object = None) -> 
     return [start(client, "order", f"{name}-{at}", given).status_code for at in range(count)]
 
 
-def test_so_many_are_open(service: tuple[Served, dict[str, str]]) -> None:
+def test_open_sagas_of_a_quota(service: tuple[Served, dict[str, str]]) -> None:
     """This holds also after a restart.
 
     A repeated start is answered, and a saga that ends frees its share.

@@ -180,7 +180,7 @@ BY_KEY: list[tuple[str, str, str, Any]] = [
 ]
 
 
-def test_another_definition_s_saga_is_none(world: World) -> None:
+def test_a_saga_of_another_definition_looks_unknown(world: World) -> None:
     """For its key the response is that of an unknown key, word for word; and nothing is done."""
     before = world["operator"].get("/v1/sagas/a-order").json()
     for name, method, path, body in BY_KEY:
@@ -586,7 +586,7 @@ def test_a_file_that_was_unreadable_once(
     )
 
 
-def test_what_waits_ends_with_its_token(tmp_path: pathlib.Path) -> None:
+def test_waiting_requests_end_with_their_token(tmp_path: pathlib.Path) -> None:
     """A long request is refused once its token is removed, or evaluated again once it is
     restricted; a later task goes to another worker.
     """

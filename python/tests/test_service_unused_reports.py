@@ -103,7 +103,7 @@ def test_it_is_resolved(client: httpx.Client) -> None:
     assert client.get("/v1/sagas/more").json()["phase"] == "resolved"
 
 
-def test_unasked(client: httpx.Client) -> None:
+def test_compensation_without_an_operator(client: httpx.Client) -> None:
     """`early_unused` of the definition file."""
     unused(client, "auto", "a")
     refunded(client, "auto", "a")

@@ -94,7 +94,7 @@ def table(url: str, more: str = "") -> str:
     return f'name = "one"\nurl = "{url}"\nsecret = "whsec_{SECRET}"\n{more}'
 
 
-def test_what_is_posted(tmp_path: pathlib.Path, receiver: Receiver) -> None:
+def test_posts_of_a_webhook(tmp_path: pathlib.Path, receiver: Receiver) -> None:
     """Ends, stuck sagas, and what needs an operator; no input, result or error is in it."""
     options = ("--local-webhooks", "--webhooks", written(tmp_path, table(receiver.url)))
     with served(tmp_path, DEFINITIONS, *options) as service, service.client() as client:
@@ -233,7 +233,7 @@ def test_it_survives_a_kill(tmp_path: pathlib.Path, store: str | None) -> None:
     receiver.server.shutdown()
 
 
-def test_nothing_is_stored_for_nobody(tmp_path: pathlib.Path) -> None:
+def test_events_without_a_webhook_are_not_stored(tmp_path: pathlib.Path) -> None:
     """An event without a webhook has no row."""
     options = (
         "--local-webhooks",
@@ -250,7 +250,7 @@ def test_nothing_is_stored_for_nobody(tmp_path: pathlib.Path) -> None:
         assert client.get("/v1/webhooks/deliveries").json() == {"deliveries": []}
 
 
-def test_who_may_look(tmp_path: pathlib.Path) -> None:
+def test_the_right_to_see_deliveries(tmp_path: pathlib.Path) -> None:
     """Only operators may."""
     tokens = {role: token(tmp_path, role, role) for role in ("caller", "operator", "worker")}
     options = ("--token-file", str(tmp_path / "tokens.toml"))
@@ -289,7 +289,7 @@ def test_who_may_look(tmp_path: pathlib.Path) -> None:
         ),
     ],
 )
-def test_a_file_that_is_wrong(tmp_path: pathlib.Path, text: str, says: str) -> None:
+def test_an_invalid_file(tmp_path: pathlib.Path, text: str, says: str) -> None:
     """The error has the location and the rule, and no secret."""
     (tmp_path / "w.toml").write_text(text)
     with pytest.raises(WebhookFault, match=says) as error:

@@ -184,7 +184,7 @@ CHAINS = [
 
 
 @pytest.mark.parametrize("peer, forwarded_for, client", CHAINS)
-def test_whose_request_it_is(peer: str, forwarded_for: list[str], client: str) -> None:
+def test_the_client_of_a_request(peer: str, forwarded_for: list[str], client: str) -> None:
     """The last address that is not a trusted proxy's; the header of any other address is
     ignored.
     """

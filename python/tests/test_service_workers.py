@@ -265,7 +265,7 @@ def test_a_worker_that_may_less_than_before(tmp_path: pathlib.Path) -> None:
             assert client.get("/v1/sagas/less").json()["results"] == {"flight": 5}
 
 
-def test_a_worker_whose_lease_is_not_its_own(
+def test_a_worker_with_the_lease_of_another(
     tmp_path: pathlib.Path, caplog: pytest.LogCaptureFixture
 ) -> None:
     """Its report is refused, which its log has; it continues with other tasks."""
@@ -307,7 +307,7 @@ ODD = SystemExit, KeyboardInterrupt, GeneratorExit, asyncio.CancelledError
 
 
 @pytest.mark.parametrize("is_async", [False, True])
-def test_a_function_raises_what_it_should_not(
+def test_a_function_raises_a_base_exception(
     ones: tuple[Served, httpx.Client], is_async: bool
 ) -> None:
     """The outcome is unknown, as in a store: the same thread calls it again, with the same
@@ -513,7 +513,7 @@ def test_a_worker_takes_short_ones_ahead(ones: tuple[Served, httpx.Client]) -> N
     assert not left_open(client)
 
 
-def test_what_a_worker_took_ahead(ones: tuple[Served, httpx.Client]) -> None:
+def test_tasks_that_a_worker_claimed_ahead(ones: tuple[Served, httpx.Client]) -> None:
     """If a function is slow, or the worker is stopped, other workers soon get the tasks in its
     queue, long before its lease is over; each is done once.
     """

@@ -86,7 +86,7 @@ def test_one_item_fails_and_the_plan_chooses_by_cost(count: int, bad: int) -> No
         trial.result_of(ship)
 
 
-def test_with_few_at_once_what_has_not_begun_does_not_begin() -> None:
+def test_a_closing_store_starts_no_waiting_attempt() -> None:
     trial = sagas.testing.run(order, parcels(20, 3), concurrency=4)
     states = [trial.states[f"ship-{location}"] for location in range(20)]
     assert states[:4] == ["committed"] * 3 + ["failed"] and set(states[8:]) == {"waiting"}
@@ -111,7 +111,7 @@ def test_scripts_name_all_items_or_one() -> None:
     assert sagas.testing.run(order, parcels(0), fail={ship: 1, "wrap": 1}).ok
 
 
-def test_a_dict_gives_keys_beside_the_numbers() -> None:
+def test_a_dict_has_keys_and_numbers() -> None:
     saga = sagas.Saga("keyed")
 
     @saga.step(
@@ -199,7 +199,7 @@ class Odd(str):
         ({"for_each": lambda i: [10**5000]}, {}, "an item: Exceeds the limit"),
     ],
 )
-def test_what_is_wrong_is_told_without_the_input(options: Any, input: Any, message: str) -> None:
+def test_errors_do_not_contain_the_input(options: Any, input: Any, message: str) -> None:
     with pytest.raises(sagas.InvalidInput, match=message) as caught:
         sagas.testing.run(broken(**options), input)
     assert SECRET not in str(caught.value) and caught.value.__cause__ is None
@@ -260,7 +260,7 @@ def test_an_inclusion_in_itself() -> None:
         saga.check()
 
 
-def test_a_shaped_child_is_refused_where_its_costs_are_asked() -> None:
+def test_a_shaped_child_is_refused_where_its_costs_are_needed() -> None:
     parent = sagas.Saga("parent")
     stay = parent.child(order, input=lambda task: task.input)
     with pytest.raises(sagas.DefinitionError, match="its costs as a child are not known"):
@@ -271,7 +271,7 @@ def test_a_shaped_child_is_refused_where_its_costs_are_asked() -> None:
 # -- conditions
 
 
-def test_a_step_that_is_not_there() -> None:
+def test_a_missing_step() -> None:
     assert "wrap" in names(order, Order(gift=True)) and "wrap" not in names(order, Order())
     assert sagas.testing.run(order, Order([Parcel("a")], gift=True)).result_of(wrap) == "wrapped"
     with pytest.raises(KeyError, match="'wrap' is not there for this input"):
@@ -319,7 +319,7 @@ def test_one_plan_over_all_that_is_included() -> None:
     assert [call.step for call in trial.undone][-1] == "p-hotel-book"
 
 
-def test_the_included_saga_goes_on_by_itself() -> None:
+def test_the_included_saga_continues_by_itself() -> None:
     trial = sagas.testing.run(booking, Hotel("Bonn", ["x"], True))
     assert trial.result_of(confirm) == ["booked in Bonn", ["booked in Bonn: x"], None]
 
@@ -537,7 +537,7 @@ def last(task: sagas.Task[Order]) -> None:
 """
 
 
-def test_a_wrong_type_of_items_is_found(tmp_path: pathlib.Path) -> None:
+def test_a_wrong_type_of_items_is_detected(tmp_path: pathlib.Path) -> None:
     path, source = tmp_path / "typed.py", pathlib.Path(__file__).resolve().parents[1] / "src"
     path.write_text(TYPED)
     command = [

@@ -187,7 +187,7 @@ store = sagas.open("unused.db", [order, trip, outer])
 """
 
 
-def test_what_is_given_to_a_worker(tmp_path: pathlib.Path) -> None:
+def test_given_arguments_at_a_worker(tmp_path: pathlib.Path) -> None:
     """`given=` is computed when a task is offered, also for a compensation, and two deep; if it
     raises, the attempt fails, as with a function that raises.
     """

@@ -246,7 +246,7 @@ def test_a_definition_that_is_too_long_for_a_request(location: str) -> None:
     assert rows(location, "SELECT count(*) FROM shards") == [(1,)]
 
 
-def test_what_is_wrong_begins_nothing(location: str) -> None:
+def test_invalid_starts_start_nothing(location: str) -> None:
     async def main() -> None:
         async with sagas.open(location, [order]) as store:
             with pytest.raises(sagas.InvalidInput, match="parcels"):
@@ -479,7 +479,9 @@ def test_a_start_that_raises_in_the_node_is_refused(url: str, function: Any, mes
     run(withdrawn())
 
 
-def test_refused_starts_go_as_ended_sagas_do(url: str, capsys: pytest.CaptureFixture[str]) -> None:
+def test_refused_starts_are_pruned_as_ended_sagas(
+    url: str, capsys: pytest.CaptureFixture[str]
+) -> None:
     """By their age since they were refused, by the command and by an open store; others stay."""
     mine, theirs = other_code()
 

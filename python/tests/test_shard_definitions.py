@@ -113,7 +113,7 @@ def kind_line(of: Kind) -> str:
     return definitions.define_lines()[0]
 
 
-def test_what_undoes_an_older_child_is_stored_with_its_definition(location: str) -> None:
+def test_the_undo_of_an_older_child_is_stored(location: str) -> None:
     """This holds also in a shard of sagas whose steps come from their inputs, where no other saga
     has it.
     """

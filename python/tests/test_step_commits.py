@@ -232,7 +232,7 @@ def test_lone_sagas_while_connections_are_cut(postgresql: Server, url: str) -> N
     }
 
 
-def test_a_limit_is_left_behind_the_commit(url: str) -> None:
+def test_a_limit_is_released_after_the_commit(url: str) -> None:
     """Steps with a limit commit by themselves: the next one starts after the commit, and sees its
     writes.
     """
@@ -356,7 +356,7 @@ def test_a_record_needs_no_setting(url: str) -> None:
     ],
 )
 @pytest.mark.parametrize("in_thread", [False, True])
-def test_what_a_step_does_to_its_connection(url: str, in_thread: bool, setting: str) -> None:
+def test_a_step_cannot_spoil_its_connection(url: str, in_thread: bool, setting: str) -> None:
     """The next one has a fresh connection; a step that ends its transaction and continues in
     another one has an error.
     """
@@ -400,7 +400,7 @@ def test_what_a_step_does_to_its_connection(url: str, in_thread: bool, setting: 
     assert first == second and first[1] == behind[1] == "0" and first[0] != behind[0]
 
 
-def test_connections_that_rest_are_let_go() -> None:
+def test_idle_connections_are_closed() -> None:
     """The server has none left for the store itself, which lost its own."""
     kind, barrier = sagas.Saga("one"), asyncio.Barrier(4)
 
@@ -507,7 +507,7 @@ def test_prepared_statements_are_gone(url: str, in_thread: bool, text: str) -> N
     assert len(calls) == 6 + (text != "DEALLOCATE ALL") and len({*calls}) == 6
 
 
-def test_what_is_prepared_is_used_again() -> None:
+def test_prepared_statements_are_reused() -> None:
     """At first it pauses for a second, and for ten minutes at most, if servers do not know it."""
     one, pauses = Prepares(""), list[float]()
     assert one.works
@@ -530,7 +530,7 @@ KNOWN = "SELECT count(*) FROM pg_prepared_statements WHERE name LIKE %s"
 
 @pytest.mark.parametrize("way", ["rolls back", "a part rolls back", "drops"])
 @pytest.mark.parametrize("in_thread", [False, True])
-def test_a_rollback_leaves_what_is_prepared(url: str, in_thread: bool, way: str) -> None:
+def test_a_rollback_with_prepared_statements(url: str, in_thread: bool, way: str) -> None:
     """After a rollback, or a DROP, psycopg deallocates all prepared statements, if it has prepared
     one itself. The record of the step is written anyway, once, no log is loaded again, and the next
     step has it prepared.

@@ -71,7 +71,7 @@ def row(gate: asyncio.Event | None = None) -> sagas.Saga:
 # -- keys and results
 
 
-def test_start_with_a_key_that_is_there(location: str) -> None:
+def test_start_with_an_existing_key(location: str) -> None:
     """It returns the existing saga, whatever its state; another saga or another input is
     KeyConflict.
     """
@@ -109,7 +109,7 @@ def test_start_with_a_key_that_is_there(location: str) -> None:
     assert len(records.read(location).sagas) == 2
 
 
-def test_a_key_that_is_none(location: str) -> None:
+def test_an_invalid_key(location: str) -> None:
     """They are a name of the package's own, and a text that is too long."""
     saga = simple(lambda task: 1)
 
@@ -361,7 +361,7 @@ def test_no_more_than_its_concurrency(location: str) -> None:
     assert most == 3
 
 
-def test_a_limit_holds_back_nobody_else(location: str) -> None:
+def test_a_limit_does_not_delay_other_steps(location: str) -> None:
     """At most two of the slow step run at once, over all sagas; the quick ones run past them."""
     running, most, gate = Counter[str](), Counter[str](), asyncio.Event()
     slow, quick = sagas.Saga("slow"), sagas.Saga("quick")
@@ -419,7 +419,7 @@ def test_wait(location: str, how: str) -> None:
     run(main())
 
 
-def test_a_wait_that_cannot_say_its_time(location: str) -> None:
+def test_a_wait_whose_time_cannot_be_computed(location: str) -> None:
     """Each try computes it again, also in the next program; its function is not called before its
     time, and after its tries it has failed.
     """
@@ -460,7 +460,7 @@ def test_a_wait_that_cannot_say_its_time(location: str) -> None:
     assert len(called) == 1 and called[0] >= times[0] + 0.19
 
 
-def test_a_wait_whose_time_is_over_waits_no_more(location: str) -> None:
+def test_a_wait_does_not_repeat_after_its_time(location: str) -> None:
     """The outcome of its function was unknown, then it failed, and then another program recovered
     it: it is called, and does not wait again.
     """
@@ -608,7 +608,7 @@ def test_a_step_that_is_done_elsewhere(location: str) -> None:
     assert run(main()).states == {"print": "undone", "check": "failed"}
 
 
-def test_a_compensation_of_which_nobody_knows(location: str) -> None:
+def test_a_compensation_with_an_unknown_outcome(location: str) -> None:
     """An operator reports its outcome, by `undo=True`; without that the call is an error."""
     saga = sagas.Saga("row")
 
@@ -798,7 +798,7 @@ def test_versions(location: str) -> None:
     run(second())
 
 
-def test_a_function_that_is_gone(location: str) -> None:
+def test_a_removed_function(location: str) -> None:
     """Opening is an error that names the step; the older program finishes it with accept_new=False,
     and takes no new sagas.
     """
@@ -842,7 +842,7 @@ def test_a_function_that_is_gone(location: str) -> None:
     run(second())
 
 
-def test_a_compensation_that_is_gone(tmp_path: pathlib.Path) -> None:
+def test_a_removed_compensation(tmp_path: pathlib.Path) -> None:
     """If it may still be called, opening is an error that names its step."""
     old, new = sagas.Saga("trip"), sagas.Saga("trip")
 
@@ -862,7 +862,7 @@ def test_a_compensation_that_is_gone(tmp_path: pathlib.Path) -> None:
     run(main())
 
 
-def test_a_log_whose_sagas_wait_lets_its_process_go(location: str) -> None:
+def test_a_log_with_waiting_sagas_frees_its_engine(location: str) -> None:
     """It is started again when one is due."""
     saga = sagas.Saga("late")
 
@@ -1119,7 +1119,7 @@ def test_each_type_is_tried_with_an_input_of_its_own(location: str) -> None:
     run(main())
 
 
-def test_nobody_waits_for_rows_of_an_answer_that_is_late(tmp_path: pathlib.Path) -> None:
+def test_a_late_reply_locks_no_rows(tmp_path: pathlib.Path) -> None:
     """An engine does not respond: other programs write the file in the meantime."""
     path, saga = str(tmp_path / "store.db"), row()
     others = set(children(os.getpid()))
@@ -1188,7 +1188,7 @@ def test_tasks_of_a_reply() -> None:
         assert lines.tasks_in(other) is None
 
 
-def test_a_commit_in_the_loop_waits_for_nobody(
+def test_a_commit_in_the_loop_does_not_block(
     tmp_path: pathlib.Path, monkeypatch: pytest.MonkeyPatch
 ) -> None:
     """While another program writes the file, the loop continues, and the commit is made when that
@@ -1364,7 +1364,7 @@ def test_events_and_logging(location: str, caplog: pytest.LogCaptureFixture) -> 
 
 
 @pytest.mark.parametrize("how", ["refused", "late", "for good"])
-def test_a_final_failure_is_told_once(location: str, how: str) -> None:
+def test_a_final_failure_is_reported_once(location: str, how: str) -> None:
     """It is `step_failed`, though the step had tries left; these are not reported."""
     events: list[tuple[str, str | None]] = []
     saga = sagas.Saga("signed")
@@ -1453,7 +1453,7 @@ def test_without_async(location: str) -> None:
         store.start(saga, key="late")
 
 
-def test_who_waits_too_long(location: str) -> None:
+def test_a_wait_that_takes_too_long(location: str) -> None:
     """The error says what the saga waits for, as far as this program knows."""
     saga, gate = sagas.Saga("signed"), threading.Event()
 
@@ -1539,7 +1539,7 @@ def held(location: str) -> list[tuple[Any, ...]]:
 
 
 @pytest.mark.parametrize("reopened", [False, True])
-def test_nothing_is_kept_of_a_wait_behind_its_sagas_end(location: str, reopened: bool) -> None:
+def test_nothing_is_kept_of_a_wait_after_its_sagas_end(location: str, reopened: bool) -> None:
     """A wait's function raises as another step fails permanently: it is not retried, and its time,
     which was kept for that try, is deleted with the saga's end.
     """

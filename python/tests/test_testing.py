@@ -116,7 +116,7 @@ def test_fails_by_number() -> None:
     ]
 
 
-def test_fails_for_good() -> None:
+def test_fails_permanently() -> None:
     """Flight and car are kept, for 0 + 3 + 25 + 10; the other tries are not made after `Fail`."""
     ways: tuple[sagas.testing.Attempts, ...] = (3, sagas.Fail("full"))
     for fail in ways:
@@ -155,7 +155,7 @@ def test_unknown_for_ever_waits_for_a_person() -> None:
     )
 
 
-def test_abort_undoes_what_costs_less_undone() -> None:
+def test_abort_undoes_what_costs_less_to_undo() -> None:
     """Once the order exists the saga is aborted: it is undone, and no step waits three days."""
     trial = run(late(), abort="order")
     assert trial.aborted and trial.states["order"] == "undone" and trial.phase == "recovered"
@@ -176,7 +176,7 @@ def test_three_days_take_no_time() -> None:
     assert clock.now().isoformat() == "2031-05-04T00:00:00+00:00"
 
 
-def test_nobody_approves_in_time() -> None:
+def test_an_approval_that_times_out() -> None:
     """After two more days it has failed, and the steps that can be undone are undone."""
     trial = run(late())
     assert (
@@ -186,7 +186,7 @@ def test_nobody_approves_in_time() -> None:
     )
 
 
-def test_somebody_has_to_be_asked() -> None:
+def test_an_approval_needs_an_answer() -> None:
     """Without a time an approval needs an answer: a value, a function or an exception."""
     with pytest.raises(LookupError, match="manager"):
         run(late(approves=False))
@@ -265,7 +265,7 @@ FORMS = r"must be a number of attempts \(1\), a list of attempts"
         ({"abort": "boat"}, KeyError, "no step 'boat'"),
     ],
 )
-def test_a_script_that_is_none(script: dict[str, Any], kind: type[Exception], text: str) -> None:
+def test_an_invalid_script(script: dict[str, Any], kind: type[Exception], text: str) -> None:
     """A script without a meaning is an error of the test, by its name."""
     with pytest.raises(kind, match=text):
         run(trip(), "LH400", **script)
@@ -276,7 +276,7 @@ def test_all_attempts_by_a_number() -> None:
     assert run(trip(), "LH400", fail={"hotel": sys.maxsize}).states["hotel"] == "failed"
 
 
-def test_what_fails_to_be_undone_by_doing_nothing() -> None:
+def test_failures_of_doing_nothing() -> None:
     """Doing nothing cannot fail; and an argument that is not a saga is reported as that."""
     with pytest.raises(
         ValueError, match="unknown_undo: step 'wait' .* undoing it does nothing, which cannot fail"
@@ -293,7 +293,7 @@ def one(function: Any, **options: Any) -> sagas.Saga:
     return saga
 
 
-def test_a_result_that_is_no_json() -> None:
+def test_a_result_that_is_not_json() -> None:
     """It raises, as an answer does: a store keeps the effect and loses the result.
 
     The return value of a compensation is ignored.

@@ -202,7 +202,7 @@ def test_functions(location: str) -> None:
     )
 
 
-def test_a_call_behind_the_last_attempt(location: str) -> None:
+def test_a_call_after_the_last_attempt(location: str) -> None:
     """It waits for its pause, as one after an attempt of the definition."""
     shop, calls = sagas.Saga("shop"), list[int]()
 

@@ -312,7 +312,7 @@ def links_of(span: Any) -> list[str]:
     return [header_of(link.context) for link in span.links]
 
 
-def test_a_saga_that_nobody_traces(location: str, api: Any) -> None:
+def test_a_saga_without_a_trace(location: str, api: Any) -> None:
     """Its spans start their own traces, also if the store was opened within a span; a saga that a
     function starts is in the trace of that function.
     """
@@ -341,7 +341,7 @@ def test_a_saga_that_nobody_traces(location: str, api: Any) -> None:
     assert first.parent is None and heard == [context_of(first)] == [context_of_parent(second)]
 
 
-def test_a_timeout_and_an_abort_are_told(tmp_path: pathlib.Path, api: Any) -> None:
+def test_a_timeout_and_an_abort_in_spans(tmp_path: pathlib.Path, api: Any) -> None:
     """An unknown outcome is an error of the span; a cancelled one has ended too."""
     saga = sagas.Saga("slow")
 
@@ -383,7 +383,7 @@ def test_programs_without_async(tmp_path: pathlib.Path, api: Any) -> None:
     assert heard == [context_of(span), GIVEN]
 
 
-def test_what_an_exporter_raises_does_not_reach_a_saga(
+def test_errors_of_an_exporter_do_not_reach_a_saga(
     location: str, api: Any, monkeypatch: pytest.MonkeyPatch, caplog: pytest.LogCaptureFixture
 ) -> None:
     """Neither when a span starts, nor when it ends; it is logged once."""

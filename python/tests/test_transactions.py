@@ -258,7 +258,7 @@ def test_a_step_of_a_lost_log_is_rolled_back(url: str) -> None:
 
 
 @pytest.mark.parametrize("in_thread", [False, True])
-def test_nobody_takes_a_log_while_a_step_of_it_is_committed(url: str, in_thread: bool) -> None:
+def test_no_node_takes_a_log_during_a_step_commit(url: str, in_thread: bool) -> None:
     """Its commit waits for a lock after the check of the log's owner: until that is over the log's
     row is locked.
     """
@@ -406,7 +406,7 @@ def test_a_file_has_no_transactions(tmp_path: pathlib.Path) -> None:
 
 
 @pytest.mark.parametrize("in_thread", [False, True])
-def test_what_the_server_refuses_is_a_miss(url: str, in_thread: bool) -> None:
+def test_a_refusal_of_the_server_is_a_failed_attempt(url: str, in_thread: bool) -> None:
     """A constraint that the commit checks, a failed statement that the function ignores, and its
     own commit: rolled back, and tried again.
     """
@@ -587,7 +587,7 @@ def test_a_transaction_that_is_over_before_its_step(url: str, in_thread: bool) -
     ]
 
 
-def test_what_does_nothing_over_its_connection_is_as_another_step(url: str) -> None:
+def test_a_step_inside_without_a_statement(url: str) -> None:
     """It has no transaction, and waits for no other: neither in the loop nor in a thread."""
     kind = sagas.Saga("one")
 
@@ -694,7 +694,7 @@ def test_a_first_statement_that_fails(url: str, in_thread: bool) -> None:
     assert booked(url) == {("k", "book"): 1}
 
 
-def test_a_first_statement_that_nobody_waits_for(url: str) -> None:
+def test_a_first_statement_that_is_abandoned(url: str) -> None:
     """The function gives up on it, and continues: its connection is of no use any more, nothing of
     it is stored, and it is called again.
     """
@@ -887,7 +887,7 @@ def test_a_function_that_asks_late(url: str) -> None:
     assert left[1] == "left" and booked(url) == {(f"k{number}", "book"): 1 for number in range(5)}
 
 
-def test_what_ends_at_once_leaves_its_connection(url: str) -> None:
+def test_a_short_function_returns_its_connection(url: str) -> None:
     """A function that requests its connection and does nothing there, raises, or returns an
     awaitable: many of each, over two connections.
     """

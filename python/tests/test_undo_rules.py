@@ -72,9 +72,7 @@ class Family:
         return entry
 
 
-def test_what_undoes_a_child_is_not_aborted(
-    location: str, capsys: pytest.CaptureFixture[str]
-) -> None:
+def test_an_undo_saga_is_not_aborted(location: str, capsys: pytest.CaptureFixture[str]) -> None:
     """For its key the response has the reason; a command for many by a label leaves it out, and
     reports that. The undo continues to its end.
     """
@@ -127,7 +125,7 @@ def test_what_undoes_a_child_is_not_aborted(
     assert world.done == ["c", "b", "a"]
 
 
-def test_a_client_and_another_node_abort_none(url: str) -> None:
+def test_a_client_or_another_node_cannot_abort_an_undo(url: str) -> None:
     """They ask its node, or know it by themselves."""
     world = Family()
 
@@ -188,7 +186,7 @@ def test_an_undo_that_failed_waits_for_a_person(location: str, way: str) -> None
     assert len({*world.keys}) == len({*world.done})  # one idempotency key per step, over all sagas
 
 
-def test_nobody_is_asked_if_so_declared(location: str) -> None:
+def test_no_operator_is_asked_if_so_declared(location: str) -> None:
     """Then the rest of the child stays."""
     world = Family(fails=True, undo_on_exhausted="fail")
     world.gate.set()
@@ -205,7 +203,7 @@ def test_nobody_is_asked_if_so_declared(location: str) -> None:
         sagas.Saga("x").child(world.child, input=lambda task: 1, undo_on_exhausted="retry")  # type: ignore[call-overload]
 
 
-def test_what_is_undone_of_a_grandchild_stays_undone(location: str) -> None:
+def test_an_undone_grandchild_stays_undone(location: str) -> None:
     """The saga that undoes it is retried by itself, or as a part of its parent's."""
     calls, broken = list[str](), [True]
     low, mid, top = (sagas.Saga(name) for name in ("low", "mid", "top"))
@@ -251,7 +249,7 @@ def test_what_is_undone_of_a_grandchild_stays_undone(location: str) -> None:
     assert calls == [f"y {low_key}", f"x {low_key}", f"x {low_key}"]
 
 
-def test_what_others_undid_is_not_asked_again(location: str) -> None:
+def test_undone_compensations_are_not_requested_again(location: str) -> None:
     """An external compensation is reported once, and not again in the next saga; with a
     codec, too.
     """
@@ -397,7 +395,7 @@ def test_a_child_step_is_completed_with_a_childs_result(
     assert world.undone == ["gone t/:kid"]  # by the child itself
 
 
-def test_what_is_left_of_its_own_child_is_undone(location: str) -> None:
+def test_the_rest_of_its_child_is_undone(location: str) -> None:
     """This holds also after a restart; steps that the child has undone are not undone again."""
     world = Hand()
 
@@ -419,7 +417,7 @@ def test_what_is_left_of_its_own_child_is_undone(location: str) -> None:
     assert world.undone == ["gone t/:kid", "gone t/:kid/2", "first t/:kid"]
 
 
-def test_a_wrong_result_of_before_waits_for_a_person(
+def test_a_wrong_stored_result_needs_an_operator(
     location: str, monkeypatch: pytest.MonkeyPatch
 ) -> None:
     """It undoes no other saga's child, and nothing hangs."""
@@ -476,7 +474,7 @@ class Account:
     number: str
 
 
-def test_what_an_undo_has_of_its_child(location: str) -> None:
+def test_attributes_that_an_undo_has_of_its_child(location: str) -> None:
     """It has labels, the tenant, and the concurrency of its steps, whose calls are counted with
     those that undo them.
     """
@@ -529,7 +527,7 @@ def test_what_an_undo_has_of_its_child(location: str) -> None:
     run(main())
 
 
-def test_nobody_starts_what_undoes_a_child(url: str) -> None:
+def test_an_undo_saga_cannot_be_started(url: str) -> None:
     """Not even a client that declares a saga of its name."""
     world = Family()
 

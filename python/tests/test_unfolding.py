@@ -72,7 +72,7 @@ def test_the_groups_of_a_definition() -> None:
     assert Groups.read(shaped.plain.toml()).spots == []
 
 
-def test_what_is_put_between_is_no_item() -> None:
+def test_inserted_steps_are_not_items() -> None:
     """A step that the package puts after a fan-out is drawn with it, and is not counted."""
     saga = sagas.Saga("wide")
     first = saga.step(name="first", for_each="n", undo=0)(lambda task: 1)

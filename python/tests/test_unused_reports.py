@@ -163,7 +163,7 @@ def test_an_operator_resolves_it(location: str, capsys: pytest.CaptureFixture[st
     run(main())
 
 
-def test_unasked_also_over_a_kill(location: str) -> None:
+def test_compensation_without_an_operator_over_a_kill(location: str) -> None:
     """`early_unused="compensate"`: the program dies when the saga has ended, and the next one, or
     another node, calls it. Once.
     """
@@ -346,7 +346,7 @@ def test_a_worker_compensates_an_item_of_an_included_saga(location: str) -> None
     run(main())
 
 
-def test_what_a_compensation_that_fails_comes_to(location: str) -> None:
+def test_a_compensation_of_an_unused_report_fails(location: str) -> None:
     """It needs an operator, as any other; and a step without a compensation is not listed as
     compensated.
     """
@@ -455,7 +455,7 @@ def test_of_a_node_without_the_definition(url: str) -> None:
     run(main())
 
 
-def test_what_is_no_option() -> None:
+def test_invalid_options() -> None:
     """Each error has the step, and what to do."""
     saga = sagas.Saga("s")
     with pytest.raises(sagas.DefinitionError, match="early_unused='no': must be ask or compensate"):

@@ -182,12 +182,12 @@ class Broken:
         [object.__new__(Seat)],
     ],
 )
-def test_what_is_not_json(value: Any) -> None:
+def test_values_that_are_not_json(value: Any) -> None:
     with pytest.raises(sagas.NotSerializable):
         serialization.write(value)
 
 
-def test_what_holds_itself() -> None:
+def test_invalid_concurrency_of_waits() -> None:
     value: list[Any] = []
     value.append(value)
     with pytest.raises(sagas.NotSerializable):
@@ -331,7 +331,7 @@ def test_models() -> None:
     )
 
 
-def test_what_is_told_of_a_wrong_value() -> None:
+def test_the_error_of_an_invalid_value() -> None:
     """Keys of a dict that cannot be sorted, and a value that is not an object."""
     with pytest.raises(sagas.NotSerializable, match="keys of a dict"):
         serialization.write({1: 2, "a": 3})
@@ -366,7 +366,7 @@ def test_sets_are_written_in_one_order() -> None:
         (object(), "input: object is not JSON"),
     ],
 )
-def test_where_it_is_no_json(value: Any, text: str) -> None:
+def test_the_path_of_a_value_that_is_not_json(value: Any, text: str) -> None:
     """The path to it, as it would be written in Python."""
     with pytest.raises(sagas.NotSerializable, match=f"^{text}"):
         serialization.write(value, "input")
@@ -392,7 +392,7 @@ def test_hints_of_functions() -> None:
     assert decoders.hints(plain) == (None, None) == decoders.hints(nowhere)
 
 
-def test_hints_of_what_is_no_plain_function() -> None:
+def test_hints_of_callable_objects() -> None:
     """Of a partial function with values before and after its task, and of an object."""
 
     def function(row: list[int], task: sagas.Task[Seat], *, size: Size) -> Colour:

@@ -166,7 +166,7 @@ def test_least_rights(postgresql: Server, url: str, capsys: pytest.CaptureFixtur
         ("postgresql://a:geheim/c", "not a number"),
     ],
 )
-def test_what_is_no_store(name: str, why: str, capsys: pytest.CaptureFixture[str]) -> None:
+def test_invalid_urls(name: str, why: str, capsys: pytest.CaptureFixture[str]) -> None:
     """An invalid URL is refused by node, client and command, with the reason, and without its
     password.
     """
@@ -233,7 +233,7 @@ def test_a_password_is_in_nothing_that_the_command_prints(
     assert "geheim" not in printed.out + printed.err
 
 
-def test_a_server_that_is_not_there(monkeypatch: pytest.MonkeyPatch) -> None:
+def test_an_unreachable_server(monkeypatch: pytest.MonkeyPatch) -> None:
     """The client reports why it cannot connect, as the node does, once it has tried for a while."""
     monkeypatch.setattr(connections, "CONNECT", 0.1)
     with socket.socket() as one:

@@ -72,7 +72,7 @@ def test_its_own_saga(location: str, options: dict[str, Any]) -> None:
     run(main())
 
 
-def test_what_can_end_is_waited_for(location: str) -> None:
+def test_waits_that_can_end(location: str) -> None:
     """A wait for its own saga in a separate task, or with a time limit; and for another saga of the
     same key in another store.
     """
@@ -151,7 +151,7 @@ def test_sagas_that_wait_for_each_other(location: str) -> None:
 
 
 @pytest.mark.parametrize("plain", [False, True])
-def test_parents_that_take_all_places(location: str, plain: bool) -> None:
+def test_parents_that_take_all_slots(location: str, plain: bool) -> None:
     """Each waits for a child that has no slot: one gets the error, and is called again once there
     are slots, so that all end.
     """
@@ -202,7 +202,7 @@ def test_parents_that_take_all_places(location: str, plain: bool) -> None:
     assert errors and "all 2 slots of the store's concurrency are taken" in errors[0]
 
 
-def test_parents_of_children_that_need_no_place(location: str) -> None:
+def test_parents_of_children_that_need_no_slot(location: str) -> None:
     """A child that waits for a worker, an approval or a time may end without a slot: no function
     gets an error.
     """
@@ -265,7 +265,7 @@ def small_later(task: Task) -> Any:
 
 
 @pytest.mark.parametrize("function", [small, small_async, small_later])
-def test_an_approval_that_says_so_itself(location: str, function: Callable[[Task], Any]) -> None:
+def test_an_approval_that_decides_itself(location: str, function: Callable[[Task], Any]) -> None:
     """It is over at once, done or failed permanently; else an operator is asked, as before."""
     saga = asking(function)
 
@@ -323,7 +323,7 @@ def test_an_approval_that_finishes_itself(location: str) -> None:
     )
 
 
-def test_an_answer_of_what_is_no_approval(location: str) -> None:
+def test_an_answer_of_a_step_that_is_not_an_approval(location: str) -> None:
     """It is a result that is not JSON: the step is done, and the result is not kept."""
     saga = simple(lambda task: sagas.Approved(1))
 

@@ -118,7 +118,7 @@ def test_a_node_that_lost_its_shard_takes_nothing_back(postgresql: Server, url: 
         run(main(relay))
 
 
-def test_an_answer_to_a_withdrawal_counts_under_its_epoch_alone(
+def test_the_reply_to_a_withdrawal_counts_only_under_its_epoch(
     postgresql: Server, url: str
 ) -> None:
     """It comes late, when the shard was loaded again, because its engine died, and the attempt was
@@ -165,7 +165,7 @@ def test_an_answer_to_a_withdrawal_counts_under_its_epoch_alone(
 
 @pytest.mark.parametrize("cause", ["abort", "sibling"])
 @pytest.mark.parametrize("waits", ["backoff", "person"])
-def test_what_is_unknown_is_not_given_up(url: str, cause: str, waits: str) -> None:
+def test_an_unknown_attempt_is_not_given_up(url: str, cause: str, waits: str) -> None:
     """Its worker got it from a node that does not drive the saga.
 
     It may be done, so that it is called again, or an operator reports its outcome.
@@ -214,7 +214,7 @@ async def _is_unknown(store: sagas.Store) -> bool:
         (("settled", "offers"), "settled"),
     ],
 )
-def test_a_row_has_one_last_word_in_a_commit(kinds_of_change: tuple[str, ...], last: str) -> None:
+def test_a_commit_changes_a_row_once(kinds_of_change: tuple[str, ...], last: str) -> None:
     """The server changes a row once per statement, in an order of the parts that is not defined;
     and a saga that is to be undone changes no row that another part has changed.
     """
@@ -265,7 +265,7 @@ def test_the_order_of_a_commit_s_parts_is_nothing(
 
 
 @pytest.mark.parametrize("change", ["DELETE FROM {}", "UPDATE {} SET outcome = 'withdrawn'"])
-def test_what_no_worker_could_get_is_offered_again(
+def test_a_damaged_offer_is_repeated(
     location: str, change: str, caplog: pytest.LogCaptureFixture, monkeypatch: pytest.MonkeyPatch
 ) -> None:
     """Its row was damaged: that is found, and logged as a warning."""

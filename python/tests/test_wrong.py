@@ -20,7 +20,7 @@ def test_there_are_enough() -> None:
 
 
 @pytest.mark.parametrize("name", NAMES)
-def test_a_wrong_coordinator_is_found(name: str) -> None:
+def test_a_mutant_of_the_coordinator_is_detected(name: str) -> None:
     """The kind of strike that reveals it finds it within a few stores."""
     module = importlib.import_module(f"wrong.{name}")
     faults: set[str] = set()

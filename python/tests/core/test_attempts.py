@@ -147,7 +147,7 @@ def test_a_retry_waits_for_its_back_off() -> None:
     assert MACHINE.timer(attempt, NOW + 15) is CALL
 
 
-def test_a_back_off_that_is_over_or_not_known_is_none() -> None:
+def test_no_pause_after_an_elapsed_or_unknown_back_off() -> None:
     late, new = attempt_of("simple", 2), attempt_of("simple", 2)
     late.instance.rare.missed_at[late.word] = NOW - 10
     assert MACHINE.begin(late, NOW) is CALL and MACHINE.begin(new, NOW) is CALL
@@ -161,7 +161,7 @@ def test_a_clock_that_jumped_back_makes_no_back_off_longer() -> None:
     assert MACHINE.timer(attempt, NOW - 5000) is CALL  # it is counted here, whatever the clock says
 
 
-def test_behind_a_permanent_failure_nothing_is_called() -> None:
+def test_no_call_after_a_permanent_failure() -> None:
     attempt = attempt_of("simple", 2)
     attempt.instance.rare.final.add(attempt.word)
     assert MACHINE.begin(attempt, NOW) is REPORT and attempt.at == NOW
@@ -188,7 +188,7 @@ def test_behind_a_permanent_failure_nothing_is_called() -> None:
         (1, True, True, "undo", False),
     ],
 )
-def test_what_is_left_out_of_a_saga_that_drains(
+def test_attempts_that_a_draining_saga_drops(
     number: int, aborted: bool, fresh: bool, kind: str, leaves: bool
 ) -> None:
     attempt = attempt_of("plain", number, kind, fresh=fresh)
@@ -254,7 +254,7 @@ def answered(attempt: Attempt) -> Decision:
     return MACHINE.go_on(attempt, NOW)
 
 
-def test_a_wait_until_a_time_that_the_program_says() -> None:
+def test_a_wait_until_a_time_of_the_program() -> None:
     attempt = attempt_of("later")
     assert answered(attempt).row == SuspensionRow(Suspension.TIMER, NOW + 50)
     assert not attempt.rare.returned
@@ -278,7 +278,7 @@ def test_a_wait_that_cannot_say_its_time_has_failed(
     assert attempt.outcome and attempt.outcome.kind is kind and message in error_of(attempt)
 
 
-def test_a_wait_of_a_saga_that_drains_while_its_definition_is_asked() -> None:
+def test_a_saga_drains_while_the_time_of_a_wait_is_computed() -> None:
     """The result of its function is not used: the attempt is given up."""
     attempt = attempt_of("later", 1)
     decision = MACHINE.begin(attempt, NOW)
@@ -344,7 +344,7 @@ def test_an_unknown_outcome_may_be_bounded_by_time() -> None:
     )
 
 
-def test_a_wait_that_was_given_up_leaves_its_place_to_others() -> None:
+def test_an_abandoned_wait_frees_its_slot() -> None:
     attempt = running("simple")
     attempt.rare.gave_way = True
     attempt.rare.count = 6
@@ -353,7 +353,7 @@ def test_a_wait_that_was_given_up_leaves_its_place_to_others() -> None:
     assert attempt.until == NOW + 100 and not attempt.rare.gave_way
 
 
-def test_what_cannot_be_decoded_is_parked() -> None:
+def test_undecodable_values_park_an_attempt() -> None:
     attempt = running("plain")
     outcome = Outcome(OutcomeKind.CANNOT_DECODE, "input lacks x")
     decision = MACHINE.ended(attempt, outcome, NOW)
@@ -375,7 +375,7 @@ def test_what_cannot_be_decoded_is_parked() -> None:
     )
 
 
-def test_an_approval_is_asked_for_and_given_up_in_time() -> None:
+def test_an_approval_is_requested_and_times_out() -> None:
     attempt = running("sign")
     decision = MACHINE.ended(attempt, outcomes.succeeded(None), NOW)
     assert (
@@ -404,7 +404,7 @@ def test_an_approval_may_be_decided_by_its_function(answer: Any, kind: OutcomeKi
     assert attempt.outcome and attempt.outcome.kind is kind
 
 
-def test_a_compensation_of_an_approval_asks_nobody() -> None:
+def test_a_compensation_of_an_approval_needs_no_operator() -> None:
     assert MACHINE.ended(running("sign", kind="undo"), outcomes.succeeded(None), NOW) is REPORT
 
 
@@ -416,7 +416,7 @@ def test_an_approval_in_a_saga_that_drains_is_given_up() -> None:
     ) is REPORT and "being undone" in error_of(attempt)
 
 
-def test_what_external_workers_may_have_is_withdrawn_first() -> None:
+def test_external_attempts_are_withdrawn_first() -> None:
     attempt = attempt_of("outside")
     leased = AttemptMachine(leased=True)
     assert leased.begin(attempt, NOW) is OFFER
@@ -430,7 +430,7 @@ def test_what_external_workers_may_have_is_withdrawn_first() -> None:
     assert leased.withdrawn(attempt, NOW) is NOTHING
 
 
-def test_what_was_offered_with_its_begin_is_not_given_up_unseen() -> None:
+def test_an_offered_attempt_is_withdrawn_first() -> None:
     attempt = attempt_of("outside")
     attempt.instance.draining = attempt.instance.aborted = True
     attempt.rare.offered = 0
@@ -451,13 +451,13 @@ def test_a_row_that_is_stored_when_the_attempt_went_on_leads_to_nothing() -> Non
 # -- a shard that was recovered
 
 
-def test_what_was_finished_is_reported_again() -> None:
+def test_a_finished_attempt_is_reported_again() -> None:
     attempt = running("plain")
     MACHINE.finish(attempt, outcomes.failure("no", final=True), NOW)
     assert MACHINE.resume(attempt, NOW) is REPORT_AGAIN and MACHINE.report(attempt) is REPORT
 
 
-def test_what_runs_or_waits_here_goes_on() -> None:
+def test_running_and_waiting_attempts_continue() -> None:
     asleep = attempt_of("plain")
     asleep.suspend(Suspension.BACKOFF, NOW + 1)
     queued = attempt_of("plain")
@@ -491,7 +491,7 @@ def test_a_row_that_was_on_its_way_is_put_again() -> None:
         ("outside", Suspension.EXTERNAL, None, OFFER),
     ],
 )
-def test_what_an_earlier_program_had_begun_goes_on_by_its_row(
+def test_an_earlier_attempt_continues_by_its_row(
     step: str, reason: Suspension, until: float | None, decision: Decision
 ) -> None:
     made = attempt_of(step)
@@ -508,12 +508,12 @@ def test_what_an_earlier_program_had_begun_goes_on_by_its_row(
         )
 
 
-def test_what_an_earlier_program_had_begun_without_a_row_begins_again() -> None:
+def test_an_earlier_attempt_without_a_row_starts_again() -> None:
     assert MACHINE.resume(attempt_of("plain", fresh=False), NOW) is CALL
     assert MACHINE.resume(attempt_of("outside", fresh=False), NOW) is OFFER
 
 
-def test_resumes_one_with_a_child() -> None:
+def test_an_attempt_with_a_child_is_resumed() -> None:
     """Its child may exist, also if the attempt was given up before its row was stored: it is
     followed, and not given up again.
     """
@@ -528,7 +528,7 @@ def test_resumes_one_with_a_child() -> None:
 # -- a saga that drains
 
 
-def test_a_saga_that_drains_gives_up_what_waits_and_was_not_called() -> None:
+def test_a_draining_saga_gives_up_waiting_attempts() -> None:
     instance = attempt_of("plain").instance
     made: dict[str, Attempt] = {}
     for step, number in (
@@ -653,7 +653,7 @@ def test_whatever_happens_each_decision_fits_the_state(
         assert attempt.outcome is first
 
 
-def test_what_was_reported_early() -> None:
+def test_early_reports() -> None:
     """It is the attempt's outcome, also if its saga drains.
 
     A compensation takes none, and neither does an attempt whose step failed permanently.

@@ -72,7 +72,7 @@ def limited(attempt: Attempt) -> tuple[str, Decision]:
     return names, decision
 
 
-def test_the_key_of_a_limit_is_asked_for_once() -> None:
+def test_the_key_of_a_limit_is_computed_once() -> None:
     """A compensation has none; whoever cannot say it is not called."""
     attempt = attempt_of({"account": "a"})
     assert (
@@ -96,7 +96,7 @@ def test_the_key_of_a_limit_is_asked_for_once() -> None:
     assert decision.do is Do.SUSPEND and attempt.reason is Suspension.CANNOT_DECODE
 
 
-def test_whose_a_saga_is() -> None:
+def test_the_tenant_of_a_saga() -> None:
     """If its definition cannot return a tenant, the saga has none."""
     for given, tenant in (({"account": "a"}, '"a"'), ({}, "null")):
         attempt = attempt_of(given)

@@ -62,7 +62,7 @@ def again(attempt: Attempt) -> None:
         ("undo", 1, {"on_exhausted": "fail", "max_attempts": 9}, NEVER, None),
     ],
 )
-def test_what_a_failure_leads_to(
+def test_the_decision_after_a_failure(
     kind: str, number: int, options: dict[str, Any], outcome: outcomes.Outcome, comes: Any
 ) -> None:
     attempt = attempt_of(kind, number, **options)
@@ -77,7 +77,7 @@ def test_what_a_failure_leads_to(
     assert decision.event == (name, decision.row.error) and attempt.failures == 1
 
 
-def test_so_many_attempts_as_are_wanted() -> None:
+def test_attempts_up_to_the_limit() -> None:
     """The pauses grow up to the longest one.
 
     Then the attempt needs an operator, who may retry it: attempts count from the first one again.
@@ -102,7 +102,7 @@ def test_so_many_attempts_as_are_wanted() -> None:
         again(attempt)
 
 
-def test_an_unknown_one_stays_unknown_where_it_is_retried() -> None:
+def test_a_retried_unknown_attempt_stays_unknown() -> None:
     """A retry does not make the outcome known: the attempt may have had its effect.
 
     Its time restarts.
@@ -156,7 +156,7 @@ def test_the_pause_that_a_function_wants(number: int) -> None:
 
 
 @pytest.mark.parametrize("reason", [Suspension.RETRY, Suspension.EXHAUSTED, Suspension.UNKNOWN])
-def test_a_restart_goes_on_waiting(reason: Suspension) -> None:
+def test_a_restart_continues_a_wait(reason: Suspension) -> None:
     """No function is called because of a restart."""
     asks = reason is Suspension.EXHAUSTED
     attempt = Attempt(attempt_of(number=2).instance, 0, "run", 2, False)

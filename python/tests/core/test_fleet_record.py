@@ -46,7 +46,7 @@ def events_of(record: ShardRecord) -> str:
     return ", ".join(events) + (f": {fault[1]}" if fault else "")
 
 
-def test_what_the_database_has_alone() -> None:
+def test_a_record_of_the_database_only() -> None:
     """Each commit was acknowledged before the next one; the acknowledgement of the last one is
     unknown.
     """
@@ -56,17 +56,17 @@ def test_what_the_database_has_alone() -> None:
     )
 
 
-def test_what_a_node_noted_is_placed() -> None:
+def test_notes_of_a_node_are_placed() -> None:
     assert events_of(merged(NODE, [BORN], CHUNKS)) == TWO
 
 
-def test_a_synchronous_standby_has_what_was_answered() -> None:
+def test_a_synchronous_standby_has_acknowledged_commits() -> None:
     assert events_of(merged(NODE, [BORN], CHUNKS, sync=True)) == TWO.replace(
         "1 12, heard", "1 12, safe 2, heard"
     ).replace("0 11, heard 0,", "0 11, safe 1, heard 0,")
 
 
-def test_a_takeover_reads_what_is_before_it() -> None:
+def test_a_takeover_reads_earlier_chunks() -> None:
     """There are two takeovers between the commits, one of them without a note; and the first node
     continues to write.
     """
@@ -85,7 +85,7 @@ def test_a_takeover_that_read_something_else(read: str) -> None:
     assert events_of(merged(f"took b 7 2 1 {read}", takeovers, CHUNKS[:1])).endswith(why)
 
 
-def test_told_before_it_was_heard() -> None:
+def test_acknowledged_before_the_confirmation() -> None:
     lines = NODE.splitlines()
     lines[1:1] = [lines.pop(3)]
     assert events_of(merged("\n".join(lines), [BORN], CHUNKS)).endswith("NotKnown")
@@ -121,7 +121,7 @@ def test_a_chunk_that_its_session_did_not_send() -> None:
     assert events_of(merged("", [BORN], [Chunk(5, 0, 2, 11)])).endswith("NoSuchSession")
 
 
-def test_a_birth_that_never_happened() -> None:
+def test_a_shard_whose_first_commit_was_refused() -> None:
     """Its commit was refused.
 
     The replies and acknowledgements of the session stay in the record.
@@ -135,7 +135,7 @@ def test_a_birth_that_never_happened() -> None:
     )
 
 
-def test_an_epoch_that_is_another_nodes() -> None:
+def test_an_epoch_of_another_node() -> None:
     """The epoch is another node's on this server, or on the one before it."""
     takeovers = [BORN, Takeover(2, "c", 2, "1")]
     notes = f"{NODE}\ntook b 7 2 1 3 12\ntold b 7 2 1 3 call"
@@ -174,7 +174,7 @@ def test_a_shard_that_was_taken_and_closed_before_a_promotion(notes: str, sync: 
         ((3, 3), "", "took 1 0 0, took 2 0 0, took 3 0 0"),
     ],
 )
-def test_a_takeover_that_did_not_look(epochs: tuple[int, int], notes: str, events: str) -> None:
+def test_a_takeover_without_a_read(epochs: tuple[int, int], notes: str, events: str) -> None:
     """The takeover is placed where its node read; else as late as the epochs of the
     chunks allow.
     """
@@ -219,7 +219,7 @@ def test_another_server_takes_over_and_the_shard_rests() -> None:
 
 
 @pytest.mark.parametrize("notes", ["", NODE])
-def test_an_end_that_a_client_was_told(notes: str) -> None:
+def test_an_end_that_a_client_got(notes: str) -> None:
     """The database has shown it, so its commit is done; no session knows of another one."""
     assert events_of(merged(notes, [BORN], CHUNKS, ends=[("client", 3)])).endswith("told 0 2")
     assert events_of(merged(notes, [BORN], CHUNKS, ends=[("client", 4)])).endswith(
@@ -239,12 +239,12 @@ def test_an_end_that_a_client_was_told(notes: str) -> None:
         "seen a x wake",
     ],
 )
-def test_a_line_that_is_none(line: str) -> None:
+def test_an_invalid_line(line: str) -> None:
     with pytest.raises(BadLine):
         Records().add(line)
 
 
-def test_what_records_are_of() -> None:
+def test_the_content_of_records() -> None:
     """A record has shards, closed shards, and the results that clients got."""
     records = Records()
     for line in (

@@ -62,6 +62,6 @@ def test_it_is_written_once_nothing_comes_any_more() -> None:
     assert not policy.holds(0, 8, 0.01, 7.0001) and policy.until is None
 
 
-def test_many_calls_are_told_of_in_two_halves() -> None:
+def test_many_calls_are_reported_in_two_halves() -> None:
     """Few calls stay together."""
     assert [half(ready) for ready in (0, 1, 7, 8, 16, 17, 1000)] == [0, 1, 7, 4, 8, 9, 500]

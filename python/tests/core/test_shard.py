@@ -199,7 +199,7 @@ def test_a_shard_that_is_full_takes_no_more() -> None:
         empty.replies(['{"refused":"log-full"}'], "", NOW)
 
 
-def test_a_saga_whose_deadline_has_passed_is_aborted_as_it_is_opened() -> None:
+def test_a_saga_past_its_deadline_is_aborted_when_opened() -> None:
     """No task of it is claimed: it is planned, and over in the batch that opens it.
 
     If the shard is full, it is opened elsewhere.
@@ -293,7 +293,7 @@ def shown(phase: str, answer: object, states: list[str]) -> str:
     )
 
 
-def test_a_saga_that_fails_drains_and_its_end_is_asked() -> None:
+def test_a_failing_saga_drains_and_its_result_is_requested() -> None:
     """Once it is over, its result goes into the batch of the reply that ends it.
 
     The question is sent along with the report that should end it; if another report ends it, after
@@ -404,7 +404,7 @@ def recovered(
     return recovery.recover(loaded, [json.dumps({"busy": busy_tasks})], NOW, shard, known)
 
 
-def test_what_runs_stays_and_what_had_not_begun_is_forgotten() -> None:
+def test_recovery_keeps_running_attempts_and_drops_new_ones() -> None:
     """An attempt that the engine knows as started stays the same one; another one, which the store
     does not know, is dropped.
     """
@@ -458,7 +458,9 @@ def test_a_finished_attempt_is_reported_again_or_replaced() -> None:
     ("epoch", "line", "is_ours"),
     [(1, "line", True), (2, "line", True), (3, "line", False), (2, "other", False)],
 )
-def test_what_was_given_up_is_decided_again(epoch: int, line: str, is_ours: bool) -> None:
+def test_an_attempt_that_was_given_up_is_decided_again(
+    epoch: int, line: str, is_ours: bool
+) -> None:
     """A waiting attempt is made again from its row if another node may have had the shard, or
     another server took over: it may have been called there.
     """
@@ -514,7 +516,7 @@ def test_rows_of_an_earlier_program() -> None:
     assert [one.key for one in gone.gone] == ["k"] and not gone.restored and not begun_shard.sagas
 
 
-def test_aborts_are_asked_again_or_answered() -> None:
+def test_aborts_are_repeated_or_answered() -> None:
     """An abort of a saga that is open again is repeated; the abort of a saga that is gone did
     nothing.
     """
@@ -603,7 +605,7 @@ def test_labels_go_with_the_row_of_their_saga() -> None:
     assert come(shard, opened(1)).batch.rare is None
 
 
-def test_a_plan_and_what_it_begins_come_by_one_question() -> None:
+def test_a_plan_comes_with_its_compensations() -> None:
     """For each saga that is expected to be planned, one more task is claimed, also beyond the
     slots: a plan comes before the compensations.
     """

@@ -84,7 +84,7 @@ def test_attempts_come_in_turn() -> None:
     assert len(store.called) == 3 and store.slots.running == 0 and store.slots.free() == 2
 
 
-def test_who_is_over_its_steps_limit_keeps_nobody_back() -> None:
+def test_an_attempt_over_its_limit_delays_no_other() -> None:
     store = Store(3)
     first, second, third = (store.enter("narrow") for _ in range(3))
     assert store.called == [first] and (second.state, second.reason) == (
@@ -98,7 +98,7 @@ def test_who_is_over_its_steps_limit_keeps_nobody_back() -> None:
     assert store.called == [first, other, third]
 
 
-def test_a_limit_that_nobody_needs_is_not_kept() -> None:
+def test_an_unused_limit_is_dropped() -> None:
     """The same holds if the waiting attempt was given up in the meantime: limits of keys come and
     go.
     """
@@ -116,7 +116,7 @@ def test_slots_are_taken_for_many_at_once() -> None:
     assert store.slots.running == 0
 
 
-def test_shards_that_want_slots_are_told_of_them() -> None:
+def test_waiting_shards_are_notified_of_slots() -> None:
     store, shard, other = Store(2), Shard(), Shard()
     store.slots.reserve(2)
     store.slots.starve(shard)

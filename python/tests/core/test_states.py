@@ -74,7 +74,7 @@ def test_a_table_has_each_state_and_each_is_reached(machine: type[enum.Enum]) ->
 
 
 @pytest.mark.parametrize(("before", "after"), itertools.product(AttemptState, AttemptState))
-def test_an_attempt_goes_only_where_its_table_lets_it(
+def test_an_attempt_follows_the_table_of_transitions(
     before: AttemptState, after: AttemptState
 ) -> None:
     attempt = attempt_in(before)
@@ -140,5 +140,5 @@ def test_the_events_of_a_step_keep_to_its_table() -> None:
     assert set(states.EVENT_STATES.values()) == set(StepState)
 
 
-def test_each_suspension_has_its_words() -> None:
+def test_each_suspension_has_its_text() -> None:
     assert set(Suspension) <= set(states.WAITS_FOR)
