@@ -87,7 +87,7 @@ async def until(condition: Callable[[], Any], seconds: float = 120) -> Any:
             await asyncio.sleep(0.005)
 
 
-async def asked_of(store: sagas.Store) -> list[sagas.UnknownAttempt]:
+async def attempts_to_report(store: sagas.Store) -> list[sagas.UnknownAttempt]:
     """Return the attempts whose outcome an operator has to report."""
     return [held for held in await store.unknown() if held.asked]
 

@@ -365,7 +365,8 @@ def main() -> int:
         figures += one.verdict.figures
     bad = sum(bool(one.problems) for one in rounds)
     print(
-        f"{len(rounds)} rounds over {options.broker} and {options.store}, {bad} bad, seed {options.seed},"
+        f"{len(rounds)} rounds over {options.broker} and {options.store}, {bad} bad,"
+        f" seed {options.seed},"
         f" {time.monotonic() - began:.0f} s"
     )
     for title, counted in (("strikes", kills), ("figures", figures)):

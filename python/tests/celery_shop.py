@@ -55,7 +55,7 @@ class Shop:
         patience: float = 60.0,
         timeout: float = 300.0,
     ) -> None:
-        self.words = {
+        self.settings = {
             "broker": broker,
             "store": store,
             "notes": notes,
@@ -92,13 +92,13 @@ class Shop:
 
     def open(self, **options: Any) -> sagas.Store:
         """Open the store."""
-        return sagas.open(self.words["store"], self.sagas, program=program(), **options)
+        return sagas.open(self.settings["store"], self.sagas, program=program(), **options)
 
     def worker(self, folder: pathlib.Path, *more: str, name: str = "w", **other: Any) -> Program:
         """Start a worker and wait until it is ready; `other` replaces options of its command."""
         here = pathlib.Path(__file__).resolve().parent
         environment = os.environ | {
-            SETTINGS: json.dumps(self.words | other),
+            SETTINGS: json.dumps(self.settings | other),
             "PYTHONPATH": f"{here.parent / 'src'}{os.pathsep}{here}",
             "PYTHONUNBUFFERED": "1",
         }
@@ -110,7 +110,7 @@ class Shop:
             "celery_shop",
             "worker",
             "-Q",
-            str(self.words["queue"]),
+            str(self.settings["queue"]),
             "-c",
             "2",
             "-n",
@@ -149,7 +149,9 @@ class Shop:
     def _trip(self) -> sagas.Saga:
         trip = sagas.Saga("trip", version=2)
 
-        @sagas.celery.step(self.app, trip, "flight", queue=str(self.words["queue"]), keep=9, undo=1)
+        @sagas.celery.step(
+            self.app, trip, "flight", queue=str(self.settings["queue"]), keep=9, undo=1
+        )
         def flight(task: sagas.Task[Trip]) -> Seat:
             self.note(task, to=task.input.to)
             return Seat(12, task.input.to)
@@ -215,7 +217,7 @@ class Shop:
 
         @odd.step(
             queue=sagas.celery.Queue(
-                self.app, str(self.words["queue"]), soft_time_limit=1, time_limit=60, priority=3
+                self.app, str(self.settings["queue"]), soft_time_limit=1, time_limit=60, priority=3
             ),
             backoff=QUICK,
             max_unknown=0,

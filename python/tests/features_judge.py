@@ -99,7 +99,7 @@ class FeatureJudge(stores.Judge):
             self.verdict.fault("lost", f"the definition of {key}")
         for log in self.records.logs.values():
             if all(
-                row.place < len(log.texts)
+                row.definition_index < len(log.texts)
                 for row in self.records.sagas.values()
                 if row.log == log.log
             ):

@@ -185,11 +185,11 @@ class FeatureStore:
         names = {log: self._texts(rows) for log, rows in stored.logs.items()}
         for row in stored.sagas.values():
             log = stored.logs[row.log]
-            if row.place >= len(log.texts):
+            if row.definition_index >= len(log.texts):
                 self.undefined.append(row.key)
                 continue
-            text = log.texts[row.place]
-            saga, steps = names[row.log][row.place]
+            text = log.texts[row.definition_index]
+            saga, steps = names[row.log][row.definition_index]
             deadline, note = more.get(row.id, (None, None))
             outcomes = {
                 (steps[step], kind, number): (event, self.values.read(value))

@@ -16,7 +16,7 @@ class Session:
 
     server: int
     epoch: int
-    asked: int
+    unanswered: int
     known: int = 0
     digest: int = 0
     stage: str = "done"
@@ -68,7 +68,7 @@ class Log:
         """It sends a chunk."""
         if one.stage != "idle":
             return "NotIdle"
-        one.stage, one.asked, one.digest = "sent", 1, digest
+        one.stage, one.unanswered, one.digest = "sent", 1, digest
         return None
 
     def wrote(self, one: Session, chunks: int, digest: int) -> str | None:
@@ -95,7 +95,7 @@ class Log:
             return "NothingDone"
         if one.server != self.server:
             return "OtherServer"
-        one.known, one.asked, one.stage = one.known + one.asked, 0, "idle"
+        one.known, one.unanswered, one.stage = one.known + one.unanswered, 0, "idle"
         return "NotShipped" if self.is_synchronous and one.known > self.safe else None
 
     def told(self, one: Session, chunks: int) -> str | None:

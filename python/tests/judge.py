@@ -190,12 +190,12 @@ class Judge:
                 row.phase,
                 row.end["states"],
                 row.end["aborted"],
-                row.place,
+                row.definition_index,
             ) != (
                 saga.phase,
                 saga.states,
                 saga.aborted,
-                saga.place,
+                saga.definition_index,
             ):
                 fault(
                     "end",
@@ -288,7 +288,7 @@ class Judge:
 
     def _saga(self, row: SagaRow) -> None:
         fault, log = self.verdict.fault, self.records.logs[row.log]
-        steps = log.steps(row.place)
+        steps = log.steps(row.definition_index)
         if row.phase not in ("ended", "stuck"):
             fault("not-over", f"{row.key} is {row.phase} in the database")
         ends = list(ends_of(log, steps, row.number))

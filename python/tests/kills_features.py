@@ -414,11 +414,11 @@ def play(
     server: Server | None = None,
     *,
     keeps: bool = True,
-    **words: Any,
+    **round_options: Any,
 ) -> Played:
     """Play one round: a store, its strikes and the verdict."""
     folder = pathlib.Path(tempfile.mkdtemp(prefix="sagas-features-"))
-    one = Round(folder, seed, count, strikes, server, **words)
+    one = Round(folder, seed, count, strikes, server, **round_options)
     verdict = one.play()
     is_bad = keeps and bool(verdict.faults)
     if not is_bad:
@@ -477,10 +477,10 @@ def main() -> int:
             bad += bool(one.verdict.faults)
             for fault in one.verdict.faults[:8]:
                 print(f"{seed} {one.folder}: {fault}")
-            said = f"{seed}: {','.join(one.options)}; {one.deploy}"
+            summary = f"{seed}: {','.join(one.options)}; {one.deploy}"
             strikes = sum(kills.values())
             print(
-                f"{said}; {number + 1} of {options.rounds} rounds, {strikes} strikes, {bad} bad",
+                f"{summary}; {number + 1} of {options.rounds} rounds, {strikes} strikes, {bad} bad",
                 flush=True,
             )
     print(f"seed {options.seed}, {time.monotonic() - began:.0f} s")
@@ -499,7 +499,8 @@ def wrong(name: str) -> int:
         is_detected = finds in played.names
         missed += not is_detected
         print(
-            f"{one}: {'found by' if is_detected else 'NOT found by'} {finds}; {sorted(played.names)}",
+            f"{one}: {'found by' if is_detected else 'NOT found by'} {finds};"
+            f" {sorted(played.names)}",
             flush=True,
         )
     return 1 if missed else 0

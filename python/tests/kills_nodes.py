@@ -201,10 +201,11 @@ def play(
                 )
             )
         troubles: list[str | None] = []
-        threads = [
-            threading.Thread(target=lambda striker=striker: troubles.append(striker.until_over()))  # type: ignore[misc]
-            for striker in strikers
-        ]
+
+        def strike(striker: NodeStriker) -> None:
+            troubles.append(striker.until_over())
+
+        threads = [threading.Thread(target=strike, args=(striker,)) for striker in strikers]
         for thread in threads:
             thread.start()
         for thread in threads:
@@ -256,7 +257,8 @@ def main() -> int:
             for fault in one.problems[:5]:
                 print(f"\n{one.kind} {one.seed} {one.folder}: {fault}")
             print(
-                f"{number + 1} of {options.rounds} rounds, {sum(kills.values())} strikes, {bad} bad",
+                f"{number + 1} of {options.rounds} rounds,"
+                f" {sum(kills.values())} strikes, {bad} bad",
                 flush=True,
             )
     print(f"seed {options.seed}, {time.monotonic() - began:.0f} s")

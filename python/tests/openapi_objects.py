@@ -64,18 +64,18 @@ class Rules:
 
 def type_of(cell: str) -> Of:
     """Return the type in a cell of a table."""
-    tokens = [found for found in WORD.finditer(cell)]
+    tokens = [match for match in WORD.finditer(cell)]
 
     def one() -> Of:
-        found = tokens.pop(0)
-        text = found[0]
+        match = tokens.pop(0)
+        text = match[0]
         if text == "Map[":
             one()  # of the names: always `string`
             tokens.pop(0)
             return closed("map")
         if text == "[":
             return closed("list")
-        return Of("any") if text == "Any" or "{" in text else Of(found[1] or found[2])
+        return Of("any") if text == "Any" or "{" in text else Of(match[1] or match[2])
 
     def some() -> Of:
         parts = [one()]
@@ -85,9 +85,9 @@ def type_of(cell: str) -> Of:
         return parts[0] if len(parts) == 1 else Of("or", tuple(parts))
 
     def closed(word: str) -> Of:
-        found = Of(word, (some(),))
+        closed_type = Of(word, (some(),))
         tokens.pop(0)
-        return found
+        return closed_type
 
     return some()
 

@@ -23,7 +23,7 @@ class SagaRow:
 
     id: int
     key: str
-    place: int
+    definition_index: int
     input: Any
     phase: str | None
     end: Json | None
@@ -55,9 +55,9 @@ class LogRows:
     def events(self) -> list[Json]:
         return [json.loads(line) for line in self.lines]
 
-    def steps(self, place: int) -> list[str]:
+    def steps(self, definition_index: int) -> list[str]:
         """Return the names of the steps of a definition."""
-        return [step["name"] for step in tomllib.loads(self.texts[place])["step"]]
+        return [step["name"] for step in tomllib.loads(self.texts[definition_index])["step"]]
 
 
 @dataclass(frozen=True)
@@ -107,8 +107,10 @@ def read(store: pathlib.Path | str) -> Records:
         ):
             logs[log].chunks.append((first, text))
         sagas = {
-            key: SagaRow(id, key, place, json.loads(text), phase, json.loads(end) if end else None)
-            for id, key, place, text, phase, end in ask(
+            key: SagaRow(
+                id, key, definition_index, json.loads(text), phase, json.loads(end) if end else None
+            )
+            for id, key, definition_index, text, phase, end in ask(
                 "SELECT id, key, definition_index, input, phase, outcome FROM sagas"
             )
         }

@@ -391,7 +391,8 @@ def main() -> int:
             for fault in verdict.faults[:5]:
                 print(f"{options.seed + number} {folder}: {fault}")
             print(
-                f"{number + 1} of {options.rounds} rounds, {sum(kills.values())} strikes, {bad} bad",
+                f"{number + 1} of {options.rounds} rounds,"
+                f" {sum(kills.values())} strikes, {bad} bad",
                 flush=True,
             )
     print(f"seed {options.seed}, {time.monotonic() - began:.0f} s")

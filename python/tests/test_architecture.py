@@ -14,10 +14,10 @@ CHANGES = re.compile(r"\b(INSERT INTO|UPDATE (?!SET\b|OF\b)|DELETE FROM|pg_notif
 
 def statements(body: list[ast.stmt], owner: str) -> list[str]:
     """Return the names of a module that have such a statement."""
-    names_found: list[str] = []
+    changing: list[str] = []
     for node in body:
         if isinstance(node, ast.ClassDef):
-            names_found += statements(node.body, f"{owner}.{node.name}")
+            changing += statements(node.body, f"{owner}.{node.name}")
             continue
         if isinstance(node, (ast.FunctionDef, ast.AsyncFunctionDef)):
             names = [node.name]
@@ -32,8 +32,8 @@ def statements(body: list[ast.stmt], owner: str) -> list[str]:
             one.value for one in within if isinstance(one, ast.Constant) and id(one) not in prose
         ]
         if any(isinstance(text, str) and CHANGES.search(text) for text in texts):
-            names_found += [f"{owner}.{name}" for name in names]
-    return names_found
+            changing += [f"{owner}.{name}" for name in names]
+    return changing
 
 
 def test_each_statement_that_changes_rows_has_its_fence() -> None:

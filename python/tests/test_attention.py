@@ -8,7 +8,7 @@ import re
 from typing import Any
 
 import pytest
-from cases import QUICK, Task, asked_of, run, until
+from cases import QUICK, Task, attempts_to_report, run, until
 
 import sagas
 from sagas.cli import store_command
@@ -76,7 +76,7 @@ async def fill(store: sagas.Store, kinds: list[sagas.Saga]) -> None:
     first, *_ = str(end).splitlines()
     assert first == "shop gone: recovered, but the compensation of take failed permanently"
     await store.start(kinds[0], "unknown", "unknown")
-    await until(lambda: asked_of(store))
+    await until(lambda: attempts_to_report(store))
 
 
 def test_items_that_need_an_operator(

@@ -145,7 +145,7 @@ def test_a_table_is_durable(url: str, monkeypatch: pytest.MonkeyPatch) -> None:
     made, whole = list[psycopg.Connection[Any]](), connections.connect_now
     with psycopg.connect(url, autocommit=True) as link:
         name = url.rpartition("/")[2]
-        link.execute(f"ALTER DATABASE {name} SET synchronous_commit = off")  # type: ignore[arg-type]
+        link.execute(f"ALTER DATABASE {name} SET synchronous_commit = off".encode())
     monkeypatch.setattr(connections, "connect_now", lambda *a: made.append(whole(*a)) or made[0])
     with contextlib.closing(sagas.PostgresBlobStore(url)) as blobs:
         blobs.put("a", b"one")

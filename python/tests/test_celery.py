@@ -83,7 +83,7 @@ def test_tasks_have_names_and_late_acknowledgement(shop: Shop) -> None:
             task.acks_late
             and task.reject_on_worker_lost
             and task.ignore_result
-            and task.queue == shop.words["queue"]
+            and task.queue == shop.settings["queue"]
         )
     long = shop.app.tasks["sagas.odd.long.run"]
     assert (long.soft_time_limit, long.time_limit, long.priority) == (1, 60, 3)
@@ -109,7 +109,7 @@ def test_invalid_declarations(shop: Shop, tmp_path: pathlib.Path) -> None:
         one.step(name="a", queue=sagas.celery.Queue(app, "q", **options))(lambda task: None)
         return one
 
-    broker = shop.words["broker"]
+    broker = shop.settings["broker"]
     app = celery.Celery("no", broker=broker)
     run(refused(app, saga(app), sagas.DefinitionError, "sagas_store"))
     run(
@@ -132,7 +132,8 @@ def test_invalid_declarations(shop: Shop, tmp_path: pathlib.Path) -> None:
     saga(app, store=path)
     run(refused(app, saga(app, store=path), sagas.DefinitionError, "another step has its task"))
     with pytest.raises(sagas.DefinitionError, match="external=True"):
-        sagas.Saga("two").step(external=True, name="a", queue=shop.queue)  # type: ignore[call-overload]
+        options: dict[str, Any] = {"external": True, "queue": shop.queue}
+        sagas.Saga("two").step(name="a", **options)
 
 
 def test_a_message_shows_its_attempt() -> None:

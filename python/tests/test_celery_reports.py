@@ -16,7 +16,7 @@ import celery
 import psycopg
 import pytest
 from brokers import Broker, broker_at
-from cases import QUICK, Task, asked_of, ended, run, simple, until
+from cases import QUICK, Task, attempts_to_report, ended, run, simple, until
 from celery.exceptions import Reject, SoftTimeLimitExceeded
 from psycopg.rows import dict_row
 from test_definition_sets import rows
@@ -66,7 +66,7 @@ class Late:
         """Run the store, with the step held for an operator."""
         async with sagas.open(self.location, [self.saga]) as store:
             await store.start(self.saga, "k")
-            await until(lambda: asked_of(store), 30)
+            await until(lambda: attempts_to_report(store), 30)
             external = store._inside.external
             await until(lambda: not (external._is_looking or external._looks_again))
             yield store
@@ -211,7 +211,7 @@ def test_a_start_that_is_not_kept(
                     await store.start(late.saga, "k")
             await until(lambda: started(store, late.saga))
             await until(lambda: late.orders)
-            await until(lambda: asked_of(store), 30)
+            await until(lambda: attempts_to_report(store), 30)
             await store.complete("k", "once", "by hand")
             assert (await store.wait("k", 60)).ok
 

@@ -56,7 +56,7 @@ def messages(broker: Broker, shop: Shop) -> int:
 
     A message in transit from a queue to a worker is in neither place, for a moment.
     """
-    queue = str(shop.words["queue"])
+    queue = str(shop.settings["queue"])
     with redis.Redis(
         unix_socket_path=str(broker.folder / "socket")
     ) as link, link.pipeline() as both:

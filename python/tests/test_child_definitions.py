@@ -100,7 +100,8 @@ def test_a_removed_compensation(location: str, steps: tuple[str, ...], lacks: st
         async with contextlib.AsyncExitStack() as stack:
             if location.startswith("postgresql"):
                 lacking = await stack.enter_async_context(sagas.open(location, new, node="new"))
-                assert len(lacking._inside.store.lease.left) == 1 and not lacking.active_attempts("t")  # type: ignore[attr-defined]
+                left = lacking._inside.store.lease.left  # type: ignore[attr-defined]
+                assert len(left) == 1 and not lacking.active_attempts("t")
             else:
                 with pytest.raises(sagas.MissingStep) as error:
                     await stack.enter_async_context(sagas.open(location, new))
@@ -542,7 +543,10 @@ def test_a_task_that_an_older_release_offered(tmp_path: pathlib.Path) -> None:
             await until(lambda: [a for a in store.active_attempts("t") if a.waits == "approval"])
             await store.fail("t", "sign", "no")
             await until(store.workers.queues)
-            store._inside.store._writer._db.execute("UPDATE external_attempts SET task = 'leaf-undo/room/run' WHERE outcome IS NULL")  # type: ignore[attr-defined]
+            database = store._inside.store._writer._db  # type: ignore[attr-defined]
+            database.execute(
+                "UPDATE external_attempts SET task = 'leaf-undo/room/run' WHERE outcome IS NULL"
+            )
         async with opened(location, "") as store:
             (undo,) = await store.workers.claim([("leaf", "room", "undo")], wait=60, lease=60)
             await store.workers.report(undo.attempt_id, undo.lease, result=None)
@@ -680,7 +684,7 @@ def test_the_second_child_is_undone(location: str) -> None:
         child.steps[0].run.function = lambda task: do(task)
         return world.parent(child, on_exhausted="ask", keep=9, undo=0)
 
-    world.undo = lambda task: world.done.append(f"undo {task.step} of {task.key}")  # type: ignore[method-assign]
+    setattr(world, "undo", lambda task: world.done.append(f"undo {task.step} of {task.key}"))
     old, new = known("x"), known("x", "z")
 
     async def main() -> None:

@@ -321,7 +321,8 @@ def test_definitions_that_cannot_be() -> None:
             ...
 
     with pytest.raises(sagas.DefinitionError, match="on_exhausted='retry'"):
-        trip.child(sagas.Saga("other"), name="c", input=lambda task: None, on_exhausted="retry")  # type: ignore[call-overload]
+        wrong: dict[str, Any] = {"on_exhausted": "retry"}
+        trip.child(sagas.Saga("other"), name="c", input=lambda task: None, **wrong)
     with pytest.raises(sagas.DefinitionError, match="expected a sagas.Saga"):
         trip.child("hotel", input=lambda task: None)  # type: ignore[call-overload]
 

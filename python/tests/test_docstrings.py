@@ -49,10 +49,10 @@ def described(thing: Any) -> set[str]:
     doc = inspect.getdoc(thing) or ""
     if inspect.isclass(thing) and inspect.isfunction(vars(thing).get("__init__")):
         doc += "\n\n" + (inspect.getdoc(vars(thing)["__init__"]) or "")
-    names_found = section(doc, "Args") | section(doc, "Attributes")
+    documented = section(doc, "Args") | section(doc, "Attributes")
     for name in re.findall(r"See `([\w.]+)`", doc):
-        names_found |= described(operator.attrgetter(name)(sagas))
-    return names_found
+        documented |= described(operator.attrgetter(name)(sagas))
+    return documented
 
 
 def declared(kind: type) -> set[str]:

@@ -28,7 +28,7 @@ from cases import (
     PLACES,
     QUICK,
     Task,
-    asked_of,
+    attempts_to_report,
     ended,
     in_child,
     pairs,
@@ -1566,7 +1566,7 @@ def test_a_retry_that_cannot_be_stored_raises_when_the_store_closes(
         kind = simple(unknown, max_unknown=0)
         async with sagas.open(tmp_path / "store.db", [kind], on_event=hears) as store:
             await store.start(kind, "k")
-            await until(lambda: asked_of(store))
+            await until(lambda: attempts_to_report(store))
             with contextlib.closing(
                 sqlite3.connect(tmp_path / "store.db", isolation_level=None)
             ) as other:

@@ -258,7 +258,8 @@ def test_invalid_limits_with_a_key_are_refused() -> None:
         with pytest.raises(sagas.DefinitionError, match=text):
             sagas.Saga("s").step(name="a", **options)(move)  # type: ignore[call-overload]
     with pytest.raises(sagas.DefinitionError, match="needs a function in this program"):
-        saga.step(name="b", external=True, concurrency=1, concurrency_by=by)  # type: ignore[call-overload]
+        wrong: dict[str, Any] = {"external": True, "concurrency": 1, "concurrency_by": by}
+        saga.step(name="b", **wrong)
     with pytest.raises(sagas.DefinitionError, match="fair_by=1: must be a plain function"):
         sagas.Saga("s", fair_by=1)  # type: ignore[arg-type]
 

@@ -836,7 +836,8 @@ def test_a_node_renews_its_lease_between_batches(url: str, monkeypatch: pytest.M
                 end.ok
                 for end in await asyncio.gather(*(store.wait(f"k{number}") for number in range(3)))
             )
-            await until(lambda: len(store._inside.store.lease.left) == 3)  # type: ignore[attr-defined]
+            lease = store._inside.store.lease  # type: ignore[attr-defined]
+            await until(lambda: len(lease.left) == 3)
 
     run(main())
     assert len(turns) >= 6 and len({*turns}) == len(turns)

@@ -72,9 +72,10 @@ def test_two_nodes_and_a_client(url: str, postgresql: Server, tmp_path: pathlib.
         assert owner
         nodes[owner].send_signal(signal.SIGKILL)
         out, _ = client.communicate(timeout=200)
-        assert out == re.search(r"prints:\n\n```text\n(.*?)```", PAGE, re.S)[1]  # type: ignore[index]
-        words = [sys.executable, "-m", "sagas", "store", url, "nodes"]
-        output = subprocess.check_output(words, env=environment, text=True)
+        (printed,) = re.findall(r"prints:\n\n```text\n(.*?)```", PAGE, re.S)[:1]
+        assert out == printed
+        show_nodes = [sys.executable, "-m", "sagas", "store", url, "nodes"]
+        output = subprocess.check_output(show_nodes, env=environment, text=True)
         other = "two" if owner == "one" else "one"
         assert other in [line.split()[0] for line in output.splitlines()[1:] if line]
         nodes[other].send_signal(signal.SIGTERM)

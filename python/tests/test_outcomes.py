@@ -16,7 +16,7 @@ from typing import Any
 
 import pytest
 import records
-from cases import HOUR, PLACES, QUICK, Task, asked_of, ended, pairs, run, simple, until
+from cases import HOUR, PLACES, QUICK, Task, attempts_to_report, ended, pairs, run, simple, until
 
 import sagas
 import sagas.testing
@@ -488,7 +488,7 @@ def test_unknown_for_too_long_waits_for_a_person(location: str, most: Any, done:
     async def first() -> None:
         async with sagas.open(location, [saga]) as store:
             await store.start(saga, key="k")
-            await until(lambda: asked_of(store))
+            await until(lambda: attempts_to_report(store))
 
     async def second() -> sagas.SagaResult:
         before = len(calls)

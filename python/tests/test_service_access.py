@@ -163,27 +163,27 @@ def test_roles(guarded: Guarded) -> None:
     try:
         for good, method, path, body, status in CALLS:
             for role, client in clients.items():
-                status_found, name = answer_of(client, method, path, body)
+                returned, name = answer_of(client, method, path, body)
                 if role == "approver" and path.startswith("/v1/sagas/asks/steps/review/"):
                     # a compensation is not an approval: see below
-                    assert (status_found, name) == (
+                    assert (returned, name) == (
                         403,
                         "Forbidden",
                     )
                 elif role in (*good.split(), "operator"):
-                    assert status_found == status and name != "Forbidden", (
+                    assert returned == status and name != "Forbidden", (
                         role,
                         method,
                         path,
-                        status_found,
+                        returned,
                         name,
                     )
                 else:
-                    assert (status_found, name) == (403, "Forbidden"), (
+                    assert (returned, name) == (403, "Forbidden"), (
                         role,
                         method,
                         path,
-                        status_found,
+                        returned,
                         name,
                     )
             for stranger in strangers:

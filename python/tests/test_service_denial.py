@@ -133,11 +133,11 @@ def test_a_client_that_goes_before_its_body_is_whole(tmp_path: pathlib.Path) -> 
             )
         deadline = time.monotonic() + LONG
         while not (
-            told := [line for line in service.log_text().splitlines() if "/k/abort" in line]
+            logged := [line for line in service.log_text().splitlines() if "/k/abort" in line]
         ):
             assert time.monotonic() < deadline
             time.sleep(0.05)
-    (line,) = map(json.loads, told)
+    (line,) = map(json.loads, logged)
     assert (line["logger"], line["status"]) == ("sagas.http", 0)
 
 

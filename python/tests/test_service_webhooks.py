@@ -223,7 +223,8 @@ def test_it_survives_a_kill(tmp_path: pathlib.Path, store: str | None) -> None:
                 == len(receiver.got) - before
                 == 12
             )
-        again = f"/v1/webhooks/deliveries/{deliveries['one', 'saga.attention', 'given-up']['id']}/redeliver"
+        given_up = deliveries["one", "saga.attention", "given-up"]
+        again = f"/v1/webhooks/deliveries/{given_up['id']}/redeliver"
         with service.client(tokens["caller"]) as caller:
             assert caller.post(again, json={}).status_code == 403
         assert client.post(again.replace("msg_", "msg_x"), json={}).status_code == 404

@@ -457,7 +457,9 @@ def test_few_statements_are_kept(url: str, monkeypatch: pytest.MonkeyPatch) -> N
                 )
                 assert all(end.phase in ("completed", "recovered") for end in ends)
             coordinator = store._inside
-            assert coordinator and 0 < len(coordinator.store._writer._wire._names) <= 3  # type: ignore[attr-defined]
+            assert coordinator
+            names = coordinator.store._writer._wire._names  # type: ignore[attr-defined]
+            assert 0 < len(names) <= 3
             await audited(store)
 
     run(main())

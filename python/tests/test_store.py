@@ -23,7 +23,7 @@ from typing import Any
 import psycopg
 import pytest
 import records
-from cases import HOUR, QUICK, Task, asked_of, ended, hears, run, simple, until
+from cases import HOUR, QUICK, Task, attempts_to_report, ended, hears, run, simple, until
 from kills import children
 
 import sagas
@@ -627,7 +627,7 @@ def test_a_compensation_with_an_unknown_outcome(location: str) -> None:
     async def main() -> sagas.SagaResult:
         async with sagas.open(location, [saga]) as store:
             going = await store.start(saga, key="k")
-            await until(lambda: asked_of(store))
+            await until(lambda: attempts_to_report(store))
             with pytest.raises(TimeoutError, match="with undo=True"):
                 await going.wait(timeout=0.01)
             with pytest.raises(sagas.StepNotWaiting, match="undo=True"):
@@ -1609,7 +1609,8 @@ def test_keys_that_are_no_texts(location: str) -> None:
         async with sagas.open(location, [kind]) as store:
             assert (await ended(store, kind)).ok
             async with asyncio.timeout(60):
-                results = await asyncio.gather(*(store.get(key) for key in [*wrong, "k", "other"]))  # type: ignore[arg-type]
+                keys: list[Any] = [*wrong, "k", "other"]
+                results = await asyncio.gather(*(store.get(key) for key in keys))
                 assert [one is not None for one in results] == [False] * 4 + [True, False]
                 for call in (store.wait, store.abort, store.log):
                     with pytest.raises(sagas.NoSuchSaga, match="no saga has the key 42"):

@@ -200,7 +200,8 @@ def test_no_operator_is_asked_if_so_declared(location: str) -> None:
     with pytest.raises(
         sagas.DefinitionError, match="undo_on_exhausted='retry': must be fail or ask"
     ):
-        sagas.Saga("x").child(world.child, input=lambda task: 1, undo_on_exhausted="retry")  # type: ignore[call-overload]
+        wrong: dict[str, Any] = {"undo_on_exhausted": "retry"}
+        sagas.Saga("x").child(world.child, input=lambda task: 1, **wrong)
 
 
 def test_an_undone_grandchild_stays_undone(location: str) -> None:
@@ -321,9 +322,9 @@ class Hand:
             raise sagas.Fail("no")
 
     async def started_and_waiting(self, store: sagas.Store) -> sagas.Run:
-        found = await store.start(self.top, "t", "fails")
+        run = await store.start(self.top, "t", "fails")
         await until(lambda: [one for one in store.active_attempts("t") if one.waits == "exhausted"])
-        return found
+        return run
 
 
 def result(key: Any, **more: Any) -> Json:
@@ -623,8 +624,8 @@ def test_over_http(tmp_path: pathlib.Path) -> None:
         assert (
             start(client, "top", "t").status_code == start(client, "hand", "h").status_code == 201
         )
-        (told,) = receiver.wait(1)
-        assert told["data"] == {
+        (received_post,) = receiver.wait(1)
+        assert received_post["data"] == {
             "key": undo,
             "definition": "leaf-undo",
             "kind": "exhausted",
@@ -672,10 +673,18 @@ def test_over_http(tmp_path: pathlib.Path) -> None:
                 .json()["detail"]
                 .startswith(f"saga '{undo}' undoes a child")
             )
-            told = owner.post("/v1/bulk/abort", json=bulk).json()
-            assert (told["count"], told["keys"], told["undoing"]) == (0, [], 1)
-            told = client.post("/v1/bulk/abort", json={"filter": {}}).json()
-            assert (told["count"], told["keys"], told["undoing"]) == (2, ["t", "h"], 1)
+            received_post = owner.post("/v1/bulk/abort", json=bulk).json()
+            assert (received_post["count"], received_post["keys"], received_post["undoing"]) == (
+                0,
+                [],
+                1,
+            )
+            received_post = client.post("/v1/bulk/abort", json={"filter": {}}).json()
+            assert (received_post["count"], received_post["keys"], received_post["undoing"]) == (
+                2,
+                ["t", "h"],
+                1,
+            )
             assert error_of(stranger.post("/v1/bulk/abort", json=bulk)) == "Forbidden"
             with service.client() as page:
                 assert (
@@ -707,12 +716,12 @@ def test_over_http(tmp_path: pathlib.Path) -> None:
                     and "'h/:kid'" in answer.text
                     and "nonsense" not in answer.text
                 )
-            told = client.post(
+            received_post = client.post(
                 "/v1/bulk/complete",
                 json={"filter": filter, "dry_run": False, "count": 1, "result": None},
             ).json()
-            assert told.get("done") == 0, told
-            assert told["refused"][0]["problem"]["status"] == 422
+            assert received_post.get("done") == 0, received_post
+            assert received_post["refused"][0]["problem"]["status"] == 422
             assert (
                 client.post(complete, json={"result": result("h/:kid", results={})}).status_code
                 == 200

@@ -447,10 +447,10 @@ def test_of_a_node_without_the_definition(url: str) -> None:
         assert sorted(call[1] for call in calls if call != "release") == ["k", "l"]
 
     async def requests(store: Any, count: int) -> bool:
-        ((found,),) = await store._access.inside.store.read(
+        ((pending,),) = await store._access.inside.store.read(
             "SELECT count(*) FROM operator_commands WHERE answer IS NULL AND command = 'compensate'"
         )
-        return bool(found == count)
+        return bool(pending == count)
 
     run(main())
 

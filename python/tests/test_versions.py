@@ -317,7 +317,8 @@ def test_commits_wait_for_the_disk(url: str, setting: str) -> None:
     acknowledgement.
     """
     with psycopg.connect(url, autocommit=True) as link:
-        link.execute(f"ALTER DATABASE {url.rpartition('/')[2]} SET synchronous_commit = {setting}")  # type: ignore[arg-type]
+        name = url.rpartition("/")[2]
+        link.execute(f"ALTER DATABASE {name} SET synchronous_commit = {setting}".encode())
 
     async def settings_of_commits() -> list[str]:
         async with connections.pool(url, 1) as some, some.connection() as pooled:

@@ -88,7 +88,8 @@ def trip() -> sagas.Saga:
         ...
 
     saga.step(name="outside", undo=0, tries=2, external=True, backoff=WAIT)
-    saga.step(name="sent", undo=0, queue=Where(), backoff=WAIT)(lambda task: None)  # type: ignore[arg-type]
+    queue: Any = Where()
+    saga.step(name="sent", undo=0, queue=queue, backoff=WAIT)(lambda task: None)
     return saga
 
 

@@ -312,7 +312,8 @@ def test_a_failing_saga_drains_and_its_result_is_requested() -> None:
     assert effects.rare.draining == [saga] and saga.draining and "no" in saga.rare.errors[0]
     shard.requests(8)
     plan = {"answer": {"kind": "plan", "cost": 3}, "phase": "ended", "saga": 0, "task": "plan"}
-    (show,) = shard.replies([json.dumps({"settled": True, "tasks": [plan]})], "plan\n", NOW)  # type: ignore[misc]
+    claim = json.dumps({"settled": True, "tasks": [plan]})
+    (show,) = shard.replies([claim], "plan\n", NOW)  # type: ignore[misc]
     assert show == '{"do":"show","saga":0}'
     effects = kept(
         shard, come(shard, shown("ended", plan["answer"], ["fixed", "waiting"]), text="")

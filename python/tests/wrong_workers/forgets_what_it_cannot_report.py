@@ -17,8 +17,8 @@ def apply() -> None:
     """Take each message for done."""
     right = Work.perform
 
-    def perform(self: Work, told: dict[str, Any]) -> None:
+    def perform(self: Work, message: dict[str, Any]) -> None:
         with contextlib.suppress(Reject):
-            right(self, told)
+            right(self, message)
 
     setattr(Work, "perform", perform)

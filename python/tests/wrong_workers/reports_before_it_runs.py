@@ -18,8 +18,8 @@ STRIKES = "run"
 def apply() -> None:
     """Report first."""
 
-    def perform(self: Work, told: dict[str, Any]) -> None:
-        order, function = Order.read(told), self.manner.function
+    def perform(self: Work, message: dict[str, Any]) -> None:
+        order, function = Order.read(message), self.manner.function
         desk = self.queue.desk()
         begun = desk.begin(order)
         if begun and function:
