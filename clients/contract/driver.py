@@ -14,11 +14,11 @@ from typing import Any
 import sagas
 
 PATIENCE = 60.0
-Words = dict[str, Any]
+Json = dict[str, Any]
 
 
 class Driver:
-    """The commands, and what they share."""
+    """The commands, and the state that they share."""
 
     def __init__(self) -> None:
         self.lock = threading.Lock()
@@ -28,21 +28,21 @@ class Driver:
         self.counts: Counter[tuple[str, str]] = Counter()
         self.released: defaultdict[tuple[str, str], threading.Event] = defaultdict(threading.Event)
 
-    def say(self, told: Words) -> None:
-        text = json.dumps(told)
+    def say(self, message: Json) -> None:
+        text = json.dumps(message)
         with self.lock:
             print(text, flush=True)
 
-    def carry_out(self, words: Words) -> None:
-        number, name = words.pop("id"), words.pop("do")
+    def carry_out(self, request: Json) -> None:
+        number, name = request.pop("id"), request.pop("do")
         try:
-            self.say({"id": number, "value": getattr(self, f"do_{name}")(**words)})
+            self.say({"id": number, "value": getattr(self, f"do_{name}")(**request)})
         except Exception as error:
-            self.say({"id": number, "error": told_of(error)})
+            self.say({"id": number, "error": error_fields(error)})
 
     # -- callers
 
-    def do_open(self, url: str | list[str], token: str | None) -> Words:
+    def do_open(self, url: str | list[str], token: str | None) -> Json:
         if self.client:
             self.client.close()
         self.client = sagas.ServiceClient(url, token, timeout=PATIENCE)
@@ -53,34 +53,34 @@ class Driver:
         assert self.client
         return self.client
 
-    def do_start(self, definition: str, key: str, **words: Any) -> Words:
-        run = self.calls.start(definition, key, **words)
+    def do_start(self, definition: str, key: str, **options: Any) -> Json:
+        run = self.calls.start(definition, key, **options)
         return {"key": run.key, "new": run.new}
 
-    def do_get(self, key: str) -> Words:
+    def do_get(self, key: str) -> Json:
         if (saga := self.calls.get(key)) is None:
             raise sagas.NoSuchSaga(key)
         return saga_of(saga)
 
-    def do_wait(self, key: str, timeout: float) -> Words:
+    def do_wait(self, key: str, timeout: float) -> Json:
         return saga_of(self.calls.wait(key, timeout))
 
-    def do_abort(self, key: str, **words: Any) -> Words:
-        return {"aborted": self.calls.abort(key, **words)}
+    def do_abort(self, key: str, **options: Any) -> Json:
+        return {"aborted": self.calls.abort(key, **options)}
 
-    def do_complete(self, key: str, step: str, **words: Any) -> Words:
-        self.calls.complete(key, step, **words)
+    def do_complete(self, key: str, step: str, **options: Any) -> Json:
+        self.calls.complete(key, step, **options)
         return {}
 
-    def do_fail(self, key: str, step: str, **words: Any) -> Words:
-        self.calls.fail(key, step, **words)
+    def do_fail(self, key: str, step: str, **options: Any) -> Json:
+        self.calls.fail(key, step, **options)
         return {}
 
-    def do_list(self, page: int, definition: str | None = None, **words: Any) -> Words:
-        found = self.calls.list(page_size=page, saga=definition, **words)
-        return {"keys": [one.key for one in found]}
+    def do_list(self, page: int, definition: str | None = None, **filters: Any) -> Json:
+        listed = self.calls.list(page_size=page, saga=definition, **filters)
+        return {"keys": [one.key for one in listed]}
 
-    def do_events(self, key: str | None = None, definition: str | None = None) -> Words:
+    def do_events(self, key: str | None = None, definition: str | None = None) -> Json:
         events = self.calls.events(key=key, saga=definition).open()
         thread = threading.Thread(target=self.follow, args=(events,), daemon=True)
         self.stream = events, thread
@@ -93,15 +93,17 @@ class Driver:
                 if event.name == "missed":
                     self.say({"note": "missed"})
                 else:
-                    told = dataclasses.asdict(event)
+                    fields = dataclasses.asdict(event)
                     self.say(
                         {
                             "note": "event",
-                            "event": {name: told[name] for name in told if told[name] is not None},
+                            "event": {
+                                name: fields[name] for name in fields if fields[name] is not None
+                            },
                         }
                     )
 
-    def do_events_stop(self) -> Words:
+    def do_events_stop(self) -> Json:
         assert self.stream
         events, thread = self.stream
         events.close()
@@ -120,7 +122,7 @@ class Driver:
         lease: float,
         wait: float,
         quiet: bool = False,
-    ) -> Words:
+    ) -> Json:
         one = sagas.Worker(url, token, concurrency=concurrency, lease=lease, wait=wait, name=worker)
         for step in steps:
             saga, _, name = step.partition("/")
@@ -139,10 +141,10 @@ class Driver:
         except Exception as error:
             faults.append(error)
         if self.workers.pop(name, None):
-            error = told_of(faults[0]) if faults else None
+            error = error_fields(faults[0]) if faults else None
             self.say({"note": "worker_ended", "worker": name, "error": error})
 
-    def do_stop(self, worker: str) -> Words:
+    def do_stop(self, worker: str) -> Json:
         one, thread, faults = self.workers.pop(worker)
         one.stop()
         thread.join()
@@ -150,7 +152,7 @@ class Driver:
             raise faults[0]
         return {}
 
-    def do_release(self, key: str, step: str) -> Words:
+    def do_release(self, key: str, step: str) -> Json:
         self.released[key, step].set()
         return {}
 
@@ -178,19 +180,19 @@ class Driver:
             given = task.input
             if not isinstance(given, dict) or "script" not in given:
                 return given
-            place = f"{task.step}/undo" if task.is_compensation else task.step
-            words = given["script"].get(place, ["ok"])
+            action = f"{task.step}/undo" if task.is_compensation else task.step
+            outcomes = given["script"].get(action, ["ok"])
             with self.lock:
-                count = self.counts[task.key, place]
-                self.counts[task.key, place] += 1
-            return self.act(worker, words[min(count, len(words) - 1)], task, place)
+                count = self.counts[task.key, action]
+                self.counts[task.key, action] += 1
+            return self.act(worker, outcomes[min(count, len(outcomes) - 1)], task, action)
 
         return played
 
-    def act(self, worker: str, word: str, task: sagas.Task[Any], place: str) -> Any:
+    def act(self, worker: str, word: str, task: sagas.Task[Any], action: str) -> Any:
         match word:
             case "ok":
-                return {"done": place}
+                return {"done": action}
             case "echo":
                 return task.input["value"]
             case "nothing":
@@ -211,7 +213,7 @@ class Driver:
                 socket.create_connection(("127.0.0.1", 9))
             case "hold" | "deaf" | "doubt":
                 self.hold(worker, task, word)
-                return {"done": place}
+                return {"done": action}
             case "big" | "huge":
                 return {"text": "x" * (1_000_000 if word == "big" else 3_000_000)}
         raise AssertionError(word)
@@ -237,19 +239,19 @@ class Driver:
 NAMES = "key", "phase", "over", "aborted", "input", "states", "results", "errors"
 
 
-def saga_of(saga: sagas.ServiceSaga) -> Words:
+def saga_of(saga: sagas.ServiceSaga) -> Json:
     return {"definition": saga.saga, **{name: getattr(saga, name) for name in NAMES}}
 
 
-def item_of(task: sagas.Task[Any]) -> Words:
-    """The item of a task, as the service has it: the name of the step ends with its number."""
+def item_of(task: sagas.Task[Any]) -> Json:
+    """Return the item of a task as the service has it: the end of its step's name."""
     if not task.has_item:
         return {"index": None, "item_key": None, "item": None}
     key = task.index if isinstance(task.index, str) else None
     return {"index": int(task.step.rpartition("-")[2]), "item_key": key, "item": task.item}
 
 
-def told_of(error: Exception) -> Words:
+def error_fields(error: Exception) -> Json:
     if isinstance(error, sagas.ServiceRefused):
         return {"name": error.name, "status": error.status, "text": str(error)}
     kinds = {
@@ -264,14 +266,14 @@ def told_of(error: Exception) -> Words:
 
 
 def main() -> None:
-    """Carries out commands until the end of its input."""
+    """Execute commands until the end of the input."""
     driver = Driver()
     for line in sys.stdin:
-        words = json.loads(line)
-        if words["do"] == "end":
-            driver.say({"id": words["id"], "value": {}})
+        request = json.loads(line)
+        if request["do"] == "end":
+            driver.say({"id": request["id"], "value": {}})
             break
-        threading.Thread(target=driver.carry_out, args=(words,), daemon=True).start()
+        threading.Thread(target=driver.carry_out, args=(request,), daemon=True).start()
 
 
 if __name__ == "__main__":

@@ -19,11 +19,11 @@ from typing import Any
 
 TOP = pathlib.Path(__file__).resolve().parents[2]
 LONG = 60.0
-Words = dict[str, Any]
+Json = dict[str, Any]
 
 
 class Refused(Exception):
-    """An error that a driver answered."""
+    """An error that a driver returned."""
 
     def __init__(self, name: str, status: int, text: str) -> None:
         super().__init__(f"{name} ({status}): {text}")
@@ -31,27 +31,27 @@ class Refused(Exception):
 
 
 def command_of(language: str, room: pathlib.Path) -> list[str]:
-    """What starts a language's driver; Go's is built first."""
+    """Return the command that starts a language's driver; Go's is built first."""
     if language == "python":
         return [sys.executable, str(TOP / "clients/contract/driver.py")]
     if language == "node":
         return ["node", str(TOP / "clients/node/contract/driver.mjs")]
     program = room / "driver"
     cache = {"GOCACHE": os.environ.get("GOCACHE", str(room / "cache")), "GOFLAGS": "-mod=mod"}
-    words = ["go", "build", "-o", str(program), "./internal/contractdriver"]
-    subprocess.run(words, cwd=TOP / "clients/go", env=os.environ | cache, check=True, timeout=240)
+    build = ["go", "build", "-o", str(program), "./internal/contractdriver"]
+    subprocess.run(build, cwd=TOP / "clients/go", env=os.environ | cache, check=True, timeout=240)
     return [str(program)]
 
 
 def languages() -> list[str]:
-    """Those that are asked for and there."""
+    """Return the languages that are requested and installed."""
     wanted = os.environ.get("SAGAS_CLIENTS", "python,node,go").split(",")
     return [one for one in wanted if one != "go" or (TOP / "clients/go/go.mod").exists()]
 
 
 @contextlib.contextmanager
 def commands() -> Iterator[Callable[[str], list[str]]]:
-    """The commands of all languages; each is made once."""
+    """Return the commands of all languages; each is made once."""
     room = pathlib.Path(tempfile.mkdtemp(prefix="sagas-drivers-"))
     made: dict[str, list[str]] = {}
     try:
@@ -67,7 +67,7 @@ def _made(made: dict[str, list[str]], language: str, room: pathlib.Path) -> list
 
 
 class Driver:
-    """A driver that runs."""
+    """A running driver."""
 
     def __init__(self, command: list[str]) -> None:
         path = f"{TOP / 'python/src'}{os.pathsep}{os.environ.get('PYTHONPATH', '')}"
@@ -79,76 +79,81 @@ class Driver:
             stderr=self.errors,
             env=os.environ | {"PYTHONPATH": path},
         )
-        self.notes: list[Words] = []
+        self.notes: list[Json] = []
         self._numbers = itertools.count(1)
         self._answers: dict[int, Future[Any]] = {}
-        self._news = threading.Condition()
+        self._changed = threading.Condition()
         self._reader = threading.Thread(target=self._read, daemon=True)
         self._reader.start()
 
     def _read(self) -> None:
         assert self.process.stdout
         for line in self.process.stdout:
-            told = json.loads(line)
-            with self._news:
-                if "note" in told:
-                    self.notes.append(told)
-                    self._news.notify_all()
+            message = json.loads(line)
+            with self._changed:
+                if "note" in message:
+                    self.notes.append(message)
+                    self._changed.notify_all()
                     continue
-                answer = self._answers.pop(told["id"])
-            if "error" in told:
-                error = told["error"]
+                answer = self._answers.pop(message["id"])
+            if "error" in message:
+                error = message["error"]
                 answer.set_exception(Refused(error["name"], error["status"], error["text"]))
             else:
-                answer.set_result(told["value"])
-        with self._news:
+                answer.set_result(message["value"])
+        with self._changed:
             for answer in self._answers.values():
                 answer.set_exception(EOFError("the driver has ended"))
-            self._news.notify_all()
+            self._changed.notify_all()
 
-    def send(self, word: str, **words: Any) -> Future[Any]:
-        """Sends a command; its answer comes later."""
+    def send(self, word: str, **arguments: Any) -> Future[Any]:
+        """Send a command; its reply comes later."""
         answer: Future[Any] = Future()
         number = next(self._numbers)
-        with self._news:
+        with self._changed:
             self._answers[number] = answer
         assert self.process.stdin
-        text = json.dumps({"id": number, "do": word, **words}, ensure_ascii=False)
+        text = json.dumps({"id": number, "do": word, **arguments}, ensure_ascii=False)
         self.process.stdin.write(text.encode() + b"\n")
         self.process.stdin.flush()
         return answer
 
-    def ask(self, word: str, **words: Any) -> Any:
-        """Sends a command, and waits for its answer."""
-        return self.send(word, **words).result(LONG)
+    def ask(self, word: str, **arguments: Any) -> Any:
+        """Send a command and wait for its reply."""
+        return self.send(word, **arguments).result(LONG)
 
-    def refused(self, word: str, **words: Any) -> str:
-        """The name of the error of a command."""
-        error = self.send(word, **words).exception(LONG)
-        assert isinstance(error, Refused), (word, words, error)
+    def refused(self, word: str, **arguments: Any) -> str:
+        """Return the name of the error of a command."""
+        error = self.send(word, **arguments).exception(LONG)
+        assert isinstance(error, Refused), (word, arguments, error)
         return error.name
 
-    def heard(self, note: str, count: int = 1, **words: Any) -> list[Words]:
-        """Waits until so many notes are there that say this."""
-        found: list[Words] = []
+    def heard(self, note: str, count: int = 1, **fields: Any) -> list[Json]:
+        """Wait until `count` notes with this content have arrived."""
+        matches: list[Json] = []
 
         def enough() -> bool:
-            told = {"note": note, **words}
-            found[:] = [one for one in self.notes if told.items() <= one.items()]
-            return len(found) >= count
+            wanted = {"note": note, **fields}
+            matches[:] = [one for one in self.notes if wanted.items() <= one.items()]
+            return len(matches) >= count
 
-        with self._news:
-            assert self._news.wait_for(enough, LONG), (note, words, self.notes[-20:], self.told())
-        return found
+        with self._changed:
+            assert self._changed.wait_for(enough, LONG), (
+                note,
+                fields,
+                self.notes[-20:],
+                self.error_output(),
+            )
+        return matches
 
-    def calls(self, key: str, name: str) -> list[Words]:
-        """The calls of a step of a saga up to now."""
-        with self._news:
-            told = {"note": "called", "key": key, "name": name}
-            return [one for one in self.notes if told.items() <= one.items()]
+    def calls(self, key: str, name: str) -> list[Json]:
+        """Return the calls of a step of a saga up to now."""
+        with self._changed:
+            wanted = {"note": "called", "key": key, "name": name}
+            return [one for one in self.notes if wanted.items() <= one.items()]
 
-    def told(self) -> str:
-        """What it wrote to its standard error."""
+    def error_output(self) -> str:
+        """Return what the driver wrote to its standard error."""
         self.errors.seek(0)
         return self.errors.read().decode(errors="replace")
 
@@ -158,7 +163,7 @@ class Driver:
         self._close()
 
     def end(self) -> None:
-        """Asks it to end, and sees that it does."""
+        """Ask the driver to end, and check that it does."""
         if self.process.poll() is None:
             self.ask("end")
             assert self.process.wait(LONG) == 0
@@ -173,7 +178,7 @@ class Driver:
 
     @contextlib.contextmanager
     def paused(self) -> Iterator[None]:
-        """It stands still meanwhile."""
+        """Stop the driver's process for the block."""
         self.process.send_signal(signal.SIGSTOP)
         try:
             yield

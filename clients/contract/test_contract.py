@@ -1,4 +1,4 @@
-"""What each client and worker does at a real service, over both databases. See README.md."""
+"""The behavior of each client and worker at a real service, over both databases. See README.md."""
 
 from __future__ import annotations
 
@@ -61,21 +61,23 @@ ITEMS = [
 ]
 STEPS = ["pair/a", "pair/a/undo", "pair/b"]
 SOLO = [step.replace("pair", "solo") for step in STEPS]
-"""The same definition twice: all cases share a worker of `pair`, and have workers of their own for `solo`."""
+"""The same definition twice: all cases share a worker of `pair`, and have their own workers for
+`solo`.
+"""
 TOKENS = {
     "contract": ("operator", None),
     "weak": ("worker", ["pair/a"]),
     "caller": ("caller", None),
 }
 COUNT = itertools.count()
-Words = dict[str, Any]
+Json = dict[str, Any]
 Make = Callable[[], Driver]
 Made = Callable[[str], list[str]]
 
 
 @pytest.fixture(scope="module")
 def tokens() -> dict[str, str]:
-    """Those of the service, which has them from its start on."""
+    """Return the tokens of the service, which has them from its start on."""
     return {}
 
 
@@ -104,8 +106,8 @@ def service(
             server = stack.enter_context(serving())
             url = server.create()
         (folder / "shop.py").write_text(SHOP)
-        words = ("--token-file", str(folder / "tokens.toml"), "--app", "shop:store")
-        one = Served(folder, DEFINITIONS, *words, store=url)
+        options = ("--token-file", str(folder / "tokens.toml"), "--app", "shop:store")
+        one = Served(folder, DEFINITIONS, *options, store=url)
         one.start()
         stack.callback(one.kill)
         yield one
@@ -118,13 +120,13 @@ def operator(service: Served, tokens: dict[str, str]) -> str:
 
 @pytest.fixture(scope="module", params=languages())
 def language(request: pytest.FixtureRequest) -> str:
-    found: str = request.param
-    return found
+    chosen: str = request.param
+    return chosen
 
 
 @pytest.fixture(scope="module")
 def driver(service: Served, operator: str, language: str, command: Made) -> Iterator[Driver]:
-    """A driver with a worker, for many cases."""
+    """Run a driver with a worker, for many cases."""
     with contextlib.ExitStack() as stack:
         one = driven(stack, service, operator, language, command)
         work(one, service.url, operator, "main")
@@ -134,7 +136,7 @@ def driver(service: Served, operator: str, language: str, command: Made) -> Iter
 
 @pytest.fixture
 def make(service: Served, operator: str, language: str, command: Made) -> Iterator[Make]:
-    """Makes drivers that are killed behind their case."""
+    """Return a function that starts drivers; they are killed after their case."""
     with contextlib.ExitStack() as stack:
         yield lambda: driven(stack, service, operator, language, command)
 
@@ -148,30 +150,32 @@ def driven(
     return one
 
 
-def work(driver: Driver, url: str | list[str], token: str | None, name: str, **words: Any) -> None:
-    words = {"steps": STEPS, "concurrency": 4, "lease": 30, "wait": 5, **words}
-    assert driver.ask("worker", worker=name, url=url, token=token, **words) == {}
+def work(
+    driver: Driver, url: str | list[str], token: str | None, name: str, **options: Any
+) -> None:
+    options = {"steps": STEPS, "concurrency": 4, "lease": 30, "wait": 5, **options}
+    assert driver.ask("worker", worker=name, url=url, token=token, **options) == {}
 
 
 def fresh(word: str = "k") -> str:
     return f"{word}-{next(COUNT)}"
 
 
-def script(*words: str, **more: list[str]) -> Words:
-    """An input: what `a` does, and the others."""
+def script(*outcomes: str, **more: list[str]) -> Json:
+    """Return an input: the behavior of `a`, and that of the other steps."""
     return {
         "script": {
-            "a": list(words),
+            "a": list(outcomes),
             **{name.replace("_", "/"): done for name, done in more.items()},
         }
     }
 
 
-def played(driver: Driver, given: Any, key: str | None = None) -> Words:
-    """A saga of `pair` from its start to its end."""
+def played(driver: Driver, given: Any, key: str | None = None) -> Json:
+    """Run a saga of `pair` from its start to its end."""
     key = key or fresh()
     assert driver.ask("start", definition="pair", key=key, input=given) == {"key": key, "new": True}
-    end: Words = driver.ask("wait", key=key, timeout=LONG)
+    end: Json = driver.ask("wait", key=key, timeout=LONG)
     assert end["over"] and end["key"] == key and end["input"] == given
     return end
 
@@ -180,9 +184,11 @@ DONE = {"a": {"done": "a"}, "b": {"done": "b"}}
 
 
 def test_outcomes(driver: Driver, language: str) -> None:
-    """Returned, failed, tried again and unknown: how often each function is called, with which key, and how the saga ends."""
+    """Check returned, failed, retried and unknown attempts: the calls of each function, their keys,
+    and the end of the saga.
+    """
     unknowns = ["unknown", "timeout", "refused", *(["throw"] if language != "python" else [])]
-    cases: dict[str, tuple[Words, str, int, int, int]] = {
+    cases: dict[str, tuple[Json, str, int, int, int]] = {
         "ok": (script("ok"), "completed", 1, 1, 0),
         "nothing": (script("nothing", b=["nothing"]), "completed", 1, 1, 0),
         "fail": (script("fail"), "recovered", 1, 0, 0),
@@ -203,14 +209,14 @@ def test_outcomes(driver: Driver, language: str) -> None:
         driver.ask("start", definition="pair", key=keys[name], input=given)
     for name, (_, phase, of_a, of_b, of_undo) in cases.items():
         key, end = keys[name], driver.ask("wait", key=keys[name], timeout=LONG)
-        found = [driver.calls(key, step) for step in ("pair/a", "pair/b", "pair/a/undo")]
-        assert (end["phase"], *map(len, found)) == (phase, of_a, of_b, of_undo), (name, end)
-        for calls in found:
+        called = [driver.calls(key, step) for step in ("pair/a", "pair/b", "pair/a/undo")]
+        assert (end["phase"], *map(len, called)) == (phase, of_a, of_b, of_undo), (name, end)
+        for calls in called:
             assert len({one["idempotency_key"] for one in calls}) == min(1, len(calls)), name
         if of_b:
-            assert found[1][0]["results"] == {"a": None if name == "nothing" else {"done": "a"}}
+            assert called[1][0]["results"] == {"a": None if name == "nothing" else {"done": "a"}}
         if of_undo:
-            assert all(one["undo"] and one["result"] == {"done": "a"} for one in found[2])
+            assert all(one["undo"] and one["result"] == {"done": "a"} for one in called[2])
             assert end["states"] == {"a": "undone", "b": "failed"} and end["results"] == {}
         if name == "fail":
             assert end["states"]["a"] == "failed" and "no" in end["errors"]["a"]
@@ -250,11 +256,13 @@ ODD = [
 
 
 def test_items(driver: Driver, service: Served, operator: str) -> None:
-    """A task has its declared step, and its item with number and key; also its compensation, and one of an included saga, which has what it is given."""
+    """A task has its declared step, and its item with number and key; so have its compensation, and
+    a task of an included saga, which has its own input.
+    """
     work(driver, service.url, operator, "items", steps=ITEMS)
     listed, keyed, fair = fresh("items"), fresh("items"), fresh("items")
-    said = {"script": {"ship-0": ["ok"], "mail": ["fail"]}, "parcels": [{"to": "Rome"}, 7]}
-    assert driver.ask("start", definition="order", key=listed, input=said)["new"]
+    order = {"script": {"ship-0": ["ok"], "mail": ["fail"]}, "parcels": [{"to": "Rome"}, 7]}
+    assert driver.ask("start", definition="order", key=listed, input=order)["new"]
     assert driver.ask("wait", key=listed, timeout=LONG)["phase"] == "recovered"
     calls = {one["step"]: one for one in driver.calls(listed, "order/ship")}
     assert {(one["declared_step"], one["index"], one["item_key"]) for one in calls.values()} == {
@@ -274,13 +282,13 @@ def test_items(driver: Driver, service: Served, operator: str) -> None:
         None,
         None,
     )
-    said = {"script": {"ship-1": ["fail"]}, "parcels": {"a b": 1, "c/ü": [2]}}
-    assert driver.ask("start", definition="order", key=keyed, input=said)["new"]
+    order = {"script": {"ship-1": ["fail"]}, "parcels": {"a b": 1, "c/ü": [2]}}
+    assert driver.ask("start", definition="order", key=keyed, input=order)["new"]
     assert driver.ask("wait", key=keyed, timeout=LONG)["phase"] == "recovered"
-    found = {
+    items = {
         (one["index"], one["item_key"]): one["item"] for one in driver.calls(keyed, "order/ship")
     }
-    assert found == {(0, "a b"): 1, (1, "c/ü"): [2]}
+    assert items == {(0, "a b"): 1, (1, "c/ü"): [2]}
     assert driver.ask("start", definition="fair", key=fair, input={"script": {}, "parcels": ["x"]})[
         "new"
     ]
@@ -292,7 +300,7 @@ def test_items(driver: Driver, service: Served, operator: str) -> None:
 
 
 def test_inputs(driver: Driver) -> None:
-    """What goes in comes out: as input, as result, and in what the next step needs."""
+    """A value is the same as input, as result, and in the results that the next step needs."""
     keys = [fresh("odd/ü %\U0001f600") for _ in ODD]
     for key, value in zip(keys, ODD):
         given = {"script": {"a": ["echo"], "b": ["echo"]}, "value": value}
@@ -309,32 +317,38 @@ def test_inputs(driver: Driver) -> None:
 
 
 def test_trace_contexts(driver: Driver) -> None:
-    """That of a start is handed to each function, also of a compensation; one that is not valid is
-    refused before anything is sent.
+    """Each function gets the trace context of the start, also a compensation.
+
+    The client refuses an invalid one before it sends anything.
     """
     trace = "00-0af7651916cd43dd8448eb211c80319c-b7ad6b7169203331-01"
     given = script("ok", b=["fail"])
-    for told in (trace, None):
-        key, more = fresh("trace"), {} if told is None else {"traceparent": told}
+    for header in (trace, None):
+        key, more = fresh("trace"), {} if header is None else {"traceparent": header}
         driver.ask("start", definition="pair", key=key, input=given, **more)
         assert driver.ask("wait", key=key, timeout=LONG)["phase"] == "recovered"
         calls = [one for step in STEPS for one in driver.calls(key, step)]
-        assert [one["traceparent"] for one in calls] == [told] * 3
+        assert [one["traceparent"] for one in calls] == [header] * 3
     for wrong in ("00-1", trace.replace("0af7", "0AF7"), f"ff{trace[2:]}", f"{trace}\r\nx: y"):
-        words = {"definition": "pair", "key": fresh("trace"), "input": given, "traceparent": wrong}
-        assert driver.refused("start", **words) == "InvalidArgument"
-        assert driver.refused("get", key=words["key"]) == "NoSuchSaga"
+        arguments = {
+            "definition": "pair",
+            "key": fresh("trace"),
+            "input": given,
+            "traceparent": wrong,
+        }
+        assert driver.refused("start", **arguments) == "InvalidArgument"
+        assert driver.refused("get", key=arguments["key"]) == "NoSuchSaga"
 
 
 def test_big_results(driver: Driver, language: str) -> None:
-    """One of a megabyte is stored; a step whose result is refused is done all the same."""
+    """A result of a megabyte is stored; a step whose result is refused is done all the same."""
     end = played(driver, script("big", b=["huge"]))
     assert end["results"]["a"] == {"text": "x" * 1_000_000}
     assert end["phase"] == "completed" and list(end["results"]["b"]) == ["unstorable"]
 
 
 def test_callers(driver: Driver, service: Served) -> None:
-    """Each call, and the errors by their names."""
+    """Check each call of a caller, and the errors by their names."""
     ask, refused = driver.ask, driver.refused
     key, labels = fresh("call"), {"customer": fresh("c"), "ü": "ß=1"}
     start = {"definition": "asked", "key": key, "input": {"n": 1}, "labels": labels}
@@ -392,7 +406,7 @@ def test_callers(driver: Driver, service: Served) -> None:
 
 
 def test_rights(make: Make, service: Served, tokens: dict[str, str]) -> None:
-    """A token that is wrong, or too weak: callers get the error, and a worker ends with it."""
+    """If a token is wrong or too weak, callers get the error, and a worker ends with it."""
     driver, url = make(), service.url
     weak, caller = tokens["weak"], tokens["caller"]
     for wrong in ("sagas_wrong", None):
@@ -434,7 +448,10 @@ def test_rights(make: Make, service: Served, tokens: dict[str, str]) -> None:
 
 
 def test_events(make: Make, service: Served) -> None:
-    """They come in order, of the saga that is asked for; behind a restart comes that some are missed, and the stream goes on."""
+    """Events come in order, of the requested saga.
+
+    After a restart the stream reports that some are missed, and continues.
+    """
     driver, key = make(), fresh("event")
     driver.ask("events", key=key)
     driver.ask("start", definition="asked", key=fresh(), input=None)
@@ -456,7 +473,10 @@ def test_events(make: Make, service: Served) -> None:
 
 
 def test_restart_of_the_service(make: Make, service: Served, operator: str) -> None:
-    """It is killed while functions run and callers wait, and is away for their reports: all are repeated, and each function ran once."""
+    """The service is killed while functions run and callers wait, and is down for their reports.
+
+    All of them are repeated, and each function ran once.
+    """
     driver = make()
     work(driver, [service.url], operator, "w", steps=SOLO)
     keys = [fresh("restart") for _ in range(4)]
@@ -480,7 +500,9 @@ def test_restart_of_the_service(make: Make, service: Served, operator: str) -> N
 
 
 def test_lost_answers(make: Make, service: Served, operator: str) -> None:
-    """The answer of a start, of a claim and of each kind of report is lost: it is repeated, and counts once."""
+    """The reply to a start, to a claim and to each kind of report is lost: the request is repeated,
+    and counts once.
+    """
     host, _, port = service.address.rpartition(":")
     with relaying(int(port), host=host) as relay:
         driver, url = make(), f"http://127.0.0.1:{relay.port}"
@@ -505,8 +527,10 @@ def test_lost_answers(make: Make, service: Served, operator: str) -> None:
             driver.ask("stop", worker=key)
 
 
-def test_a_service_that_stands_still(make: Make, service: Served, operator: str) -> None:
-    """It costs no lease: the next service hears of a heartbeat, and of an outcome, while the lease lasts."""
+def test_a_stopped_service(make: Make, service: Served, operator: str) -> None:
+    """A stopped service costs no lease: the next service gets a heartbeat and an outcome while the
+    lease lasts.
+    """
     host, _, port = service.address.rpartition(":")
     driver, runs, ends = make(), fresh("still"), fresh("still")
     with contextlib.ExitStack() as stack:
@@ -518,9 +542,9 @@ def test_a_service_that_stands_still(make: Make, service: Served, operator: str)
             driver.heard("called", key=key, worker=key)
             relay.still = word
         client = stack.enter_context(service.client(operator))
-        beats = service.told().count("/heartbeat 200")
+        beats = service.log_text().count("/heartbeat 200")
         driver.ask("release", key=ends, step="a")
-        while service.told().count("/heartbeat 200") == beats:
+        while service.log_text().count("/heartbeat 200") == beats:
             assert take(client, "solo/a", wait=0.2) == []  # the task of a lease that has ended
         driver.ask("release", key=runs, step="a")
         for key in (runs, ends):
@@ -529,7 +553,10 @@ def test_a_service_that_stands_still(make: Make, service: Served, operator: str)
 
 
 def test_lost_lease(make: Make, service: Served, operator: str) -> None:
-    """A worker stands still past its lease. Another has the task: the function hears of it, and its report counts for nothing."""
+    """A worker is stopped past its lease, and another one has the task.
+
+    The function is notified, and its report counts for nothing.
+    """
     driver = make()
     work(driver, service.url, operator, "w", steps=["solo/a"], lease=1, concurrency=2)
     key, done = fresh("lease"), fresh("lease")
@@ -543,9 +570,8 @@ def test_lost_lease(make: Make, service: Served, operator: str) -> None:
             while len(tasks) < 2:
                 tasks |= {one["key"]: one for one in take(client, "solo/a", lease=LONG, most=2)}
         driver.heard("canceled", key=key, why="lease")
-        driver.ask(
-            "release", key=done, step="a"
-        )  # `complete` counts under any lease that was issued
+        # `complete` counts under any lease that was issued
+        driver.ask("release", key=done, step="a")
         theirs = driver.calls(done, "solo/a")[0]
         assert tasks[done]["idempotency_key"] == theirs["idempotency_key"]
         assert report(client, tasks[key], result={"done": "a"}).status_code == 200
@@ -562,7 +588,9 @@ def test_lost_lease(make: Make, service: Served, operator: str) -> None:
 
 
 def test_abort_while_a_function_runs(make: Make, service: Served, operator: str) -> None:
-    """It is told by a heartbeat that the saga is to be undone, and says that it had no effect; one that does not listen is undone."""
+    """A heartbeat reports that the saga is to be undone, and the function reports that it had no
+    effect. A function that does not listen is undone.
+    """
     driver = make()
     work(driver, service.url, operator, "w", steps=SOLO, lease=4)
     listens, deaf = fresh("abort"), fresh("abort")
@@ -586,7 +614,9 @@ def test_abort_while_a_function_runs(make: Make, service: Served, operator: str)
 
 
 def test_an_abort_cancels_once(make: Make, service: Served, operator: str) -> None:
-    """A function that does not know then is called again, and is left to find out: its heartbeats cancel it no more."""
+    """A function whose outcome is unknown then is called again, to find out: its heartbeats do not
+    cancel it again.
+    """
     driver, key = make(), fresh("doubt")
     work(driver, service.url, operator, "w", steps=SOLO, lease=4)
     driver.ask("start", definition="solo", key=key, input=script("doubt"))
@@ -594,8 +624,8 @@ def test_an_abort_cancels_once(make: Make, service: Served, operator: str) -> No
     driver.ask("abort", key=key)
     driver.heard("canceled", key=key, why="abort")
     driver.heard("called", 2, key=key)
-    beats, until = service.told().count("/heartbeat 200"), time.monotonic() + LONG
-    while service.told().count("/heartbeat 200") < beats + 3 and time.monotonic() < until:
+    beats, until = service.log_text().count("/heartbeat 200"), time.monotonic() + LONG
+    while service.log_text().count("/heartbeat 200") < beats + 3 and time.monotonic() < until:
         time.sleep(0.1)
     driver.ask("release", key=key, step="a")
     assert driver.ask("wait", key=key, timeout=LONG)["states"]["a"] == "undone"
@@ -604,7 +634,9 @@ def test_an_abort_cancels_once(make: Make, service: Served, operator: str) -> No
 
 
 def test_killed_worker(make: Make, service: Served, operator: str) -> None:
-    """It is killed with -9: when its leases have ended, another does the tasks with the same idempotency keys."""
+    """A worker is killed with SIGKILL: when its leases have ended, another one does the tasks with
+    the same idempotency keys.
+    """
     first, second = make(), make()
     work(first, service.url, operator, "first", steps=SOLO, lease=1)
     keys = [fresh("kill") for _ in range(3)]
@@ -623,7 +655,9 @@ def test_killed_worker(make: Make, service: Served, operator: str) -> None:
 
 
 def test_a_claim_that_is_answered_at_a_stop(make: Make, service: Served, operator: str) -> None:
-    """The answer is on its way while the worker is stopped: its task is given back, however long its lease is."""
+    """The reply is in transit while the worker is stopped: its task is released, however long its
+    lease is.
+    """
     host, _, port = service.address.rpartition(":")
     with relaying(int(port), host=host) as relay, service.client(operator) as client:
         driver, key = make(), fresh("claim")
@@ -632,7 +666,8 @@ def test_a_claim_that_is_answered_at_a_stop(make: Make, service: Served, operato
         driver.ask("start", definition="solo", key=key, input=script("ok"))
         assert relay.stands.wait(LONG)
         stopped = driver.send("stop", worker="w")
-        assert driver.ask("get", key=key)["phase"] == "open"  # what was sent before is under way
+        # the requests sent before are in transit
+        assert driver.ask("get", key=key)["phase"] == "open"
         relay.go_on()
         assert stopped.result(LONG) == {}
         for step in ("a", "b"):
@@ -648,14 +683,15 @@ def test_a_claim_that_is_answered_at_a_stop(make: Make, service: Served, operato
 
 
 def test_an_idle_stop_is_quick(make: Make, service: Served, operator: str) -> None:
-    """The claim that waits at the service ends with its worker, and what comes then is another's."""
+    """The claim that waits at the service ends with its worker, and later tasks go to other
+    workers.
+    """
     driver, key, claim = make(), fresh("idle"), "/v1/tasks/claim 200"
-    before = service.told().count(claim)
+    before = service.log_text().count(claim)
     work(driver, service.url, operator, "idle", steps=["solo/a"], wait=30)
     until = time.monotonic() + LONG
-    while (
-        service.told().count(claim) == before and time.monotonic() < until
-    ):  # the first one, which does not wait
+    # the first one, which does not wait
+    while service.log_text().count(claim) == before and time.monotonic() < until:
         time.sleep(0.1)
     assert driver.send("stop", worker="idle").result(20) == {}
     driver.ask("start", definition="solo", key=key, input=script("ok"))
@@ -670,22 +706,25 @@ def test_an_idle_stop_is_quick(make: Make, service: Served, operator: str) -> No
 
 
 def test_long_functions_and_a_stop(make: Make, service: Served, operator: str) -> None:
-    """A lease is kept while a function runs. A worker that is asked to end reports it, and gives back what has not begun."""
+    """A lease is kept while a function runs.
+
+    A worker that is asked to end reports it, and releases tasks that have not started.
+    """
     driver = make()
     work(driver, service.url, operator, "w", steps=["solo/a"], concurrency=1, lease=3)
     keys = [fresh("stop") for _ in range(3)]
     driver.ask("start", definition="solo", key=keys[0], input=script("hold"))
     driver.heard("called", key=keys[0])
     with service.client(operator) as client:
-        assert take(client, "solo/a", wait=6.6) == []  # over two leases long
+        assert take(client, "solo/a", wait=6.6) == []  # longer than two leases
         for key in keys[1:]:
             driver.ask("start", definition="solo", key=key, input=script("ok"))
         stopped = driver.send("stop", worker="w")
-        found: set[str] = set()
-        while found != set(keys[1:]):
+        released: set[str] = set()
+        while released != set(keys[1:]):
             for task in take(client, "solo/a", most=2):
                 assert report(client, task, result={"done": "a"}).status_code == 200
-                found.add(task["key"])
+                released.add(task["key"])
         assert not stopped.done()
         driver.ask("release", key=keys[0], step="a")
         assert stopped.result(LONG) == {}

@@ -1,4 +1,7 @@
-"""Redis and RabbitMQ for tests: each in a folder and on ports of its own, killed with its children at the end."""
+"""Redis and RabbitMQ for tests.
+
+Each has its own folder and ports, and is killed with its children at the end.
+"""
 
 from __future__ import annotations
 
@@ -14,24 +17,24 @@ import threading
 from collections.abc import Iterator, Sequence
 
 PATIENCE = 90.0
-"""Seconds that a program has to say a word."""
+"""Seconds that a program has until it prints a line that a test waits for."""
 
 
 def free_port() -> int:
-    """A port that nobody has at this moment."""
+    """Return a port that no process uses at this moment."""
     with socket.socket() as one:
         one.bind(("127.0.0.1", 0))
         return int(one.getsockname()[1])
 
 
 class Program:
-    """A running program and what it said, in a session of its own."""
+    """A running program and its output, in its own session."""
 
     def __init__(
-        self, words: Sequence[str], folder: pathlib.Path, environment: dict[str, str], log: str
+        self, command: Sequence[str], folder: pathlib.Path, environment: dict[str, str], log: str
     ) -> None:
         self.process = subprocess.Popen(
-            words,
+            command,
             cwd=folder,
             env=environment,
             stdin=subprocess.DEVNULL,
@@ -40,7 +43,7 @@ class Program:
             start_new_session=True,
         )
         self.log = folder / log
-        self._said: list[str] = []
+        self._lines: list[str] = []
         self._change = threading.Condition()
         self._over = False
         self._thread = threading.Thread(target=self._read, daemon=True)
@@ -53,28 +56,33 @@ class Program:
                 log.write(line)
                 log.flush()
                 with self._change:
-                    self._said.append(line.decode(errors="replace"))
+                    self._lines.append(line.decode(errors="replace"))
                     self._change.notify_all()
         with self._change:
             self._over = True
             self._change.notify_all()
 
     def wait_for(self, pattern: str, count: int = 1, seconds: float = PATIENCE) -> None:
-        """Waits until it has said it so often; raises where it ends before, or takes too long."""
-        found = re.compile(pattern)
+        """Wait until the output has `count` matches.
+
+        Raises if the program ends before, or takes too long.
+        """
+        expression = re.compile(pattern)
 
         def is_there() -> bool:
-            return self._over or sum(bool(found.search(line)) for line in self._said) >= count
+            return self._over or sum(bool(expression.search(line)) for line in self._lines) >= count
 
         with self._change:
             in_time = self._change.wait_for(is_there, seconds)
-        if not in_time or sum(bool(found.search(line)) for line in self._said) < count:
-            raise TimeoutError(f"{self.log}: {pattern!r} is not there: {''.join(self._said[-20:])}")
+        if not in_time or sum(bool(expression.search(line)) for line in self._lines) < count:
+            raise TimeoutError(
+                f"{self.log}: {pattern!r} is not there: {''.join(self._lines[-20:])}"
+            )
 
-    def has_said(self, pattern: str) -> bool:
-        """Whether it has said that."""
+    def has_printed(self, pattern: str) -> bool:
+        """Return whether the output has a match."""
         with self._change:
-            return any(re.search(pattern, line) for line in self._said)
+            return any(re.search(pattern, line) for line in self._lines)
 
     @property
     def pid(self) -> int:
@@ -85,7 +93,7 @@ class Program:
         return self.process.poll() is None
 
     def kill(self) -> None:
-        """Ends it and all that it started, at once."""
+        """Kill the program and all processes that it started."""
         with contextlib.suppress(ProcessLookupError):
             os.killpg(self.process.pid, signal.SIGKILL)
         self.process.wait(PATIENCE)
@@ -105,33 +113,33 @@ class Broker:
         self.program: Program | None = None
 
     def start(self) -> None:
-        """Starts it, and waits until it takes connections."""
+        """Start the broker, and wait until it accepts connections."""
         raise NotImplementedError
 
     def stop(self) -> None:
-        """Kills it with -9."""
+        """Kill the broker with SIGKILL."""
         if self.program:
             self.program.kill()
             self.program = None
 
     def forget(self) -> None:
-        """Its messages are lost. It must not run."""
+        """Delete its messages. The broker must not run."""
         raise NotImplementedError
 
     def close(self) -> None:
-        """Ends all that it started."""
+        """End all processes that it started."""
         self.stop()
 
 
 class Redis(Broker):
-    """Redis at a socket; what it was told is synced, unless it keeps nothing."""
+    """Redis at a socket. Each command is synced, unless the broker keeps nothing."""
 
     def __init__(self, folder: pathlib.Path, synced: bool = True) -> None:
         super().__init__(folder, synced)
         self.url = f"redis+socket://{folder / 'socket'}"
 
     def start(self) -> None:
-        words = [
+        command = [
             "redis-server",
             "--port",
             "0",
@@ -140,12 +148,12 @@ class Redis(Broker):
             "--dir",
             str(self.folder),
         ]
-        words += [
+        command += [
             "--save",
             "",
             *(["--appendonly", "yes", "--appendfsync", "always"] if self.synced else []),
         ]
-        self.program = Program(words, self.folder, dict(os.environ), "redis.log")
+        self.program = Program(command, self.folder, dict(os.environ), "redis.log")
         self.program.wait_for("ready to accept connections")
 
     def forget(self) -> None:
@@ -153,7 +161,7 @@ class Redis(Broker):
 
 
 class RabbitMQ(Broker):
-    """RabbitMQ on a port of its own, with a port mapper of its own."""
+    """RabbitMQ on its own port, with its own port mapper."""
 
     def __init__(self, folder: pathlib.Path, synced: bool = True) -> None:
         super().__init__(folder, synced)
@@ -190,7 +198,10 @@ class RabbitMQ(Broker):
         )
 
     def start(self) -> None:
-        """As said; where another took a port meanwhile, it takes others."""
+        """Start the broker.
+
+        If another process took a port in the meantime, it takes other ports.
+        """
         for turn in range(3):
             self.program = Program([_rabbitmq()], self.folder, self.environment, "rabbitmq.log")
             try:
@@ -215,10 +226,10 @@ class RabbitMQ(Broker):
 
 
 def _rabbitmq() -> str:
-    """The server itself: the one in the path is Debian's, which changes the user."""
-    for place in ("/usr/lib/rabbitmq/bin/rabbitmq-server", shutil.which("rabbitmq-server")):
-        if place and os.path.exists(place):
-            return place
+    """Return the server itself: the one in the path is Debian's, which changes the user."""
+    for program in ("/usr/lib/rabbitmq/bin/rabbitmq-server", shutil.which("rabbitmq-server")):
+        if program and os.path.exists(program):
+            return program
     raise FileNotFoundError(
         "rabbitmq-server is missing; install it by: apt-get install rabbitmq-server"
     )
@@ -229,7 +240,7 @@ BROKERS: dict[str, type[Broker]] = {"redis": Redis, "rabbitmq": RabbitMQ}
 
 @contextlib.contextmanager
 def broker_at(kind: str, folder: pathlib.Path, synced: bool = True) -> Iterator[Broker]:
-    """A broker of that kind, until the block ends."""
+    """Run a broker of that kind until the block ends."""
     broker = BROKERS[kind](folder, synced)
     try:
         broker.start()

@@ -1,4 +1,4 @@
-"""What the cases of a store share."""
+"""What the tests of a store share."""
 
 from __future__ import annotations
 
@@ -20,13 +20,11 @@ Task = sagas.Task[Any]
 QUICK = sagas.Backoff(initial=0.01, maximum=0.02)
 HOUR = sagas.Backoff(initial=3600, maximum=3600)
 PLACES = ("sqlite", "postgresql")
-"""What the fixture `place` takes."""
+"""The values of the fixture `location`."""
 
 
 def pairs(*options: Sequence[Any]) -> list[tuple[Any, ...]]:
-    """Return few of all cases, in which each value of each option meets each value of each other
-    option at least once.
-    """
+    """Return a few of all cases, in which each pair of values of two options occurs."""
     rows = [*itertools.product(*(range(len(values)) for values in options))]
     met = {row: {*itertools.combinations(enumerate(row), 2)} for row in rows}
     left, chosen = set().union(*met.values()), []
@@ -45,28 +43,28 @@ def types_in(folder: pathlib.Path) -> str:
 
 
 def run(main: Coroutine[Any, Any, T]) -> T:
-    """Runs a case; a machine that is busy with other things gets four minutes."""
+    """Run a case, with a limit of four minutes, which is enough on a busy machine."""
     return asyncio.run(asyncio.wait_for(main, 240))
 
 
-def simple(function: Callable[[Task], Any], **words: Any) -> sagas.Saga:
-    """A saga of one step, `a`."""
+def simple(function: Callable[[Task], Any], **options: Any) -> sagas.Saga:
+    """Return a saga of one step, `a`."""
     saga = sagas.Saga("simple")
-    saga.step(name="a", backoff=words.pop("backoff", QUICK), **words)(function)
+    saga.step(name="a", backoff=options.pop("backoff", QUICK), **options)(function)
     return saga
 
 
 async def ended(
     store: sagas.Store, saga: sagas.Saga, key: str = "k", given: Any = None
 ) -> sagas.SagaResult:
-    """A saga from its start to its end."""
+    """Run a saga from its start to its end."""
     return await (await store.start(saga, key=key, input=given)).wait()
 
 
 async def surely_ended(
     store: sagas.Store, saga: sagas.Saga, key: str = "k", given: Any = None
 ) -> sagas.SagaResult:
-    """The same, asked again while the store is away."""
+    """Run a saga to its end; repeat the calls while the store is unavailable."""
     while True:
         try:
             return await ended(store, saga, key, given)
@@ -74,11 +72,14 @@ async def surely_ended(
             await asyncio.sleep(0.02)
 
 
-async def until(found: Callable[[], Any], seconds: float = 120) -> Any:
-    """Waits for something that another part of the program does. `found` may be a coroutine's."""
+async def until(condition: Callable[[], Any], seconds: float = 120) -> Any:
+    """Wait for a change that another part of the program makes.
+
+    The condition may be a coroutine function.
+    """
     async with asyncio.timeout(seconds):
         while True:
-            value = found()
+            value = condition()
             if inspect.isawaitable(value):
                 value = await value
             if value:
@@ -86,37 +87,37 @@ async def until(found: Callable[[], Any], seconds: float = 120) -> Any:
             await asyncio.sleep(0.005)
 
 
-async def asked_of(store: sagas.Store) -> list[sagas.UnknownAttempt]:
-    """The attempts of which a person has to say what they did."""
+async def attempts_to_report(store: sagas.Store) -> list[sagas.UnknownAttempt]:
+    """Return the attempts whose outcome an operator has to report."""
     return [held for held in await store.unknown() if held.asked]
 
 
 def in_child(work: Callable[[], object], seconds: float = 60) -> str:
-    """What comes of it in a forked child, which ends behind it: the error with its text, or the value."""
+    """Return the result of a function in a forked child: its value, or the error with its text."""
     back, to = os.pipe()
     child = os.fork()
     if child == 0:
         try:
-            said = repr(work())
+            result = repr(work())
         except BaseException as error:
-            said = f"{type(error).__name__}: {error}"
-        os.write(to, said.encode())
+            result = f"{type(error).__name__}: {error}"
+        os.write(to, result.encode())
         os._exit(0)
     os.close(to)
     if not select.select([back], [], [], seconds)[0]:
         os.kill(child, signal.SIGKILL)
-    said = os.read(back, 1 << 16).decode() or "it hangs"
+    result = os.read(back, 1 << 16).decode() or "it hangs"
     os.close(back)
     os.waitpid(child, 0)
-    return said
+    return result
 
 
 def hears(wait: Callable[[], object], text: str, seconds: float = 120) -> None:
-    """Waits for something again and again, which takes too long each time, until the error says this."""
-    end, said = time.monotonic() + seconds, ""
-    while said != text and time.monotonic() < end:
+    """Repeat a wait that takes too long each time, until its error has this text."""
+    end, message = time.monotonic() + seconds, ""
+    while message != text and time.monotonic() < end:
         try:
             wait()
         except TimeoutError as error:
-            said = str(error)
-    assert said == text
+            message = str(error)
+    assert message == text

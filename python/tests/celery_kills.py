@@ -1,15 +1,22 @@
-"""Strikes at random moments at brokers, Celery's workers and the program that has the store, and a judgement when all is over.
+"""Strike brokers, Celery's workers and the program that has the store at random moments.
 
-    python3 tests/celery_kills.py [--rounds N] [--broker redis|rabbitmq] [--kinds ..] [--store sqlite|postgresql] [--sagas N] [--seed S] [--jobs N]
+A verdict follows when all sagas are over.
 
-A round is one store and one queue; the broker is one for all rounds of a job. Some messages are doubled and some come late, in each round. And
+    python3 tests/celery_kills.py [--rounds N] [--broker redis|rabbitmq] [--kinds KINDS]
+        [--store sqlite|postgresql] [--sagas N] [--seed S] [--jobs N]
 
-- `child` kills processes of the worker's pool, with -9; `worker` kills the worker itself, and starts another;
-- `broker` kills the broker, and starts it with its messages or without;
-- `owner` kills the program that has the store, or asks it to close, while messages are out;
-- `nodes` has two programs over one database (PostgreSQL alone), and kills one, asks it to close, or stops it past its lease: the other takes over what is out;
-- `store` keeps the store from being written for a while: its file is locked, or its server stopped as if its machine had failed;
-- `older` has a worker of an older definition take messages;
+A round is one store and one queue; the broker is the same for all rounds of a job. In each round
+some messages are duplicated and some are delayed. The kinds are:
+
+- `child` kills processes of the worker's pool with SIGKILL.
+- `worker` kills the worker itself, and starts another one.
+- `broker` kills the broker, and starts it with its messages or without.
+- `owner` kills the program that has the store, or asks it to close, while messages are out.
+- `nodes` has two programs over one database (PostgreSQL only), and kills one, asks it to close, or
+  stops it past its lease: the other one takes over the messages that are out.
+- `store` makes the store unwritable for a while: its file is locked, or its server stopped as if
+  its machine had failed.
+- `older` has a worker of an older definition take messages.
 - `all` does any of these.
 
 Every process that is signalled here was started here, and is named by its number.
@@ -47,13 +54,13 @@ HERE = pathlib.Path(__file__).resolve().parent
 KINDS = ("child", "worker", "broker", "owner", "store", "older", "all")
 NODES = "nodes"
 LEASE = 1.5
-"""Seconds, of each of two nodes."""
+"""Seconds: the lease of each of two nodes."""
 READY = r" ready\."
 
 
-def worker_words(queue: str, name: str) -> list[str]:
-    """How a worker is started: as always, and with what is of no use here left out."""
-    words = [
+def worker_command(queue: str, name: str) -> list[str]:
+    """Return the arguments that start a worker, without the options that are of no use here."""
+    command = [
         sys.executable,
         "-m",
         "celery",
@@ -69,12 +76,12 @@ def worker_words(queue: str, name: str) -> list[str]:
         "-l",
         "INFO",
     ]
-    return [*words, "--without-gossip", "--without-mingle", "--without-heartbeat"]
+    return [*command, "--without-gossip", "--without-mingle", "--without-heartbeat"]
 
 
 @dataclass
 class Strikes:
-    """Keeps the programs of one store running, and strikes them, until all is over."""
+    """The programs of one store. They are struck, and started again, until all sagas are over."""
 
     folder: pathlib.Path
     kind: str
@@ -97,14 +104,14 @@ class Strikes:
         path = f"{HERE.parent / 'src'}{os.pathsep}{HERE}"
         self.names = ("one", "two") if self.kind == NODES else ("owner",)
         self.store = self.server.create() if self.server else str(self.folder / "store.db")
-        told = {
+        variables = {
             "STORE": self.store,
             "SOCKET": self.folder / "socket",
             "BROKER": self.broker.url,
             "QUEUE": self.queue,
         }
         self.environment = os.environ | {
-            f"SAGAS_TEST_{word}": str(value) for word, value in told.items()
+            f"SAGAS_TEST_{word}": str(value) for word, value in variables.items()
         }
         self.environment |= {
             "PYTHONPATH": path,
@@ -118,21 +125,21 @@ class Strikes:
         return time.monotonic() - self.began > self.most
 
     def start_owner(self, name: str) -> Program:
-        told = {"SAGAS_TEST_NODE": name} | (
+        variables = {"SAGAS_TEST_NODE": name} | (
             {"SAGAS_TEST_LEASE": str(LEASE)} if self.kind == NODES else {}
         )
-        words = [sys.executable, str(HERE / "celery_world.py"), str(self.sagas)]
-        self.owners[name] = Program(words, self.folder, self.environment | told, "owner.log")
+        command = [sys.executable, str(HERE / "celery_world.py"), str(self.sagas)]
+        self.owners[name] = Program(command, self.folder, self.environment | variables, "owner.log")
         return self.owners[name]
 
     def start_worker(self) -> Program:
         self.workers += 1
-        words = [
-            *worker_words(self.queue, f"w{self.workers}"),
+        command = [
+            *worker_command(self.queue, f"w{self.workers}"),
             *(["-P", "solo"] if self.wrong is not None else []),
         ]
         self.worker = Program(
-            words,
+            command,
             self.folder,
             self.environment | ({"SAGAS_TEST_WRONG": self.wrong} if self.wrong else {}),
             "worker.log",
@@ -140,7 +147,7 @@ class Strikes:
         return self.worker
 
     def until_over(self) -> str | None:
-        """Runs until all is over; says what went wrong with a program itself, if anything."""
+        """Run until all sagas are over; return the problems of the programs themselves."""
         try:
             self.start_worker()
             for name in self.names:
@@ -165,9 +172,9 @@ class Strikes:
                 owner.wait_for(
                     "^(done|closing)", seconds=self.draw.uniform(0.05, 0.8) if striking else 5
                 )
-            if not owner.runs or owner.has_said("^(done|closing)"):
+            if not owner.runs or owner.has_printed("^(done|closing)"):
                 owner.process.wait(60)
-                if owner.has_said("^done"):
+                if owner.has_printed("^done"):
                     del left[name]
                     if not left:
                         return None
@@ -184,17 +191,16 @@ class Strikes:
 
     def _child(self) -> None:
         assert self.worker
-        found = children(self.worker.pid)
-        if found:
+        pids = children(self.worker.pid)
+        if pids:
             with contextlib.suppress(ProcessLookupError):
-                os.kill(self.draw.choice(found), signal.SIGKILL)
+                os.kill(self.draw.choice(pids), signal.SIGKILL)
                 self.kills["a pool's child"] += 1
 
     def _worker(self) -> None:
         assert self.worker
-        if (
-            self.draw.random() < 0.5
-        ):  # its children see it by themselves, when they have ended what they do
+        # its children notice it themselves, when they have ended their tasks
+        if self.draw.random() < 0.5:
             os.kill(self.worker.pid, signal.SIGKILL)
             self.worker.process.wait(60)
         self.worker.kill()
@@ -207,7 +213,7 @@ class Strikes:
         if lost:
             self.broker.forget()
         self.kills["the broker's messages" if lost else "the broker"] += 1
-        time.sleep(self.draw.uniform(0, 0.5))  # how long it is away
+        time.sleep(self.draw.uniform(0, 0.5))  # the time for which it is stopped
         self.broker.start()
 
     def _owner(self, name: str) -> None:
@@ -217,12 +223,12 @@ class Strikes:
             self.kills["the program asked to close"] += 1
             with contextlib.suppress(TimeoutError):
                 owner.wait_for("^closing", seconds=self.draw.uniform(0, 1))
-            if owner.has_said("^(done|closing)"):
+            if owner.has_printed("^(done|closing)"):
                 return
         owner.kill()
         self.kills["the program"] += 1
         if len(self.names) > 1 and self.draw.random() < 0.5:
-            time.sleep(2 * LEASE)  # the other has all of it by then
+            time.sleep(2 * LEASE)  # the other node has all of it by then
         with contextlib.suppress(TimeoutError):
             self.start_owner(name).wait_for("^open", seconds=self.draw.choice((0.3, 60)))
 
@@ -230,9 +236,8 @@ class Strikes:
         if self.draw.random() < 0.4:
             process = self.owners[name].process
             process.send_signal(signal.SIGSTOP)
-            time.sleep(
-                self.draw.uniform(LEASE, 2 * LEASE)
-            )  # the other takes over, and this one goes on as if nothing had been
+            # the other node takes over, and this one continues as if nothing had happened
+            time.sleep(self.draw.uniform(LEASE, 2 * LEASE))
             process.send_signal(signal.SIGCONT)
             self.kills["a node stood still"] += 1
         else:
@@ -242,7 +247,7 @@ class Strikes:
         if self.server:
             self.server.stop()
             self.kills["the store's server"] += 1
-            time.sleep(self.draw.choice((0.1, 2)))  # how long it is away
+            time.sleep(self.draw.choice((0.1, 2)))  # the time for which it is unavailable
             self.server.start()
             return
         with contextlib.closing(
@@ -250,15 +255,15 @@ class Strikes:
         ) as db:
             db.execute("BEGIN EXCLUSIVE")
             self.kills["the store locked"] += 1
-            time.sleep(self.draw.choice((0.3, 2.5)))  # how long it is away
+            time.sleep(self.draw.choice((0.3, 2.5)))  # the time for which it is unavailable
             db.execute("ROLLBACK")
 
     def _older(self) -> None:
         if self.older:
             self.older.kill()
-        words = worker_words(self.queue, f"o{self.kills['an older worker']}")
+        command = worker_command(self.queue, f"o{self.kills['an older worker']}")
         self.older = Program(
-            words, self.folder, self.environment | {"SAGAS_TEST_OLD": "1"}, "older.log"
+            command, self.folder, self.environment | {"SAGAS_TEST_OLD": "1"}, "older.log"
         )
         self.older.wait_for(READY)
         self.kills["an older worker"] += 1
@@ -275,7 +280,11 @@ def play(
     quiet: int = 6,
     wrong: str | None = None,
 ) -> Round:
-    """One round: a store, its strikes, its judgement. Its files stay where something was found. With `wrong` there is no chance in it; the worker is one of `wrong_workers`, or where that is empty a right one."""
+    """Play one round: a store, its strikes and the verdict.
+
+    The files stay if there are faults. With `wrong` nothing is random; the worker is one of
+    `wrong_workers`, or a right one if that is empty.
+    """
     folder = pathlib.Path(tempfile.mkdtemp(prefix="sagas-celery-"))
     strikes = Strikes(folder, kind, random.Random(seed), broker, server, sagas, most, quiet, wrong)
     with witness_at(folder / "socket", folder / "notes"):
@@ -296,7 +305,7 @@ def play(
 
 
 def _job(broker: str, store: str, kinds: list[str], seeds: list[int], sagas: int) -> list[Round]:
-    """Rounds over one broker."""
+    """Play rounds over one broker."""
     folder = pathlib.Path(tempfile.mkdtemp(prefix="sagas-broker-"))
     try:
         with broker_at(broker, folder) as running, contextlib.ExitStack() as stack:
@@ -309,7 +318,10 @@ def _job(broker: str, store: str, kinds: list[str], seeds: list[int], sagas: int
                     one := play(kinds[seed % len(kinds)], seed, running, sagas, server=server)
                 )
                 print(
-                    f"{broker} {store} {one.kind} {seed}: {dict(one.kills)} {one.found[:5]} {one.folder or ''}",
+                    (
+                        f"{broker} {store} {one.kind} {seed}:"
+                        f" {dict(one.kills)} {one.problems[:5]} {one.folder or ''}"
+                    ),
                     flush=True,
                 )
             return rounds
@@ -318,7 +330,7 @@ def _job(broker: str, store: str, kinds: list[str], seeds: list[int], sagas: int
 
 
 def main() -> int:
-    """The command."""
+    """Run the command."""
     parser = argparse.ArgumentParser(
         description=__doc__, formatter_class=argparse.RawDescriptionHelpFormatter
     )
@@ -329,31 +341,33 @@ def main() -> int:
     parser.add_argument("--sagas", type=int, default=40)
     parser.add_argument("--seed", type=int, default=random.randrange(10**6))
     parser.add_argument("--jobs", type=int, default=1)
-    words = parser.parse_args()
-    if NODES in words.kinds and words.store != "postgresql":
+    options = parser.parse_args()
+    if NODES in options.kinds and options.store != "postgresql":
         parser.error("two nodes are over PostgreSQL: --store postgresql")
-    seeds = range(words.seed, words.seed + words.rounds)
+    seeds = range(options.seed, options.seed + options.rounds)
     began = time.monotonic()
-    with concurrent.futures.ProcessPoolExecutor(words.jobs) as pool:
+    with concurrent.futures.ProcessPoolExecutor(options.jobs) as pool:
         jobs = [
             pool.submit(
                 _job,
-                words.broker,
-                words.store,
-                words.kinds.split(","),
-                list(seeds[job :: words.jobs]),
-                words.sagas,
+                options.broker,
+                options.store,
+                options.kinds.split(","),
+                list(seeds[job :: options.jobs]),
+                options.sagas,
             )
-            for job in range(words.jobs)
+            for job in range(options.jobs)
         ]
         rounds = [one for job in jobs for one in job.result()]
     kills, figures = Counter[str](), Counter[str]()
     for one in rounds:
         kills += one.kills
         figures += one.verdict.figures
-    bad = sum(bool(one.found) for one in rounds)
+    bad = sum(bool(one.problems) for one in rounds)
     print(
-        f"{len(rounds)} rounds over {words.broker} and {words.store}, {bad} bad, seed {words.seed}, {time.monotonic() - began:.0f} s"
+        f"{len(rounds)} rounds over {options.broker} and {options.store}, {bad} bad,"
+        f" seed {options.seed},"
+        f" {time.monotonic() - began:.0f} s"
     )
     for title, counted in (("strikes", kills), ("figures", figures)):
         print(

@@ -1,4 +1,8 @@
-"""The sagas of test_celery.py: made by the test, and again by its workers (`python3 -m celery -A celery_shop worker`), by the same words."""
+"""The sagas of test_celery.py.
+
+The test makes them, and its workers make them again with the same arguments (`python3 -m celery -A
+celery_shop worker`).
+"""
 
 from __future__ import annotations
 
@@ -18,7 +22,7 @@ from driving import program
 import sagas
 import sagas.celery
 
-WORDS = "SAGAS_TEST_SHOP"
+SETTINGS = "SAGAS_TEST_SHOP"
 BIG = 300_000
 """Characters of a large result."""
 
@@ -40,7 +44,7 @@ class Seat:
 
 
 class Shop:
-    """An app, a queue, and sagas whose functions note each call in a file."""
+    """An app, a queue, and sagas whose functions append each call to a file."""
 
     def __init__(
         self,
@@ -51,7 +55,7 @@ class Shop:
         patience: float = 60.0,
         timeout: float = 300.0,
     ) -> None:
-        self.words = {
+        self.settings = {
             "broker": broker,
             "store": store,
             "notes": notes,
@@ -86,19 +90,19 @@ class Shop:
             *([self.bank] if self.bank else []),
         ]
 
-    def open(self, **words: Any) -> sagas.Store:
-        """The store."""
-        return sagas.open(self.words["store"], self.sagas, program=program(), **words)
+    def open(self, **options: Any) -> sagas.Store:
+        """Open the store."""
+        return sagas.open(self.settings["store"], self.sagas, program=program(), **options)
 
     def worker(self, folder: pathlib.Path, *more: str, name: str = "w", **other: Any) -> Program:
-        """A worker that is ready; `other` are words that it has otherwise."""
+        """Start a worker and wait until it is ready; `other` replaces options of its command."""
         here = pathlib.Path(__file__).resolve().parent
         environment = os.environ | {
-            WORDS: json.dumps(self.words | other),
+            SETTINGS: json.dumps(self.settings | other),
             "PYTHONPATH": f"{here.parent / 'src'}{os.pathsep}{here}",
             "PYTHONUNBUFFERED": "1",
         }
-        words = [
+        command = [
             "/usr/bin/python3",
             "-m",
             "celery",
@@ -106,7 +110,7 @@ class Shop:
             "celery_shop",
             "worker",
             "-Q",
-            str(self.words["queue"]),
+            str(self.settings["queue"]),
             "-c",
             "2",
             "-n",
@@ -114,7 +118,7 @@ class Shop:
             "-l",
             "INFO",
         ]
-        started = Program([*words, *more], folder, environment, f"{name}.log")
+        started = Program([*command, *more], folder, environment, f"{name}.log")
         try:
             started.wait_for(r" ready\.")
         except BaseException:
@@ -123,8 +127,8 @@ class Shop:
         return started
 
     def note(self, task: Any, **more: Any) -> None:
-        """A call, as a line."""
-        told = {
+        """Append a call as a line."""
+        call = {
             "key": task.key,
             "step": task.step,
             "undo": task.is_compensation,
@@ -133,19 +137,21 @@ class Shop:
             "effect": task.idempotency_key,
             "pid": os.getpid(),
         }
-        told["deadline"] = task.deadline and task.deadline.timestamp()
+        call["deadline"] = task.deadline and task.deadline.timestamp()
         with open(self.notes, "a", encoding="utf-8") as notes:
-            notes.write(json.dumps(told | more) + "\n")
+            notes.write(json.dumps(call | more) + "\n")
 
     def calls(self, key: str | None = None) -> list[dict[str, Any]]:
-        """The calls so far."""
+        """Return the calls up to now."""
         lines = self.notes.read_text().splitlines() if self.notes.exists() else []
-        return [told for line in lines if key in (None, (told := json.loads(line))["key"])]
+        return [call for line in lines if key in (None, (call := json.loads(line))["key"])]
 
     def _trip(self) -> sagas.Saga:
         trip = sagas.Saga("trip", version=2)
 
-        @sagas.celery.step(self.app, trip, "flight", queue=str(self.words["queue"]), keep=9, undo=1)
+        @sagas.celery.step(
+            self.app, trip, "flight", queue=str(self.settings["queue"]), keep=9, undo=1
+        )
         def flight(task: sagas.Task[Trip]) -> Seat:
             self.note(task, to=task.input.to)
             return Seat(12, task.input.to)
@@ -154,7 +160,8 @@ class Shop:
         async def cancel_flight(task: sagas.Task[Trip]) -> None:
             self.note(task, row=task.result.row, of=task.original_idempotency_key)
 
-        @trip.step(needs=[flight], keep=9, undo=1)  # this one is called where the store is
+        # this step is called in the process of the store
+        @trip.step(needs=[flight], keep=9, undo=1)
         def meal(task: sagas.Task[Trip]) -> str:
             self.note(task)
             return "soup"
@@ -171,9 +178,11 @@ class Shop:
             if task.input.wish == "never":
                 raise sagas.Fail("never")
             if task.input.wish == "lost" and len(self.calls(task.key)) < 5:
-                raise sagas.Unknown("who knows") if len(
-                    self.calls(task.key)
-                ) < 4 else ConnectionError("lost")
+                raise (
+                    sagas.Unknown("who knows")
+                    if len(self.calls(task.key)) < 4
+                    else ConnectionError("lost")
+                )
             return {"seat": task.result_of(flight).name}
 
         return trip
@@ -208,7 +217,7 @@ class Shop:
 
         @odd.step(
             queue=sagas.celery.Queue(
-                self.app, str(self.words["queue"]), soft_time_limit=1, time_limit=60, priority=3
+                self.app, str(self.settings["queue"]), soft_time_limit=1, time_limit=60, priority=3
             ),
             backoff=QUICK,
             max_unknown=0,
@@ -246,11 +255,11 @@ class Shop:
         return self.notes.with_name("released")
 
     def release(self) -> None:
-        """Lets the step of `held` go on."""
+        """Let the step of `held` continue."""
         self._released.touch()
 
     def _shaped(self) -> tuple[sagas.Saga, sagas.Saga]:
-        """A saga with a step for each item, and one that includes it."""
+        """Return a saga with a step for each item, and one that includes it."""
         order = sagas.Saga("order")
 
         @order.step(
@@ -291,7 +300,7 @@ class Shop:
                 raise ValueError("behind its row")
             until = time.monotonic() + 30
             while task.key == "good" and len(self.calls("good")) < 2 and time.monotonic() < until:
-                time.sleep(0.01)  # until the message that came twice is begun twice
+                time.sleep(0.01)  # until the duplicated message is started twice
             return "booked"
 
         @book.compensation(timeout=60)
@@ -308,7 +317,7 @@ class Shop:
 
 
 def shop_in(broker: Broker, folder: pathlib.Path, store: str | None = None, **more: Any) -> Shop:
-    """A shop in a folder; its store is a file there, unless it is said."""
+    """Return a shop in a folder; its store is a file there, unless `store` names another one."""
     return Shop(
         broker.url,
         store or str(folder / "store.db"),
@@ -318,8 +327,8 @@ def shop_in(broker: Broker, folder: pathlib.Path, store: str | None = None, **mo
     )
 
 
-if WORDS in os.environ:
-    words = json.loads(os.environ[WORDS])
+if SETTINGS in os.environ:
+    words = json.loads(os.environ[SETTINGS])
     if wrong := words.pop("wrong", None):
         importlib.import_module(f"wrong_workers.{wrong}").apply()
     lacks = words.pop("lacks", None)

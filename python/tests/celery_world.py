@@ -1,12 +1,16 @@
-"""The program that `celery_kills.py` strikes: sagas whose steps run on Celery's workers, each call told to a witness outside.
+"""The program that `celery_kills.py` strikes: sagas whose steps run on Celery's workers.
 
-    python3 tests/celery_world.py COUNT          the program that has the store
-    python3 -m celery -A celery_world worker     its workers
+Each call is reported to a witness outside.
 
-Both take from the environment SAGAS_TEST_STORE, SAGAS_TEST_SOCKET (of the witness), SAGAS_TEST_BROKER and SAGAS_TEST_QUEUE. With SAGAS_TEST_OLD
-a worker has an older definition: it lacks a step. With SAGAS_TEST_WRONG=NAME it does something wrong, which `wrong_workers` has. SAGAS_TEST_NODE
-and SAGAS_TEST_LEASE name the program, where there are two over PostgreSQL. Messages are doubled, and some come late, at random, and so is what nobody
-knows; with SAGAS_TEST_PLAIN there is no chance in any of it.
+    python3 tests/celery_world.py COUNT                the program that has the store
+    python3 -m celery -A celery_world worker            its workers
+
+Both take from the environment SAGAS_TEST_STORE, SAGAS_TEST_SOCKET (of the witness),
+SAGAS_TEST_BROKER and SAGAS_TEST_QUEUE. With SAGAS_TEST_OLD a worker has an older definition,
+without one step. With SAGAS_TEST_WRONG=NAME it has the fault of that module of `wrong_workers`.
+SAGAS_TEST_NODE and SAGAS_TEST_LEASE name the program if there are two over PostgreSQL. Messages are
+duplicated or delayed at random, and some outcomes are unknown at random; with SAGAS_TEST_PLAIN
+nothing is random.
 """
 
 from __future__ import annotations
@@ -25,7 +29,7 @@ from typing import Any
 import celery
 import psycopg
 from witness import Witness
-from world import QUICK, Eye, World, chance, one
+from world import QUICK, OutsideReader, World, chance, one
 
 import sagas
 import sagas.celery
@@ -37,10 +41,10 @@ LEASE = float(os.environ.get("SAGAS_TEST_LEASE", 5.0))
 
 
 class Doubling(sagas.celery.Queue):
-    """Some messages come twice, and some again after a while."""
+    """Send some messages twice, and some again after a while."""
 
     async def send(self, order: Order) -> None:
-        """Sends it, perhaps more than once."""
+        """Send an order, perhaps more than once."""
         await super().send(order)
         draw = random.random()
         if draw < 0.2:
@@ -58,46 +62,48 @@ class Doubling(sagas.celery.Queue):
             pass
 
 
-class ServerEye(Eye):
-    """A look into PostgreSQL from beside it; it looks until it sees."""
+class OutsideServerReader(OutsideReader):
+    """A reader of PostgreSQL outside of the program; it repeats a query until it succeeds."""
 
-    def _ask(self, text: str, *words: Any) -> list[tuple[Any, ...]]:
+    def _ask(self, text: str, *parameters: Any) -> list[tuple[Any, ...]]:
         query = text.replace("%", "%%").replace("?", "%s")
         while True:
             try:
-                return self._look(query, words)
+                return self._look(query, parameters)
             except psycopg.OperationalError:
                 time.sleep(0.1)
 
 
 class Remote(World):
-    """The sagas, over a witness that each process of a worker has its own line to."""
+    """The sagas, over a witness to which each process of a worker has its own connection."""
 
     def __init__(self, queue: sagas.celery.Queue, store: str, socket: str, old: bool) -> None:
-        eye = ServerEye if store.startswith("postgresql:") else Eye
-        self.queue, self.eye, self._socket, self._old = queue, eye(store), socket, old
+        reader_class = OutsideServerReader if store.startswith("postgresql:") else OutsideReader
+        self.queue, self.reader, self._socket, self._old = queue, reader_class(store), socket, old
         self._line: tuple[int, Witness] | None = None
         self.sagas = [self.chain(), self.trip(), self.must(), self.mixed()]
 
     @property
     def witness(self) -> Witness:  # type: ignore[override]
-        """This process's line."""
+        """Return this process's connection to the witness."""
         if self._line is None or self._line[0] != os.getpid():
             self._line = os.getpid(), Witness(self._socket)
         return self._line[1]
 
-    def is_hazy(self, said: dict[str, Any], unknown: float) -> bool:
-        """With SAGAS_TEST_PLAIN the first call of each second attempt or so."""
+    def is_hazy(self, call: dict[str, Any], unknown: float) -> bool:
+        """Return whether the outcome is unknown; with SAGAS_TEST_PLAIN, of each second first
+        attempt.
+        """
         if "SAGAS_TEST_PLAIN" not in os.environ:
-            return super().is_hazy(said, unknown)
-        name = f"hazy-{said['key']}-{said['step']}-{said['kind']}-{said['attempt']}"
+            return super().is_hazy(call, unknown)
+        name = f"hazy-{call['key']}-{call['step']}-{call['kind']}-{call['attempt']}"
         if not unknown or chance(name) < 0.5 or os.path.exists(name):
             return False
         with open(name, "x", encoding="ascii"):
             return True
 
     def chain(self) -> sagas.Saga:
-        """Three steps in a row, with misses and compensations."""
+        """Three steps in a row, with failures and compensations."""
         chain, there = sagas.Saga("chain"), self.queue
 
         @chain.step(keep=9, undo=1, queue=there, timeout=TIMEOUT, backoff=QUICK)
@@ -128,7 +134,7 @@ class Remote(World):
         return chain
 
     def trip(self) -> sagas.Saga:
-        """A diamond with prices."""
+        """A diamond with costs."""
         trip, there = sagas.Saga("trip"), self.queue
 
         @trip.step(queue=there, timeout=TIMEOUT, backoff=QUICK)
@@ -174,7 +180,7 @@ class Remote(World):
         return must
 
     def mixed(self) -> sagas.Saga:
-        """Steps here and there."""
+        """Steps in this process and on workers."""
         mixed, there = sagas.Saga("mixed"), self.queue
 
         @mixed.step(keep=9, undo=1, backoff=QUICK)
@@ -199,14 +205,14 @@ class Remote(World):
 
 
 def make() -> tuple[Any, Remote]:
-    """The app and the sagas, by the environment."""
-    words = {
+    """Make the app and the sagas from the environment."""
+    settings = {
         word: os.environ[f"SAGAS_TEST_{word.upper()}"]
         for word in ("store", "socket", "broker", "queue")
     }
-    app = celery.Celery("world", broker=words["broker"])
+    app = celery.Celery("world", broker=settings["broker"])
     app.conf.update(
-        sagas_store=words["store"],
+        sagas_store=settings["store"],
         worker_prefetch_multiplier=4,
         broker_connection_retry_on_startup=True,
         broker_connection_max_retries=None,
@@ -214,14 +220,14 @@ def make() -> tuple[Any, Remote]:
     if name := os.environ.get("SAGAS_TEST_WRONG"):
         importlib.import_module(f"wrong_workers.{name}").apply()
     kind = sagas.celery.Queue if "SAGAS_TEST_PLAIN" in os.environ else Doubling
-    queue = kind(app, words["queue"], patience=1.0)
+    queue = kind(app, settings["queue"], patience=1.0)
     return app, Remote(
-        queue, words["store"], words["socket"], bool(os.environ.get("SAGAS_TEST_OLD"))
+        queue, settings["store"], settings["socket"], bool(os.environ.get("SAGAS_TEST_OLD"))
     )
 
 
 async def surely(world: World, store: sagas.Store, number: int) -> None:
-    """A saga from its start to its end, asked again while the store is away."""
+    """Run a saga to its end; repeat the calls while the store is unavailable."""
     while True:
         try:
             return await one(world, store, number)
@@ -230,7 +236,7 @@ async def surely(world: World, store: sagas.Store, number: int) -> None:
 
 
 async def main(world: World, store: str, count: int) -> None:
-    """Opens the store, again and again while it is away."""
+    """Open the store, and repeat that while it is unavailable."""
     while True:
         opened = sagas.open(
             store,
@@ -250,13 +256,12 @@ async def main(world: World, store: str, count: int) -> None:
             return await work_on(world, opened, count)
         finally:
             await opened.close()
-            asyncio.get_running_loop().remove_signal_handler(
-                signal.SIGTERM
-            )  # a loop that closes would complain of one that comes now
+            # a loop that closes would complain of one that comes now
+            asyncio.get_running_loop().remove_signal_handler(signal.SIGTERM)
 
 
 async def work_on(world: World, opened: sagas.Store, count: int) -> None:
-    """Starts what is not there, and waits for all."""
+    """Start the sagas that do not exist, and wait for all."""
     print("open", flush=True)
     work = asyncio.gather(*(surely(world, opened, number) for number in range(count)))
     asyncio.get_running_loop().add_signal_handler(signal.SIGTERM, work.cancel)

@@ -1,4 +1,4 @@
-"""Stores for the cases: a file, and a database on a server that each worker starts for itself."""
+"""Stores for the tests: a file, and a database on a server that each worker starts for itself."""
 
 from __future__ import annotations
 
@@ -19,7 +19,7 @@ LEVELS = {name: logging.getLogger(name).level for name in ("", "sagas")}
 
 @pytest.fixture(autouse=True)
 def log_levels() -> Iterator[None]:
-    """Each test begins with the levels of a new process, whatever the one before it has set."""
+    """Begin each test with the log levels of a new process, whatever the last one has set."""
     for name, level in LEVELS.items():
         logging.getLogger(name).setLevel(level)
     yield
@@ -27,14 +27,14 @@ def log_levels() -> Iterator[None]:
 
 @pytest.fixture(scope="session")
 def postgresql() -> Iterator[Server]:
-    """A server of this worker's own."""
+    """Return a server of this worker's own."""
     with serving() as server:
         yield server
 
 
 @pytest.fixture
 def url(postgresql: Server) -> Iterator[str]:
-    """An empty database."""
+    """Return an empty database."""
     url = postgresql.create()
     yield url
     postgresql.drop(url)
@@ -42,15 +42,19 @@ def url(postgresql: Server) -> Iterator[str]:
 
 @pytest.fixture(scope="session")
 def prepared(postgresql: Server) -> str:
-    """The name of a database from which others are copied. It has the tables, and a user who has
-    the least rights on them.
+    """Return the name of a database that others are copied from.
+
+    It has the tables, and a user who has the least rights on them.
     """
     return postgresql.as_user(postgresql.create()).rpartition("/")[2]
 
 
 @pytest.fixture(params=["sqlite", "postgresql"])
-def place(request: pytest.FixtureRequest, tmp_path: pathlib.Path) -> Iterator[str]:
-    """Where a store is: over both kinds of database, one behind the other; of PostgreSQL as a user who has the least rights."""
+def location(request: pytest.FixtureRequest, tmp_path: pathlib.Path) -> Iterator[str]:
+    """Return the address of a new store, over each kind of database in turn.
+
+    Over PostgreSQL its user has the least rights.
+    """
     if request.param == "sqlite":
         yield str(tmp_path / "store.db")
         return
@@ -62,7 +66,9 @@ def place(request: pytest.FixtureRequest, tmp_path: pathlib.Path) -> Iterator[st
 
 @pytest.fixture(scope="module", params=["sqlite", "postgresql"])
 def store(request: pytest.FixtureRequest) -> Iterator[str | None]:
-    """A store for all cases of a file: None for a file in the folder of who has it, then a database."""
+    """Return a store for all cases of a file: None for a file in the test's folder, then a
+    database.
+    """
     if request.param == "sqlite":
         yield None
         return

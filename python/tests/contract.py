@@ -1,5 +1,6 @@
-"""Each answer of a service in the tests is compared with the OpenAPI document, which the repository
-has as a file."""
+"""Check that each response of a service in the tests conforms to the OpenAPI document of the
+repository.
+"""
 
 from __future__ import annotations
 
@@ -44,66 +45,70 @@ def is_time(text: Any) -> bool:
 
 @functools.cache
 def patterns() -> list[tuple[re.Pattern[str], dict[str, Any]]]:
-    """The paths, those without parameters first."""
-    found = []
+    """Return the paths, those without parameters first."""
+    expressions = []
     for path in sorted(DOCUMENT["paths"], key=lambda path: ("{" in path, path)):
         text = re.sub(r"\\{\w+\\}", "[^/]+", re.escape(path))
-        found.append((re.compile(text), DOCUMENT["paths"][path]))
-    return found
+        expressions.append((re.compile(text), DOCUMENT["paths"][path]))
+    return expressions
 
 
 def operation(method: str, path: str) -> dict[str, Any] | None:
-    """The operation of a request; HEAD has that of GET."""
+    """Return the operation of a request; HEAD has that of GET."""
     for pattern, methods in patterns():
         if pattern.fullmatch(path):
-            found: dict[str, Any] | None = methods.get({"HEAD": "get"}.get(method, method.lower()))
-            return found
+            matched: dict[str, Any] | None = methods.get(
+                {"HEAD": "get"}.get(method, method.lower())
+            )
+            return matched
     return None
 
 
-def resolved(told: dict[str, Any]) -> dict[str, Any]:
-    """What a reference leads to."""
-    while "$ref" in told:
-        found: Any = DOCUMENT
-        for part in told["$ref"].removeprefix("#/").split("/"):
-            found = found[part]
-        told = found
-    return told
+def resolved(reference: dict[str, Any]) -> dict[str, Any]:
+    """Return the object that a reference leads to."""
+    while "$ref" in reference:
+        target: Any = DOCUMENT
+        for part in reference["$ref"].removeprefix("#/").split("/"):
+            target = target[part]
+        reference = target
+    return reference
 
 
 @functools.cache
 def validator(text: str) -> Any:
-    """A validator of a schema of the document."""
+    """Return a validator of a schema of the document."""
     schema = json.loads(text)
     resolver = jsonschema.RefResolver("", DOCUMENT)
     return jsonschema.Draft202012Validator(schema, resolver=resolver, format_checker=FORMATS)
 
 
 def check(answer: httpx.Response) -> None:
-    """Raises `AssertionError` where an answer is not as the document has it."""
+    """Raise `AssertionError` if a response is not as the document describes it."""
     request = answer.request
     raw = request.url.raw_path.decode().partition("?")[0]
     kind = answer.headers.get("content-type", "").partition(";")[0]
     if raw.startswith("/ui") or raw in ("/", "/favicon.ico") or kind == "text/event-stream":
         return
     where = f"{request.method} {raw} {answer.status_code}"
-    found = operation(request.method, raw)
+    described = operation(request.method, raw)
     body = answer.read()
     if answer.status_code >= 400 and kind == problems.MEDIA_TYPE and request.method != "HEAD":
-        told = json.loads(body)
+        document = json.loads(body)
         schema = {"$ref": "#/components/schemas/Problem"}
-        validator(json.dumps(schema)).validate(told)
-        name = told["type"].removeprefix(problems.PREFIX)
-        assert told["status"] == answer.status_code == problems.PROBLEMS[name].status, where
-        if found is None or name in ANYWHERE:
+        validator(json.dumps(schema)).validate(document)
+        name = document["type"].removeprefix(problems.PREFIX)
+        assert document["status"] == answer.status_code == problems.PROBLEMS[name].status, where
+        if described is None or name in ANYWHERE:
             return
-        names = resolved(found["responses"].get(str(answer.status_code), {})).get("description", "")
+        names = resolved(described["responses"].get(str(answer.status_code), {})).get(
+            "description", ""
+        )
         assert f"`{name}`" in names, f"{where}: the document does not have {name}"
-    assert found is not None, f"{where}: the document has no such operation"
+    assert described is not None, f"{where}: the document has no such operation"
     status = str(answer.status_code)
-    seen.setdefault(found["operationId"], set()).add(status)
-    assert status in found["responses"], f"{where}: not in the document"
-    content = resolved(found["responses"][status]).get("content")
+    seen.setdefault(described["operationId"], set()).add(status)
+    assert status in described["responses"], f"{where}: not in the document"
+    content = resolved(described["responses"][status]).get("content")
     if content is None or request.method == "HEAD":
         return
     assert kind in content, where

@@ -1,9 +1,9 @@
-"""A shard without a store's event loop, functions and database: the core under anything that may go wrong.
+"""A shard without a store's event loop, functions and database: the core under random errors.
 
-A `World` holds what the runtime is to the core: an engine (`sagas drive --lines`), a store in memory whose
-commits may be refused or lose their answer, and functions that end when the test says so. Each of its moves is
-drawn by a seeded generator, so a failure is one number. At the end the event log is judged by `sagas audit` and
-by the reference model of `follower.py`, and the rows by the log.
+A `World` stands for the runtime: an engine (`sagas drive --lines`), a store in memory whose commits
+may be refused or lose their reply, and functions that end when the test says so. A seeded generator
+draws each of its moves, so that one number reproduces a failure. At the end `sagas audit` and the
+reference model of `follower.py` check the event log, and the rows are compared with the log.
 """
 
 from __future__ import annotations
@@ -37,24 +37,26 @@ from sagas.definition.compiled import CompiledDefinition
 from sagas.definition.start_options import StartOptions
 
 Call = tuple[int, int, str, int]
-"""The saga's number, the step, `run` or `undo`, the attempt's number."""
+"""The saga's number, the step, `run` or `undo`, and the attempt's number."""
 
 
 class Wrong(AssertionError):
-    """Something that the core must never do."""
+    """An error that the core must never make."""
 
 
 class Engine:
-    """`sagas drive --lines`, one question at a time."""
+    """A process `sagas drive --lines`, with one request at a time."""
 
     def __init__(self, paths: Sequence[pathlib.Path], log: pathlib.Path | None) -> None:
-        words = ["--from", str(log), *map(str, paths)] if log else [*map(str, paths)]
+        arguments = ["--from", str(log), *map(str, paths)] if log else [*map(str, paths)]
         self._process = subprocess.Popen(
-            [program(), "drive", "--lines", *words], stdin=subprocess.PIPE, stdout=subprocess.PIPE
+            [program(), "drive", "--lines", *arguments],
+            stdin=subprocess.PIPE,
+            stdout=subprocess.PIPE,
         )
 
     def ask(self, lines: Sequence[str]) -> tuple[list[str], str]:
-        """The replies, and the log's new lines."""
+        """Return the replies, and the new lines of the event log."""
         assert self._process.stdin and self._process.stdout
         self._process.stdin.write(("\n".join(lines) + "\n").encode())
         self._process.stdin.flush()
@@ -69,7 +71,7 @@ class Engine:
         return replies, "".join(shown).removeprefix(protocol.HEADER)
 
     def kill(self) -> None:
-        """It is no more."""
+        """Kill the process."""
         self._process.kill()
         assert self._process.stdin and self._process.stdout
         self._process.stdin.close()
@@ -78,31 +80,31 @@ class Engine:
 
 
 class Store:
-    """What is durable, and where the reference model stands by it."""
+    """The durable state, and the state of the reference model with it."""
 
     def __init__(self, texts: Sequence[str]) -> None:
         self.follower = Follower([Definition.read(text) for text in texts])
         self.finals: set[tuple[int, int, str]] = set()
         """the actions that failed permanently"""
         self.missed: dict[tuple[int, int, str], float] = {}
-        """when an action failed last, that is retried"""
+        """the time of the last failure of an action that is retried"""
         self.chunks: list[str] = []
         self.events = 0
         self.sagas: dict[int, list[Any]] = {}
-        """by id: key, place, input, phase, outcome, deadline"""
+        """by id: key, slot, input, phase, outcome, deadline"""
         self.attempts: dict[tuple[int, int, str, int], tuple[str, str | None, float]] = {}
         self.suspensions: dict[tuple[int, int, str, int], Any] = {}
         self.newest: tuple[int, int, str, int] | None = None
-        """the attempt whose transaction is the last that was made"""
+        """the attempt of the last transaction"""
 
     def record(self, row: tuple[int, int, str, int], value: str, at: float) -> None:
-        """The transaction of a step: what it did, and its result."""
+        """Store the transaction of a step: its effect and its result."""
         if row in self.attempts:
             raise Wrong(f"{row} is done twice")
         self.attempts[row], self.newest = ("ok", value, at), row
 
     def commit(self, batch: Batch) -> None:
-        """All of it, at once."""
+        """Commit a batch."""
         if batch.text:
             if batch.first != self.events:
                 raise Wrong(f"lines behind {batch.first} events, where {self.events} are")
@@ -110,10 +112,10 @@ class Store:
             self.events += batch.text.count("\n")
             for line in batch.text.splitlines():
                 self.follower.take(json.loads(line))
-        for id, key, _, place, text, _, deadline, _ in batch.opened:
+        for id, key, _, slot, text, _, deadline, _ in batch.opened:
             if id in self.sagas or any(key == row[0] for row in self.sagas.values()):
                 raise Wrong(f"{key} is there")
-            self.sagas[id] = [key, place, text, None, None, deadline]
+            self.sagas[id] = [key, slot, text, None, None, deadline]
         self.newest = None
         for id, step, kind, number, event, value, at in batch.results:
             recorded = self.attempts.get((id, step, kind, number))
@@ -121,10 +123,10 @@ class Store:
             if recorded and not (is_kept and recorded[:2] == ("ok", value)):
                 raise Wrong(f"attempt {(id, step, kind, number)} is reported twice: {recorded}")
             self.attempts[id, step, kind, number] = event, value, at
-            told = json.loads(value) if event not in ("commit", "undone") and value else {}
-            if told.get("final"):
+            failure = json.loads(value) if event not in ("commit", "undone") and value else {}
+            if failure.get("final"):
                 self.finals.add((id, step, kind))
-            elif told.get("called", True):
+            elif failure.get("called", True):
                 self.missed[id, step, kind] = at
             elif event == "fail" and not self.follower.sagas[id % SHARD_CAPACITY].aborted:
                 raise Wrong(f"{(id, step, kind, number)} failed without a call")
@@ -142,11 +144,11 @@ class Store:
 
     @property
     def text(self) -> str:
-        """The event log, without its header."""
+        """Return the event log, without its header."""
         return "".join(self.chunks)
 
     def load(self) -> Loaded:
-        """As a program takes the shard up."""
+        """Return what a program loads when it takes over the shard."""
         open_ones = {id: row for id, row in self.sagas.items() if row[3] is None}
         return Loaded(
             text=self.text,
@@ -186,12 +188,12 @@ class World:
         self.running: dict[Attempt, None] = {}
         self.begun: Counter[Call] = Counter()
         self.effects: dict[tuple[int, int, str], str] = {}
-        """what the last call that succeeded returned"""
+        """the return value of the last call that succeeded"""
 
     # -- moves
 
     def play(self, most: int) -> None:
-        """Make so many moves, and then only those that lead to the end."""
+        """Make this many moves, and then only moves that lead to the end."""
         try:
             for count in itertools.count():
                 if not self.left and not self._is_open():
@@ -232,8 +234,8 @@ class World:
             moves.append((120, "end_one", self._end_one))
         if timed := self._timed():
             moves.append((30, "ring", lambda: self._ring(timed)))
-        if asked := self._asked():
-            moves.append((20, "answer", lambda: self._answer(asked)))
+        if open_attempts := self._open_attempts():
+            moves.append((20, "answer", lambda: self._answer(open_attempts)))
         if retried := [one for one in self._attempts() if exhaustion.may_retry(one)]:
             moves.append((3, "retry", lambda: self._retry(retried)))
         if not calm:
@@ -256,8 +258,9 @@ class World:
         move()
 
     def _look(self) -> None:
-        """If nothing is on its way, the sagas are as the reference model has them, and each of
-        their attempts is somewhere: it runs, waits or is about to be reported.
+        """Compare the sagas with the reference model, if nothing is in progress.
+
+        Each of their attempts must be running, waiting or about to be reported.
         """
         driver = self.driver
         is_quiet = driver.is_known and not (self.commits or driver.asked or driver.unwritten)
@@ -276,20 +279,24 @@ class World:
                 raise Wrong(f"nobody goes on with {attempt.row}, which is {attempt.state}")
         for number, saga in driver.sagas.items():
             state = self.store.follower.sagas[number]
-            told = {
+            committed = {
                 step
                 for step, word in enumerate(state.states)
                 if word in ("committed", "undoing", "fixed")
             }
             drains = state.phase in ("draining", "planning")
-            is_so = {*saga.results} == told, saga.aborted == state.aborted, saga.draining == drains
+            is_so = (
+                {*saga.results} == committed,
+                saga.aborted == state.aborted,
+                saga.draining == drains,
+            )
             if not all(is_so):
                 raise Wrong(f"{saga.key}: {is_so} {saga.results} {state}")
-            if any(saga.results[step] != self.effects[number, step, "run"] for step in told):
+            if any(saga.results[step] != self.effects[number, step, "run"] for step in committed):
                 raise Wrong(f"{saga.key}: another result than was returned")
 
     def _look_at_the_end(self) -> None:
-        """Nothing is left, and who asked was answered."""
+        """Check that nothing is left, and that each caller got its reply."""
         driver = self.driver
         left = (
             driver.sent,
@@ -313,10 +320,10 @@ class World:
 
     def _open(self) -> None:
         self.left -= 1
-        place = self.random.randrange(len(self.kinds))
+        index = self.random.randrange(len(self.kinds))
         deadline = self.random.choice((None,) * 17 + (0.0, self.now, self.now + 3600))
         saga = SagaInstance(
-            f"k{self.left}", "null", self.kinds[place], place, StartOptions(deadline=deadline)
+            f"k{self.left}", "null", self.kinds[index], index, StartOptions(deadline=deadline)
         )
         self.known[saga.key] = saga
         self.driver.open(saga)
@@ -334,7 +341,7 @@ class World:
         return Engine(self.paths, log)
 
     def _turn(self) -> None:
-        """Ask what is due; the engine may die before it answers, or between two answers."""
+        """Handle what is due; the engine may die before its reply, or between two replies."""
         driver = self.driver
         free = (
             self.random.choice((0, 1, 3, 1000))
@@ -345,14 +352,14 @@ class World:
         if not lines:
             return
         assert self.engine
-        found: Effects | list[str] = lines
-        while isinstance(found, list):
+        lines_or_effects: Effects | list[str] = lines
+        while isinstance(lines_or_effects, list):
             if self.random.random() < 0.005:
                 self._kill_engine()
                 return
-            found = driver.replies(*self.engine.ask(found), self.now)
-        driver.writes(found)
-        self._put(found)
+            lines_or_effects = driver.replies(*self.engine.ask(lines_or_effects), self.now)
+        driver.writes(lines_or_effects)
+        self._put(lines_or_effects)
 
     def _put(self, effects: Effects) -> None:
         if effects.batch:
@@ -368,18 +375,18 @@ class World:
         self._done(effects)
 
     def _refuse(self) -> None:
-        """A commit is refused, and those behind it with it."""
+        """Refuse a commit, and with it the later ones."""
         while self.commits:
             self.driver.failed(self.commits.popleft())
         self._lose_engine()
 
     def _lose_an_answer(self) -> None:
-        """A commit is made, and nobody hears of it; those behind it are not."""
+        """Make a commit whose reply is lost, and refuse the later ones."""
         self.store.commit(self.commits[0].batch)
         self._refuse()
 
     def _fall_back(self) -> None:
-        """Another server takes over, which lacks the newest transaction of a step."""
+        """Let another server take over, which has not got the newest transaction of a step."""
         row = self.store.newest
         assert row
         del self.store.attempts[row], self.effects[row[0] % SHARD_CAPACITY, row[1], row[2]]
@@ -397,19 +404,21 @@ class World:
         self.engine = None
 
     def _sleep(self) -> None:
-        """Another shard gets the engine, as nothing is on its way."""
+        """Let another shard use the engine, when nothing is in progress."""
         if not self.commits and not self.driver.is_due(True) and not self.driver.asked:
             self._lose_engine()
             self.driver.to(ShardState.IDLE)
 
     def _restart(self) -> None:
-        """The program is killed, and another one takes the shard up: what ran is forgotten."""
+        """Kill the program, and let another one take over the shard: running attempts are
+        forgotten.
+        """
         self._lose_engine()
         self.commits.clear()
         self.running.clear()
         self.aborts.clear()
         opened = {row[0] for row in self.store.sagas.values()}
-        self.left += sum(key not in opened for key in self.known)  # their starts are made once more
+        self.left += sum(key not in opened for key in self.known)  # their starts are repeated
         self.known = {key: saga for key, saga in self.known.items() if key in opened}
         spared = [int(key[1:]) for key in opened]
         self.left = min(self.left, min(spared, default=self.left))
@@ -421,35 +430,34 @@ class World:
         driver.to(ShardState.LOADING)
         driver.loaded(rows)
         over = {row[0] for row in self.store.sagas.values() if row[3] is not None}
-        for saga in [
-            one for one in driver.sent if one.key in over
-        ]:  # as the runtime looks for them
+        # as the runtime looks for them
+        for saga in [one for one in driver.sent if one.key in over]:
             del driver.sent[saga]
-        asked, new = recovery.unopened(driver, rows, self.known)
+        starting, new = recovery.unopened(driver, rows, self.known)
         self.engine = self._engine()
         overdue = recovery.overdue(rows, self.now)
         replies, text = self.engine.ask(recovery.requests(rows, overdue))
         before = {one for saga in driver.sagas.values() for one in saga.busy.values()} | {
             *driver.unkept()
         }
-        found = recovery.recover(
+        recovered = recovery.recover(
             rows, replies, self.now, driver, self.known, overdue=overdue, log_text=text
         )
-        for saga in found.restored:
+        for saga in recovered.restored:
             self.known[saga.key] = saga
-        for attempt in found.forgotten:
+        for attempt in recovered.forgotten:
             attempt.forget()
             self.running.pop(attempt, None)
         after = {one for saga in driver.sagas.values() for one in saga.busy.values()}
         if any(one.state is not FINISHED for one in before - after):
             raise Wrong("an attempt that is gone is not finished")
-        driver.writes(found.effects)
-        self._put(found.effects)
-        for attempt in found.resumed:
+        driver.writes(recovered.effects)
+        self._put(recovered.effects)
+        for attempt in recovered.resumed:
             self._do(attempt, self.machine.resume(attempt, self.now))
-        for saga in found.draining:
+        for saga in recovered.draining:
             self._drain(saga)
-        for saga in (*asked, *new):
+        for saga in (*starting, *new):
             driver.open(saga)
         self.is_recovered = True
 
@@ -483,9 +491,9 @@ class World:
             self.driver.report(attempt)
         elif decision.do is Do.REPORT:
             call = attempt.instance.number, attempt.step, attempt.kind, attempt.attempt
-            is_asked_first = attempt.declared.kind == "approval"
+            decides_itself = attempt.declared.kind == "approval"
             if attempt.outcome and not attempt.outcome.called and self.begun[call]:
-                if not is_asked_first:
+                if not decides_itself:
                     raise Wrong(f"{attempt.row} was called, and is reported as if it was not")
             self.driver.report(attempt)
         if decision.row:
@@ -498,7 +506,9 @@ class World:
         self._put(effects)
 
     def _call(self, attempt: Attempt) -> None:
-        """Its function begins: its event is durable, and what it needs is done."""
+        """Start the function of an attempt: its event is durable, and the steps that it needs are
+        done.
+        """
         saga, word = attempt.instance, "start_run" if attempt.kind == "run" else "start_undo"
         line = f'"event":"{word}","saga":{saga.number},"step":{attempt.step}}}'
         if self.store.text.count(line) < 1:
@@ -534,7 +544,10 @@ class World:
         self._do(attempt, self.machine.ended(attempt, outcome, self.now))
 
     def _commit_step(self, attempt: Attempt, value: str) -> bool:
-        """Commit what it did with its result. False where nobody hears whether that was done."""
+        """Commit an effect with its result.
+
+        Returns False if the outcome of the commit is unknown.
+        """
         drawn = self.random.random()
         if drawn < 0.95:
             self.store.record(attempt.row, value, self.now)
@@ -543,7 +556,7 @@ class World:
             attempt.recorded = True
             return True
         attempt.claim()
-        self._kill_engine()  # its shard is recovered, which tells
+        self._kill_engine()  # the recovery of its shard reports it
         return False
 
     def _outcome(self, attempt: Attempt) -> Outcome:
@@ -574,14 +587,14 @@ class World:
         attempt = min(attempts, key=lambda one: one.until or 0.0)
         assert attempt.until is not None
         self.now = max(self.now, attempt.until)
-        if attempt.pending is None:  # its timer is set once its row is there
+        if attempt.pending is None:  # its timer is set once its row exists
             self._do(attempt, self.machine.timer(attempt, self.now))
 
-    def _asked(self) -> list[Attempt]:
+    def _open_attempts(self) -> list[Attempt]:
         return [one for one in self._attempts() if is_asked(one)]
 
     def _answer(self, attempts: list[Attempt]) -> None:
-        """Somebody says how one ended."""
+        """Report the outcome of an attempt, as an operator does."""
         attempt = self.random.choice(attempts)
         outcome = self._outcome(attempt)
         if outcome.kind is outcomes.UNKNOWN:
@@ -591,7 +604,7 @@ class World:
         self._do(attempt, self.machine.finish(attempt, outcome, self.now))
 
     def _retry(self, attempts: list[Attempt]) -> None:
-        """Somebody has one attempted again."""
+        """Let an operator retry an attempt."""
         attempt = self.random.choice(attempts)
         self._do(attempt, exhaustion.retry(attempt, self.now))
 
@@ -602,29 +615,31 @@ class World:
     # -- the end
 
     def judge(self) -> None:
-        """The log is allowed, and all else is as it says."""
+        """Check that the log is allowed, and that everything else agrees with it."""
         log = self.folder / "log.jsonl"
         log.write_text(protocol.HEADER + self.store.text)
-        said = audit(log, self.paths)
-        if not said.startswith("yes"):
-            raise Wrong(f"sagas audit: {said}")
+        verdict = audit(log, self.paths)
+        if not verdict.startswith("yes"):
+            raise Wrong(f"sagas audit: {verdict}")
         follower = self.store.follower
         for id, (key, _, _, phase, end, _) in self.store.sagas.items():
-            state, told = follower.sagas[id % SHARD_CAPACITY], json.loads(end)
-            if (phase, told["states"], told["aborted"]) != (
+            state, outcome = follower.sagas[id % SHARD_CAPACITY], json.loads(end)
+            if (phase, outcome["states"], outcome["aborted"]) != (
                 state.phase,
                 state.states,
                 state.aborted,
             ):
                 raise Wrong(
-                    f"{key}: {phase} {told}, where the log says {state.phase} {state.states}"
+                    f"{key}: {phase} {outcome}, where the log says {state.phase} {state.states}"
                 )
         self._judge_rows()
 
     def _judge_rows(self) -> None:
         for (id, step, kind, number), (event, value, _) in self.store.attempts.items():
-            told = self.effects.get((id % SHARD_CAPACITY, step, kind))
-            if event == "ok" or (event in ("commit", "undone") and told != value):
-                raise Wrong(f"{(id, step, kind, number)}: {value} is kept, and {told} was returned")
+            returned = self.effects.get((id % SHARD_CAPACITY, step, kind))
+            if event == "ok" or (event in ("commit", "undone") and returned != value):
+                raise Wrong(
+                    f"{(id, step, kind, number)}: {value} is kept, and {returned} was returned"
+                )
         if self.store.suspensions:
             raise Wrong(f"rows of suspensions are left: {self.store.suspensions}")

@@ -11,7 +11,7 @@ NEVER = "never"
 
 @dataclass(frozen=True)
 class StepDraw:
-    """A step of a random definition; it needs steps before it alone."""
+    """A step of a random definition; it needs only steps before it."""
 
     name: str
     needs: tuple[int, ...]
@@ -24,14 +24,14 @@ class StepDraw:
 
 
 def prices(nevers: int) -> st.SearchStrategy[int | str]:
-    """Prices that are often equal, 0 or `never`."""
+    """Return costs that are often equal, 0 or `never`."""
     whole: st.SearchStrategy[int | str] = st.integers(0, 6)
     return st.one_of([whole] * (4 - nevers) + [st.just(NEVER)] * nevers)
 
 
 @st.composite
 def steps(draw: st.DrawFn, most: int = 5) -> list[StepDraw]:
-    """1 to `most` steps with needs among those before."""
+    """Return 1 to `most` steps, each of which may need earlier ones."""
     count = draw(st.integers(1, most))
     return [
         StepDraw(
@@ -51,7 +51,7 @@ def steps(draw: st.DrawFn, most: int = 5) -> list[StepDraw]:
 
 
 def toml(name: str, drawn: list[StepDraw]) -> str:
-    """The text of a definition."""
+    """Return the text of a definition."""
 
     def written(value: int | str) -> str:
         return f'"{value}"' if isinstance(value, str) else str(value)

@@ -1,4 +1,4 @@
-"""`sagas drive` as a plain child, for tests: one request, one reply."""
+"""`sagas drive` as a plain child process, for tests: one request, one reply."""
 
 from __future__ import annotations
 
@@ -14,7 +14,7 @@ Json = dict[str, Any]
 
 
 def program() -> str:
-    """The released program, or the one that SAGAS_PROGRAM names."""
+    """Return the released program, or the one that SAGAS_PROGRAM names."""
     here = pathlib.Path(__file__).resolve()
     return os.environ.get("SAGAS_PROGRAM") or str(here.parents[2] / "dist" / "sagas")
 
@@ -29,8 +29,8 @@ class Drive:
         for number, text in enumerate(texts):
             paths.append(folder / f"def-{number}.toml")
             paths[-1].write_text(text)
-        words = [program(), "drive", *(["--log", str(log)] if log else []), *map(str, paths)]
-        self.process = subprocess.Popen(words, stdin=subprocess.PIPE, stdout=subprocess.PIPE)
+        command = [program(), "drive", *(["--log", str(log)] if log else []), *map(str, paths)]
+        self.process = subprocess.Popen(command, stdin=subprocess.PIPE, stdout=subprocess.PIPE)
 
     def __enter__(self) -> Drive:
         return self
@@ -47,7 +47,7 @@ class Drive:
         self.process.wait(20)
 
     def ask(self, *requests: Json) -> list[Json]:
-        """Sends requests in one write and gives their replies."""
+        """Send requests in one write, and return the replies."""
         assert self.process.stdin and self.process.stdout
         self.process.stdin.write(
             "".join(json.dumps(request) + "\n" for request in requests).encode()
@@ -57,7 +57,7 @@ class Drive:
 
 
 def audit(log: pathlib.Path, paths: Sequence[pathlib.Path]) -> str:
-    """What `sagas audit` says of a log."""
-    words = [program(), "audit", str(log), *map(str, paths)]
-    done = subprocess.run(words, capture_output=True, text=True, check=False)
+    """Return the output of `sagas audit` for a log."""
+    command = [program(), "audit", str(log), *map(str, paths)]
+    done = subprocess.run(command, capture_output=True, text=True, check=False)
     return (done.stdout + done.stderr).strip()

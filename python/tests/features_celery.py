@@ -17,7 +17,7 @@ WORD = "SAGAS_FEATURES"
 
 
 def queue_of(settings: Settings) -> Any:
-    """The queue of a round; None if it has no Celery workers."""
+    """Return the queue of a round; None if it has no Celery workers."""
     if not settings.broker:
         return None
     app = celery.Celery("features", broker=settings.broker)

@@ -1,7 +1,7 @@
-"""Judges what a round of `kills_features.py` has left: the store, and the notes of the witness.
+"""The verifier of a round of `kills_features.py`: it compares the store with the witness's notes.
 
-Each fault begins with a name from `FAULTS`. The wrong variants of `features_wrong.py` are each
-found by one of them.
+Each fault begins with a name from `FAULTS`. Each wrong variant of `features_wrong.py` must be found
+by one of them.
 """
 
 from __future__ import annotations
@@ -46,15 +46,15 @@ FAULTS = stores.FAULTS | {
     "wrong-compensation": "a function of another definition was called, or of another step",
 }
 LATE = 3.0
-"""Seconds behind a deadline within which the store looks for it, also after a takeover."""
+"""Seconds after a deadline within which the store handles it, also after a takeover."""
 ROOT = re.compile(r"k(\d+)")
 AGAIN = re.compile(r":undo/\d+$")
-"""The end of the key of a saga that undoes a child once more: what is undone it leaves out."""
+"""The end of the key of a saga that undoes a child again; it leaves out what is already undone."""
 
 
 @dataclass
 class FeatureVerdict(Verdict):
-    """As `Verdict`, with the faults of features."""
+    """A `Verdict` with the faults of features."""
 
     def fault(self, name: str, text: object) -> None:
         """Note a fault by its name."""
@@ -64,7 +64,7 @@ class FeatureVerdict(Verdict):
 
 
 class FeatureJudge(stores.Judge):
-    """One round."""
+    """The verifier of one round."""
 
     def __init__(
         self, settings: Settings, notes: pathlib.Path, kills: Counter[str], is_exact: bool
@@ -73,11 +73,11 @@ class FeatureJudge(stores.Judge):
         self.verdict = FeatureVerdict()
         self.settings, self.kills, self.is_exact = settings, kills, is_exact
         self.options = set(settings.options)
-        self.found = FeatureStore(settings)
+        self.stored = FeatureStore(settings)
         self.calls: dict[str, list[Json]] = defaultdict(list)
         self.done: dict[str, list[Json]] = defaultdict(list)
-        for place, note in enumerate(self.notes):
-            note["place"] = place
+        for index, note in enumerate(self.notes):
+            note["index"] = index
             if note["what"] == "begin":
                 self.calls[note["idempotency_key"]].append(note)
             elif note["what"] == "effect":
@@ -90,16 +90,16 @@ class FeatureJudge(stores.Judge):
                 self.by_hand[where].append(note["value"])
 
     def verdict_of(self) -> FeatureVerdict:
-        """Look at everything."""
+        """Return the verdict of all checks."""
         if not self.settings.is_served:
-            said = stores.records.integrity(pathlib.Path(self.settings.direct))
-            if said != "ok":
-                self.verdict.fault("broken-file", said)
-        for key in self.found.undefined:
+            report = stores.records.integrity(pathlib.Path(self.settings.direct))
+            if report != "ok":
+                self.verdict.fault("broken-file", report)
+        for key in self.stored.undefined:
             self.verdict.fault("lost", f"the definition of {key}")
         for log in self.records.logs.values():
             if all(
-                row.place < len(log.texts)
+                row.definition_index < len(log.texts)
                 for row in self.records.sagas.values()
                 if row.log == log.log
             ):
@@ -107,12 +107,12 @@ class FeatureJudge(stores.Judge):
         self._archives()
         self._acknowledged()
         self._called()
-        for one in self.found.instances:
+        for one in self.stored.instances:
             self._effects(one)
             self._ordered(one)
             self._labels(one)
             self._deadline(one)
-            root = self.found.of(one.key.partition("/:")[0])
+            root = self.stored.of(one.key.partition("/:")[0])
             for step in one.steps if len(root) == 1 else []:  # its key was not free before
                 if one.declared[step] in CHILDREN and not AGAIN.search(one.key):
                     self._child(one, step)
@@ -128,17 +128,17 @@ class FeatureJudge(stores.Judge):
     def _archives(self) -> None:
         folder = pathlib.Path(self.settings.folder, "archive")
         for shard in sorted(folder.glob("[!.]*")) if folder.exists() else ():
-            said = audit(shard / "log", sorted(shard.glob("definition-*.toml")))
-            if not said.startswith("yes"):
-                self.verdict.fault("audit", f"{shard.name}: {said}")
+            result = audit(shard / "log", sorted(shard.glob("definition-*.toml")))
+            if not result.startswith("yes"):
+                self.verdict.fault("audit", f"{shard.name}: {result}")
 
-    # -- what callers and operators were told
+    # -- acknowledgements of callers and operators
 
     def _acknowledged(self) -> None:
         fault, aborts = self.verdict.fault, Counter[str]()
         for note in self.notes:
             what, key = note["what"], note.get("key", "")
-            sagas = self.found.of(key)
+            sagas = self.stored.of(key)
             if what in ("started", "over", "aborted", "early", "answered", "resolved"):
                 self.verdict.figures["acknowledged"] += 1
                 if not sagas:
@@ -157,7 +157,7 @@ class FeatureJudge(stores.Judge):
             elif what == "resolved" and not any(one.note for one in sagas):
                 fault("lost", note)
         for key, count in aborts.items():
-            if count > len(self.found.of(key)):
+            if count > len(self.stored.of(key)):
                 fault("aborted-twice", f"{key}: {count} callers")
         started = {note["key"] for note in self.of("started")}
         for number in range(self.settings.count):
@@ -172,23 +172,23 @@ class FeatureJudge(stores.Judge):
                 step: "undo_failed" if state == "fixed" else state
                 for step, state in one.states.items()
             }
-            if one.told in phases and states == note["states"]:
+            if one.seen_phase in phases and states == note["states"]:
                 break
         else:
-            told = [(one.told, one.states) for one in sagas]
-            self.verdict.fault("told-otherwise", f"{note}: kept is {told}")
+            seen = [(one.seen_phase, one.states) for one in sagas]
+            self.verdict.fault("told-otherwise", f"{note}: kept is {seen}")
         for step, value in note["results"].items():
             if not self._is_result(note["key"], step, value):
                 self.verdict.fault("handed", f"the end of {note['key']} has {value} of {step}")
 
     def _has_early(self, one: Instance, note: Json) -> bool:
-        """Whether a saga has a report, or never began the step."""
+        """Return whether a saga has a report, or never started the step."""
         step = note["step"]
         if step not in one.steps:
             return False
-        place = one.steps.index(step)
+        number = one.steps.index(step)
         is_begun = any(
-            event["event"] == "start_run" and event["step"] == place for _, event in one.events
+            event["event"] == "start_run" and event["step"] == number for _, event in one.events
         )
         if not is_begun:
             return True
@@ -200,7 +200,7 @@ class FeatureJudge(stores.Judge):
         return False
 
     def _has_answer(self, one: Instance, note: Json) -> bool:
-        """Whether a saga ended a step as an operator was told."""
+        """Return whether a saga ended a step with the outcome that an operator reported."""
         word, step = note["word"], note["step"]
         if step not in one.steps or word == "retry":
             return step in one.steps
@@ -212,10 +212,10 @@ class FeatureJudge(stores.Judge):
                     return True
         return False
 
-    # -- what functions were handed
+    # -- arguments of functions
 
     def _is_result(self, key: str, step: str, value: Any) -> bool:
-        """Whether a step of a saga has given this, or somebody has reported it."""
+        """Return whether a step of a saga returned this, or a caller has reported it."""
         name = step.rpartition("-")[2]
         if name in CHILDREN and isinstance(value, dict) and "phase" in value:
             below = f"{key}/:{name}"
@@ -233,7 +233,7 @@ class FeatureJudge(stores.Judge):
                 fault("tokens", f"{id} is of {notes}")
             for note in notes:
                 token = id.removesuffix(f"-{note['step']}-{note['kind']}")
-                one = self.found.by_token.get(token)
+                one = self.stored.by_token.get(token)
                 if one is None or one.key != note["key"] or not note["token"].startswith(f"{id}-"):
                     fault("tokens", f"no saga has the call {note}")
                     continue
@@ -249,7 +249,7 @@ class FeatureJudge(stores.Judge):
                         fault("handed", f"{id} was handed {note['result']} of itself")
 
     def _function(self, one: Instance, note: Json) -> None:
-        """Whether the function is that of the saga's own definition."""
+        """Check that the function is that of the saga's own definition."""
         saga, version, name, *undo = note["function"].split(".")
         declared = one.declared.get(note["step"], "")
         is_right = (
@@ -262,7 +262,7 @@ class FeatureJudge(stores.Judge):
             self.verdict.fault("wrong-compensation", f"{one.key} {note['step']}: {note}")
 
     def _given(self, note: Json) -> None:
-        """Whether the input and the item are those of the saga."""
+        """Check that the input and the item are those of the saga."""
         root, given = ROOT.match(note["key"]), note["input"]
         if not root:
             return
@@ -275,14 +275,14 @@ class FeatureJudge(stores.Judge):
             is_right = given == order_of(number)
         if not is_right:
             self.verdict.fault("input", note)
-        if found := re.fullmatch(r"send-(\d+)", note["step"]):
-            if note["item"] != order_of(number)["items"][int(found[1])]:
+        if sent := re.fullmatch(r"send-(\d+)", note["step"]):
+            if note["item"] != order_of(number)["items"][int(sent[1])]:
                 self.verdict.fault("item", note)
 
     # -- effects
 
     def _effects(self, one: Instance) -> None:
-        """Each effect is in a committed step, or was compensated; nothing else was."""
+        """Check each effect: it is of a committed step, or was compensated, and no other exists."""
         if one.is_undo:
             return
         for step in one.steps:
@@ -294,7 +294,7 @@ class FeatureJudge(stores.Judge):
             self._failures(one, step)
             tokens = {undo.token} if undo else set()
             key = one.key
-            for other in self.found.undoes.get(one.token, []):
+            for other in self.stored.undoes.get(one.token, []):
                 if by := other.good.get((step, "run")):
                     id = f"{one.token}-{step}-undo"
                     tokens.add(f"{id}-{by.token.rpartition('-')[2]}")
@@ -304,7 +304,7 @@ class FeatureJudge(stores.Judge):
             self.verdict.figures["undone"] += bool(tokens)
 
     def _failures(self, one: Instance, step: str) -> None:
-        """A failure is one that a function raised, or that an operator reported."""
+        """Check each failure: a function raised it, or an operator reported it."""
         begun = {note["token"] for kind in ("run", "undo") for note in self._of(one, step, kind)}
         for end in one.ends:
             if end.step != step or end.word in ("commit", "undone") or end.token in begun:
@@ -324,26 +324,26 @@ class FeatureJudge(stores.Judge):
             return
         had = {note["token"] for note in self.done.get(f"{one.token}-{step}-{kind}", [])}
         by_hand = self.by_hand.get((key, step, "run" if key != one.key else kind))
-        said = f"{one.key} {step} {kind}: {sorted(had)}, kept is {sorted(tokens)}"
+        text = f"{one.key} {step} {kind}: {sorted(had)}, kept is {sorted(tokens)}"
         if len(tokens) > 1:
-            fault("undone-twice", said)
+            fault("undone-twice", text)
         elif tokens and not tokens & had and not by_hand:
-            fault("no-effect", said)
+            fault("no-effect", text)
         elif had and not tokens:
-            fault("effect-lost", said)
+            fault("effect-lost", text)
         elif had - tokens and not by_hand:
-            fault("wrong-attempt", said)
+            fault("wrong-attempt", text)
 
     def _ordered(self, one: Instance) -> None:
-        """Steps begin behind what they need, and are undone before it."""
+        """Check that steps start after the steps that they need, and are undone before them."""
         first, last = dict[tuple[str, str], int](), dict[tuple[str, str], int]()
         for step in one.steps:
             for kind in ("run", "undo"):
                 id = f"{one.token}-{step}-{kind}"
                 if notes := self.calls.get(id):
-                    first[step, kind] = notes[0]["place"]
+                    first[step, kind] = notes[0]["index"]
                 if notes := self.done.get(id):
-                    last[step, kind] = notes[0]["place"]
+                    last[step, kind] = notes[0]["index"]
         for step, needs in one.needs.items():
             for need in needs:
                 begun, done = first.get((step, "run")), last.get((need, "run"))
@@ -356,43 +356,43 @@ class FeatureJudge(stores.Judge):
     # -- children
 
     def _child(self, one: Instance, step: str) -> None:
-        """The children of a step agree with its state."""
+        """Check that the children of a step agree with its state."""
         fault, state = self.verdict.fault, one.states.get(step)
         key = f"{one.key}/:{step}"
         pattern = re.compile(re.escape(key) + r"(/\d+)?")
         below = [
             other
-            for name, sagas in self.found.by_key.items()
+            for name, sagas in self.stored.by_key.items()
             if pattern.fullmatch(name)
             for other in sagas
         ]
-        completed = [other for other in below if other.told == "completed"]
+        completed = [other for other in below if other.seen_phase == "completed"]
         again = re.compile(re.escape(key) + r":undo(/\d+)?")
-        found = self.found.by_key.items()
-        undone = [other for name, some in found if again.fullmatch(name) for other in some]
+        named = self.stored.by_key.items()
+        undone = [other for name, some in named if again.fullmatch(name) for other in some]
         is_by_hand = bool(self.by_hand.get((one.key, step, "undo")))
-        said = f"{one.key} {step} is {state}, and its child {[other.told for other in below]}"
+        text = f"{one.key} {step} is {state}, and its child {[other.seen_phase for other in below]}"
         self.verdict.figures["children"] += len(below)
         if state in ("committed", "undone", "fixed") and not completed:
-            fault("child", said)
+            fault("child", text)
         elif state in ("failed", "waiting") and completed:
-            fault("child", said)
+            fault("child", text)
         elif state == "undone" and not is_by_hand:
-            if not any(other.told == "completed" for other in undone):
-                fault("child", f"{said}, undone by {[other.told for other in undone]}")
+            if not any(other.seen_phase == "completed" for other in undone):
+                fault("child", f"{text}, undone by {[other.seen_phase for other in undone]}")
             for other in completed:
-                self._undone(other, f"{said}: not undone")
+                self._undone(other, f"{text}: not undone")
         elif state in ("committed", "failed", "waiting") and undone:
-            fault("child", f"{said}, and it was undone")
+            fault("child", f"{text}, and it was undone")
 
-    def _undone(self, one: Instance, said: str) -> None:
-        """Each committed step of a completed child was undone."""
-        by = self.found.undoes.get(one.token, [])
+    def _undone(self, one: Instance, text: str) -> None:
+        """Check that each committed step of a completed child was undone."""
+        by = self.stored.undoes.get(one.token, [])
         for step in one.steps:
             if (step, "run") not in one.good or one.declared[step] in NOT_UNDONE:
                 continue
             if not any((step, "run") in other.good for other in by):
-                self.verdict.fault("child", f"{said} is {one.key} {step}")
+                self.verdict.fault("child", f"{text} is {one.key} {step}")
 
     # -- the other features
 
@@ -418,7 +418,9 @@ class FeatureJudge(stores.Judge):
         self.verdict.figures["overdue"] += bool(one.end and one.end["aborted"])
 
     def _limits(self) -> None:
-        """Calls that run at once: in a program, and over all nodes where that is exact."""
+        """Check the calls that ran at once: in a program, and over all nodes if the limit
+        is exact.
+        """
         if "concurrency_by" not in self.options:
             return
         inside: dict[tuple[Any, ...], set[str]] = defaultdict(set)
@@ -454,18 +456,18 @@ class FeatureJudge(stores.Judge):
                     self.verdict.fault("context", note)
 
     def _scheduled(self) -> None:
-        rows = self.found.rows("SELECT name, next_at FROM schedules")
+        rows = self.stored.rows("SELECT name, next_at FROM schedules")
         acknowledged = [note["at"] for note in self.of("scheduled")]
         if acknowledged and not rows:
             self.verdict.fault("lost", "the schedule")
         for name, next_at in rows if acknowledged else []:
-            keys = [key for key in self.found.by_key if key.startswith(f"{name}@")]
+            keys = [key for key in self.stored.by_key if key.startswith(f"{name}@")]
             times = {_seconds(key) for key in keys if "/:" not in key}
             wanted = range(int(min(acknowledged)) + 2, int(next_at))
             if missed := [at for at in wanted if at not in times]:
                 self.verdict.fault("schedule", f"{name}: no sagas of {missed}")
             for key in keys:
-                if len(self.found.of(key)) > 1 and "retention" not in self.options:
+                if len(self.stored.of(key)) > 1 and "retention" not in self.options:
                     self.verdict.fault("schedule", f"{key} has two sagas")
             self.verdict.figures["scheduled"] += len(times)
 
@@ -473,15 +475,15 @@ class FeatureJudge(stores.Judge):
         if "webhooks" not in self.options:
             return
         posted = {(note["key"], note["type"]) for note in self.of("posted")}
-        for one in self.found.instances:
-            if (one.key, f"saga.{one.told}") not in posted:
-                self.verdict.fault("webhook-lost", f"{one.key} {one.told}")
+        for one in self.stored.instances:
+            if (one.key, f"saga.{one.seen_phase}") not in posted:
+                self.verdict.fault("webhook-lost", f"{one.key} {one.seen_phase}")
         self.verdict.figures["posts"] += len(posted)
 
     def _values(self) -> None:
-        for key in self.found.values.lost:
+        for key in self.stored.values.lost:
             self.verdict.fault("blob-lost", key)
-        self.verdict.figures["blobs"] += len(self.found.values.blobs)
+        self.verdict.figures["blobs"] += len(self.stored.values.blobs)
         if "codec" not in self.options:
             return
         for where, text in self._texts():
@@ -491,25 +493,25 @@ class FeatureJudge(stores.Judge):
                 )
 
     def _texts(self) -> Iterator[tuple[str, str]]:
-        """All that the store has."""
+        """Return all stored texts."""
         if self.settings.is_served:
-            tables = self.found.rows("SELECT tablename FROM pg_tables WHERE schemaname = 'sagas'")
+            tables = self.stored.rows("SELECT tablename FROM pg_tables WHERE schemaname = 'sagas'")
             for (table,) in tables:
-                for (row,) in self.found.rows(f"SELECT t::text FROM sagas.{table} t"):
+                for (row,) in self.stored.rows(f"SELECT t::text FROM sagas.{table} t"):
                     yield table, row
         folder = pathlib.Path(self.settings.folder)
         names: Iterable[str] = ("store.db*", "archive/*/*", "blobs/**/*")
         for path in (path for name in names for path in folder.glob(name) if path.is_file()):
             yield path.name, path.read_bytes().decode("latin-1")
-        for key, data in self.found.values.blobs.items():
+        for key, data in self.stored.values.blobs.items():
             yield key, data.decode("latin-1")
 
     def _count(self) -> None:
-        figures, sagas = self.verdict.figures, self.found.instances
+        figures, sagas = self.verdict.figures, self.stored.instances
         figures["sagas"] = len(sagas)
         figures["archived"] = sum(one.is_archived for one in sagas)
         for one in sagas:
-            figures[one.told] += 1
+            figures[one.seen_phase] += 1
         figures["calls"] = sum(map(len, self.calls.values()))
         figures["effects"] = len(self.done)
         figures["effects again"] = sum(len(notes) - 1 for notes in self.done.values())
@@ -518,7 +520,7 @@ class FeatureJudge(stores.Judge):
 
 
 def _seconds(key: str) -> int:
-    """The time of a key of a schedule."""
+    """Return the time of a key of a schedule."""
     import datetime
 
     text = key.partition("@")[2].replace("Z", "+00:00")

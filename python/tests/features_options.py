@@ -1,6 +1,6 @@
-"""Which features a round of `kills_features.py` has together.
+"""The features that a round of `kills_features.py` combines.
 
-Each block of twenty seeds has rounds in which every feature meets every other one at least once.
+Each block of twenty seeds has rounds in which each pair of features occurs.
 """
 
 from __future__ import annotations
@@ -31,9 +31,9 @@ OPTIONS = (
     "celery",
 )
 SERVED = ("celery",)
-"""Drawn over PostgreSQL alone."""
+"""Drawn over PostgreSQL only."""
 APART = {frozenset(("celery", "codec")), frozenset(("celery", "blobs"))}
-"""What a store refuses together."""
+"""Combinations that a store refuses."""
 EACH, BLOCK = 6, 20
 """Features of a round, and rounds of a block."""
 STORES = ("sqlite", "postgresql")
@@ -41,17 +41,17 @@ Pair = frozenset[str]
 
 
 def options_over(store: str) -> list[str]:
-    """The features that a round over this database may have."""
+    """Return the features that a round over this database may have."""
     return [one for one in OPTIONS if store == "postgresql" or one not in SERVED]
 
 
 def pairs_of(options: Iterable[str]) -> set[Pair]:
-    """The pairs of some features that a store can have together."""
+    """Return the pairs of some features that a store can have together."""
     return {frozenset(pair) for pair in itertools.combinations(options, 2)} - APART
 
 
 def _row(options: list[str], left: set[Pair], draw: random.Random) -> list[str]:
-    """Features of which each adds as many pairs that are left as possible."""
+    """Return features that cover as many of the remaining pairs as possible."""
     chosen: list[str] = []
     while len(chosen) < EACH:
         free = [
@@ -73,7 +73,7 @@ def _row(options: list[str], left: set[Pair], draw: random.Random) -> list[str]:
 
 @functools.cache
 def block(store: str, number: int) -> tuple[tuple[str, ...], ...]:
-    """The rounds of a block, which have all pairs among them."""
+    """Return the rounds of a block, which cover all pairs."""
     draw, options = random.Random(f"{store} {number}"), options_over(store)
     while True:
         left, rows = pairs_of(options), list[tuple[str, ...]]()
@@ -87,5 +87,5 @@ def block(store: str, number: int) -> tuple[tuple[str, ...], ...]:
 
 
 def options_of(store: str, seed: int) -> tuple[str, ...]:
-    """The features of the round of a seed."""
+    """Return the features of the round of a seed."""
     return block(store, seed // BLOCK)[seed % BLOCK]

@@ -1,13 +1,13 @@
 """The sagas of a round of `kills_features.py`, as two releases of a program declare them.
 
-Each call of a function is noted by a witness outside: that it begins, that it has its effect, and
-that it ends. Whether an attempt fails is drawn from the key, the step and the attempt alone.
+A witness outside notes each call of a function: its start, its effect and its end. Whether an
+attempt fails is drawn from the key, the step and the attempt only.
 
-The second release differs as the round says:
+The second release differs as the round's options say:
 
-- `added`: `main` and its child have one step more;
-- `renamed`: both have a version 2 with a step of another name, next to version 1;
-- `typed`: the input and the result of a step have a field more, with a default.
+- `added`: `main` and its child have one more step.
+- `renamed`: both have a version 2 with a step of another name, next to version 1.
+- `typed`: the input and the result of a step have one more field, with a default.
 """
 
 from __future__ import annotations
@@ -33,17 +33,17 @@ DEPLOYS = ("added", "renamed", "typed")
 LARGE = 700
 """Characters of a large result, which is over the threshold of blobs."""
 MARK = "plainly-readable"
-"""Part of each input, so that it is found where no codec encoded it."""
+"""A part of each input, so that a search finds it wherever no codec encoded it."""
 SHORT, LONG = 0.3, 6.0
-"""Seconds for which sagas wait whose deadline is late, and of those whose deadline is soon."""
+"""Seconds that sagas wait whose deadline is late, and of those whose deadline is soon."""
 MOST_MOVES = 1
-"""Calls of `move` at once for an account in a program; over all nodes one more."""
+"""Concurrent calls of `move` for an account in a program; over all nodes one more."""
 EXTERNAL = [("main", "far", "run"), ("main", "far", "undo")]
 
 
 @dataclasses.dataclass(frozen=True)
 class Settings:
-    """A round, as its programs read it from a file."""
+    """The settings of a round, as its programs read them from a file."""
 
     options: list[str]
     store: str
@@ -61,16 +61,16 @@ class Settings:
 
     @classmethod
     def read(cls, path: str | os.PathLike[str]) -> Settings:
-        """What a file says."""
+        """Read the settings from a file."""
         return cls(**json.loads(pathlib.Path(path).read_text()))
 
     def write(self, path: pathlib.Path) -> None:
-        """Write it for a program."""
+        """Write the settings for a program."""
         path.write_text(json.dumps(dataclasses.asdict(self)))
 
     @property
     def is_served(self) -> bool:
-        """Whether it is over PostgreSQL."""
+        """Return whether the round is over PostgreSQL."""
         return self.store.startswith("postgresql:")
 
 
@@ -106,12 +106,12 @@ class LaterBox(Box):
 
 
 class Scramble:
-    """A codec that nobody should use: it only makes texts unreadable."""
+    """A codec for tests only: it makes texts unreadable."""
 
     TABLE = bytes(byte ^ 0x5A for byte in range(256))
 
     def encode(self, data: bytes) -> bytes:
-        """Return what is stored."""
+        """Return the stored form."""
         return b"k1:" + data.translate(self.TABLE)
 
     def decode(self, data: bytes) -> bytes:
@@ -120,18 +120,18 @@ class Scramble:
 
 
 def order_of(number: int) -> dict[str, Any]:
-    """The input of a saga."""
-    items = [f"{MARK} {number} {place}" for place in range(number % 4)]
+    """Return the input of a saga."""
+    items = [f"{MARK} {number} {index}" for index in range(number % 4)]
     return {"i": number, "account": f"a{number % 3}", "items": items, "mark": f"{MARK} {number}"}
 
 
 def of(input: Any, name: str) -> Any:
-    """A field of an input, as JSON has it or as it is typed."""
+    """Return a field of an input, as JSON has it or as it is typed."""
     return input[name] if isinstance(input, dict) else getattr(input, name)
 
 
 def result_of(key: str, step: str) -> Any:
-    """The result that a step of a saga gives."""
+    """Return the result of a step of a saga."""
     draw = chance(f"{key}/{step}/result")
     if step == "pack":
         return {"of": [key, step]}
@@ -141,12 +141,12 @@ def result_of(key: str, step: str) -> Any:
 
 
 def labels_of(number: int) -> dict[str, str]:
-    """The labels of a saga."""
+    """Return the labels of a saga."""
     return {"lot": str(number % 3), "round": "features"}
 
 
 class Shop:
-    """The sagas of one release, over a witness that each process has its own line to."""
+    """The sagas of one release, over a witness to which each process has its own connection."""
 
     def __init__(self, settings: Settings, release: int, queue: Any = None) -> None:
         self.settings, self.release, self.queue = settings, release, queue
@@ -164,20 +164,20 @@ class Shop:
             self.post = self._post()
 
     def has(self, option: str) -> bool:
-        """Whether the round has a feature."""
+        """Return whether the round has a feature."""
         return option in self.options
 
-    # -- what the witness is told
+    # -- notes for the witness
 
     def note(self, **what: Any) -> None:
-        """Tell the witness."""
+        """Report a note to the witness."""
         with self._lock:
             if self._line is None or self._line[0] != os.getpid():
                 self._line = os.getpid(), Witness(self.settings.socket)
         self._line[1].note(at=time.time(), pid=os.getpid(), **what)
 
     def _begins(self, task: Any, function: str) -> dict[str, Any]:
-        said = {
+        call = {
             "key": task.key,
             "step": task.step,
             "kind": "undo" if task.is_compensation else "run",
@@ -190,48 +190,50 @@ class Shop:
             more["item"] = task.item
         if self.has("context") and not function.startswith("post") and ".far" not in function:
             more["context"] = task.context.id
-        if ".move" in function and said["kind"] == "run":
+        if ".move" in function and call["kind"] == "run":
             more["limited"] = of(task.input, "account")
         results = {
             name: plain(value)
             for name, value in World.handed(None, task)["results"].items()  # type: ignore[arg-type]
         }
-        if said["kind"] == "undo":
+        if call["kind"] == "undo":
             more |= {"of": task.original_idempotency_key, "result": plain(task.result)}
-        self.note(what="begin", function=function, results=results, **more, **said)
-        return said
+        self.note(what="begin", function=function, results=results, **more, **call)
+        return call
 
     async def act(self, task: Any, function: str, failing: float, unknown: float) -> Any:
-        """A call: it begins, fails or has its effect, and perhaps does not hear of it."""
-        said = self._begins(task, function)
+        """Make a call: it starts, fails or has its effect, and its outcome may be unknown."""
+        call = self._begins(task, function)
         try:
             await asyncio.sleep(random.uniform(0.0, 0.01))
-            return self._does(task, said, failing, unknown)
+            return self._does(task, call, failing, unknown)
         finally:
-            self.note(what="end", **said)
+            self.note(what="end", **call)
 
     def act_in_thread(self, task: Any, function: str, failing: float, unknown: float) -> Any:
-        """The same of a plain function."""
-        said = self._begins(task, function)
+        """Make a call of a plain function."""
+        call = self._begins(task, function)
         try:
             time.sleep(random.uniform(0.0, 0.01))
-            return self._does(task, said, failing, unknown)
+            return self._does(task, call, failing, unknown)
         finally:
-            self.note(what="end", **said)
+            self.note(what="end", **call)
 
-    def _does(self, task: Any, said: dict[str, Any], failing: float, unknown: float) -> Any:
-        name = f"{task.key}/{task.step}/{said['kind']}/{task.attempt}"
+    def _does(self, task: Any, call: dict[str, Any], failing: float, unknown: float) -> Any:
+        name = f"{task.key}/{task.step}/{call['kind']}/{task.attempt}"
         if task.declared_step == "ask":
-            self._fails_at_first(task, said["kind"])
+            self._fails_at_first(task, call["kind"])
         elif chance(name) < failing:
             raise sagas.Fail("for good") if chance(name) < failing / 4 else ValueError("fails")
-        self.note(what="effect", **said)
+        self.note(what="effect", **call)
         if random.random() < unknown:
             raise ConnectionError("nobody knows")
         return result_of(task.key, task.step)
 
     def _fails_at_first(self, task: Any, kind: str) -> None:
-        """Some calls fail before the first that has an effect, and none behind it."""
+        """Return whether this call fails; calls fail only before the first one that has
+        an effect.
+        """
         path = pathlib.Path(self.settings.folder, "fails", task.idempotency_key)
         calls = path.stat().st_size if path.exists() else 0
         if calls < int(chance(f"{task.key}/{kind}/calls") * 6):
@@ -276,7 +278,7 @@ class Shop:
         return call_in_thread
 
     def _hotel(self, version: int, like: int) -> sagas.Saga:
-        """The child: two steps, and a child of its own."""
+        """Return the child: two steps, and its own child."""
         hotel, spa = sagas.Saga("hotel", version=version), sagas.Saga("spa", version=version)
         self.step(spa, "bath", tries=2)
         first = self.step(hotel, "suite" if version == 2 else "room", tries=2)
@@ -288,7 +290,7 @@ class Shop:
         return hotel
 
     def _included(self, version: int) -> sagas.Saga:
-        """The saga that is included, with another one for each item."""
+        """Return the saga that is included, with another one for each item."""
         crate, lid = sagas.Saga("crate", version=version), sagas.Saga("lid", version=version)
         self.step(lid, "close")
         fold = self.step(crate, "fold")
@@ -296,7 +298,7 @@ class Shop:
         return crate
 
     def _main(self, version: int, like: int) -> sagas.Saga:
-        """The saga with the features of the round."""
+        """Return the saga with the features of the round."""
         has, is_later = self.has, like == 2 and self.settings.deploy == "typed"
         kind, box = (LaterOrder, LaterBox) if is_later else (Order, Box)
         fair = {"fair_by": lambda input: input["account"]} if has("fair_by") else {}
@@ -358,7 +360,7 @@ class Shop:
         return main
 
     def _pack(self, main: sagas.Saga, kind: type, box: type, hold: Any) -> Any:
-        """A step whose input and result have types."""
+        """Declare a step whose input and result have types."""
         function = f"main.{main.version}.pack"
 
         async def pack(task: Any) -> Any:
@@ -376,25 +378,25 @@ class Shop:
         return declared
 
     def _tick(self) -> sagas.Saga:
-        """The saga of the schedule."""
+        """Return the saga of the schedule."""
         tick = sagas.Saga("tick")
         toll = self.step(tick, "toll", tries=2)
         self.step(tick, "bell", needs=[toll], failing=0.2)
         return tick
 
     def _post(self) -> sagas.Saga:
-        """A saga of which Celery workers do two steps."""
+        """Return a saga of which Celery workers do two steps."""
         post = sagas.Saga("post")
-        words: dict[str, Any] = {"queue": self.queue, "timeout": 4.0}
-        stamp = self.step(post, "stamp", tries=2, **words)
+        options: dict[str, Any] = {"queue": self.queue, "timeout": 4.0}
+        stamp = self.step(post, "stamp", tries=2, **options)
         bag = self.step(post, "bag", needs=[stamp])
-        self.step(post, "carry", needs=[bag], failing=0.3, **words)
+        self.step(post, "carry", needs=[bag], failing=0.3, **options)
         self.sagas.append(post)
         return post
 
 
 def is_short(number: int) -> bool:
-    """Whether a saga has a deadline that is soon."""
+    """Return whether a saga has a deadline that is soon."""
     return number % 3 == 1
 
 
@@ -403,7 +405,7 @@ def _pause(task: Any) -> datetime.timedelta:
 
 
 def plain(value: Any) -> Any:
-    """A value as JSON has it, without what a later release adds."""
+    """Return a value as JSON has it, without the fields of a later release."""
     if dataclasses.is_dataclass(value) and not isinstance(value, type):
         value = dataclasses.asdict(value)
     if isinstance(value, dict):

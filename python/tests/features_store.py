@@ -1,5 +1,6 @@
-"""What the store of a round of `kills_features.py` holds, and its archives, read without the
-package: each saga with its definition, its values and its part of the log.
+"""The store of a round of `kills_features.py` and its archives, read without the package.
+
+It returns each saga with its definition, its values and its part of the log.
 """
 
 from __future__ import annotations
@@ -34,7 +35,7 @@ GOOD = ("commit", "undone")
 
 
 def rows_of(url: str, query: str) -> list[tuple[Any, ...]]:
-    """The rows of a query; or a change, and nothing."""
+    """Return the rows of a query; execute a change."""
     if url.startswith("postgresql:"):
         with psycopg.connect(url, options="-csearch_path=sagas", autocommit=True) as link:
             cursor = link.execute(query)  # type: ignore[arg-type]
@@ -45,7 +46,7 @@ def rows_of(url: str, query: str) -> list[tuple[Any, ...]]:
 
 @dataclass
 class Instance:
-    """A saga. Its key may have been free again, and have another one, too."""
+    """A saga. Its key may have become free again, and be another saga's, too."""
 
     log: LogRows
     number: int
@@ -65,11 +66,11 @@ class Instance:
 
     def __post_init__(self) -> None:
         self.token = f"{self.log.name}-{self.number}"
-        told = tomllib.loads(self.text)["step"]
-        self.steps = [step["name"] for step in told]
-        self.needs = {step["name"]: step.get("needs", []) for step in told}
-        found = STEP.findall(self.text[self.text.index("[[step]]") :])
-        self.declared = {name: re.sub(r"\[\d+\]", "", of) or name for name, of in found}
+        tables = tomllib.loads(self.text)["step"]
+        self.steps = [step["name"] for step in tables]
+        self.needs = {step["name"]: step.get("needs", []) for step in tables}
+        headers = STEP.findall(self.text[self.text.index("[[step]]") :])
+        self.declared = {name: re.sub(r"\[\d+\]", "", of) or name for name, of in headers}
         version = VERSION.search(self.text)
         self.version = int(version[1]) if version else 1
         self.ends: list[Event] = list(ends_of(self.log, self.steps, self.number))
@@ -77,17 +78,17 @@ class Instance:
 
     @property
     def states(self) -> dict[str, str]:
-        """The state of each step at its end."""
+        """Return the state of each step at its end."""
         return dict(zip(self.steps, self.end["states"])) if self.end else {}
 
     @property
     def is_undo(self) -> bool:
-        """Whether it undoes a child."""
+        """Return whether the saga undoes a child."""
         return self.saga.endswith("-undo")
 
     @property
-    def told(self) -> str:
-        """The phase that callers are told, before anybody resolves it."""
+    def seen_phase(self) -> str:
+        """Return the phase that callers see until an operator resolves the saga."""
         if self.phase == "stuck":
             return "stuck"
         is_planned = self.end and (self.end["answer"] or {}).get("kind") == "plan"
@@ -95,7 +96,7 @@ class Instance:
 
 
 class Values:
-    """Reads stored values."""
+    """A reader of stored values."""
 
     def __init__(self, settings: Settings) -> None:
         self.settings, self.codec = settings, Scramble()
@@ -116,7 +117,7 @@ class Values:
                 }
 
     def read(self, value: Any) -> Any:
-        """A value as it was before it was stored."""
+        """Return a value in its form before the store encoded it."""
         if isinstance(value, dict) and "$blob" in value:
             data = self.blobs.get(value["$blob"])
             if data is None:
@@ -131,7 +132,7 @@ class Values:
 
 
 class FeatureStore:
-    """All sagas of a round, those of its archives, too."""
+    """All sagas of a round, including those of its archives."""
 
     def __init__(self, settings: Settings) -> None:
         self.settings, self.values = settings, Values(settings)
@@ -148,8 +149,10 @@ class FeatureStore:
                 self.undoes.setdefault(token, []).append(one)
 
     def _undone_by(self, one: Instance) -> list[str]:
-        """The tokens of the children that a saga undoes: by its input; or by its key, if that is in
-        an archive and was in the blob store.
+        """Return the tokens of the children that a saga undoes.
+
+        They are in its input. If the input was in the blob store and the saga is in an archive,
+        they are found by its key.
         """
         if isinstance(one.input, dict) and "token" in one.input:
             return [one.input["token"]]
@@ -157,36 +160,36 @@ class FeatureStore:
         return [other.token for other in self.of(child)]
 
     def of(self, key: str) -> list[Instance]:
-        """The sagas that have, or had, a key."""
+        """Return the sagas that have, or had, a key."""
         return self.by_key.get(key, [])
 
     def rows(self, query: str) -> list[tuple[Any, ...]]:
-        """The rows of a query."""
+        """Return the rows of a query."""
         return rows_of(self.settings.direct, query)
 
     def _stored(self) -> Iterator[Instance]:
-        found, more = self.records, dict[int, tuple[float | None, str | None]]()
+        stored, more = self.records, dict[int, tuple[float | None, str | None]]()
         for id, deadline, note in self.rows("SELECT id, deadline, note FROM sagas"):
             more[id] = deadline, note
         labels: dict[int, dict[str, str]] = {}
         for id, name, value in self.rows("SELECT id, name, value FROM labels"):
             labels.setdefault(id, {})[name] = value
         values: dict[int, list[tuple[int, str, int, str, Any]]] = {}
-        for (id, step, kind, number), outcome in found.results.items():
+        for (id, step, kind, number), outcome in stored.results.items():
             values.setdefault(id, []).append((step, kind, number, outcome.outcome, outcome.value))
         times: dict[int, dict[int, list[tuple[float | None, Json]]]] = {}
         query = "SELECT shard, committed_at, text FROM event_log ORDER BY shard, first_seq"
         for shard, at, text in self.rows(query):
             for event in map(json.loads, text.splitlines()):
                 times.setdefault(shard, {}).setdefault(event["saga"], []).append((at, event))
-        names = {log: self._texts(rows) for log, rows in found.logs.items()}
-        for row in found.sagas.values():
-            log = found.logs[row.log]
-            if row.place >= len(log.texts):
+        names = {log: self._texts(rows) for log, rows in stored.logs.items()}
+        for row in stored.sagas.values():
+            log = stored.logs[row.log]
+            if row.definition_index >= len(log.texts):
                 self.undefined.append(row.key)
                 continue
-            text = log.texts[row.place]
-            saga, steps = names[row.log][row.place]
+            text = log.texts[row.definition_index]
+            saga, steps = names[row.log][row.definition_index]
             deadline, note = more.get(row.id, (None, None))
             outcomes = {
                 (steps[step], kind, number): (event, self.values.read(value))
@@ -210,9 +213,9 @@ class FeatureStore:
 
     @staticmethod
     def _texts(log: LogRows) -> list[tuple[str, list[str]]]:
-        """The name of the saga of each definition, and its steps."""
-        told = [tomllib.loads(text) for text in log.texts]
-        return [(one["name"], [step["name"] for step in one["step"]]) for one in told]
+        """Return the name of the saga of each definition, and its steps."""
+        tables = [tomllib.loads(text) for text in log.texts]
+        return [(one["name"], [step["name"] for step in one["step"]]) for one in tables]
 
     def _archived(self) -> Iterator[Instance]:
         there = {log.name for log in self.records.logs.values()}
@@ -226,35 +229,35 @@ class FeatureStore:
             for line in (folder / "sagas.jsonl").read_text().splitlines():
                 yield self._archived_saga(log, json.loads(line))
 
-    def _archived_saga(self, log: LogRows, told: Json) -> Instance:
+    def _archived_saga(self, log: LogRows, entry: Json) -> Instance:
         values = {
             (one["step"], one["kind"], one["attempt"]): (one["outcome"], one["value"])
-            for one in told["results"]
+            for one in entry["results"]
         }
-        text = log.texts[told["definition"]]
+        text = log.texts[entry["definition"]]
         steps = [step["name"] for step in tomllib.loads(text)["step"]]
-        phase = "stuck" if told["phase"] == "stuck" else "ended"
-        if told["phase"] == "resolved":
-            is_planned = (told["end"]["answer"] or {}).get("kind") == "plan"
+        phase = "stuck" if entry["phase"] == "stuck" else "ended"
+        if entry["phase"] == "resolved":
+            is_planned = (entry["end"]["answer"] or {}).get("kind") == "plan"
             phase = "ended" if is_planned else "stuck"
         is_whole = "blobs" not in self.settings.options
         read = self.values.read if is_whole else (lambda value: value)
         return Instance(
             log,
-            told["number"],
-            told["key"],
-            told["saga"],
+            entry["number"],
+            entry["key"],
+            entry["saga"],
             text,
-            read(told["input"]),
+            read(entry["input"]),
             phase,
-            told["end"],
-            told["note"],
-            told["labels"],
+            entry["end"],
+            entry["note"],
+            entry["labels"],
             None,
             {
                 (steps[step], *rest): (event, read(value))
                 for (step, *rest), (event, value) in values.items()
             },
             is_archived=True,
-            events=[(None, event) for event in log.events if event["saga"] == told["number"]],
+            events=[(None, event) for event in log.events if event["saga"] == entry["number"]],
         )

@@ -2,9 +2,9 @@
 
     python3 tests/features_world.py SETTINGS NODE RELEASE
 
-It prints `open`, then `done` once its callers were told of the ends of all sagas. SIGTERM closes
-it. What it is told it tells the witness. A file `quiet` beside the settings says that nothing is
-struck any more: then the operator also reports what nobody else does.
+It prints `open`, and then `done` once its callers have the results of all sagas. SIGTERM closes it.
+It reports each reply that it gets to the witness. A file `quiet` next to the settings says that the
+strikes are over: then the operator also reports the steps that nothing else reports.
 """
 
 from __future__ import annotations
@@ -50,26 +50,26 @@ EVERY = datetime.timedelta(seconds=1)
 RETENTION = datetime.timedelta(seconds=1.5)
 WORKER_LEASE = 1.0
 LATER = (sagas.TemporaryError, sagas.OwnerUnavailable)
-"""What is asked again."""
+"""The errors after which a call is repeated."""
 
 
 class Node:
-    """One program: its store, and all that it does with it."""
+    """One program: its store, and all its work with it."""
 
     def __init__(self, settings: Settings, name: str, release: int) -> None:
         self.settings, self.name = settings, name
         self.shop = Shop(settings, release, features_celery.queue_of(settings))
         self.has, self.note = self.shop.has, self.shop.note
         self.store = self._store()
-        self.told = self._told_before()
+        self.finished = self._finished_before()
 
     @property
     def is_quiet(self) -> bool:
-        """Whether nothing is struck any more."""
+        """Return whether the strikes are over."""
         return pathlib.Path(self.settings.folder, "quiet").exists()
 
-    def _told_before(self) -> set[str]:
-        """The sagas of whose ends this node was told: retention may have freed their keys."""
+    def _finished_before(self) -> set[str]:
+        """Return the sagas whose results this node got: retention may have freed their keys."""
         notes = pathlib.Path(self.settings.folder, "notes")
         lines = notes.read_bytes().splitlines() if notes.exists() else []
         over = (note for note in map(json.loads, lines) if note["what"] == "over")
@@ -78,21 +78,21 @@ class Node:
     # -- opened
 
     def _store(self) -> sagas.Store:
-        settings, has, words = self.settings, self.has, dict[str, Any]()
+        settings, has, options = self.settings, self.has, dict[str, Any]()
         folder = pathlib.Path(settings.folder)
         if settings.is_served:
-            words |= {"node": self.name, "lease": settings.lease}
+            options |= {"node": self.name, "lease": settings.lease}
         if has("context"):
-            words["context"] = self._context
+            options["context"] = self._context
         if has("codec"):
-            words["codec"] = Scramble()
+            options["codec"] = Scramble()
         if has("blobs"):
             is_table = settings.is_served and settings.seed % 2
             blobs = sagas.PostgresBlobStore(settings.direct) if is_table else None
-            words["blobs"] = blobs or sagas.FolderBlobStore(folder / "blobs")
-            words["blob_threshold"] = THRESHOLD
+            options["blobs"] = blobs or sagas.FolderBlobStore(folder / "blobs")
+            options["blob_threshold"] = THRESHOLD
         if has("retention"):
-            words |= {"retention": RETENTION, "archive_dir": folder / "archive"}
+            options |= {"retention": RETENTION, "archive_dir": folder / "archive"}
         hooks: list[Webhooks] = []
         store = sagas.open(
             settings.store,
@@ -101,7 +101,7 @@ class Node:
             engine_processes=4,
             shutdown_timeout=10,
             on_event=lambda event: [one.event(event) for one in hooks],
-            **words,
+            **options,
         )
         store.leased = True
         self.hooks = None
@@ -121,7 +121,7 @@ class Node:
             self.note(what="left", context=id)
 
     async def run(self) -> None:
-        """Do all of it until SIGTERM."""
+        """Do all of the work until SIGTERM."""
         while True:
             try:
                 await self.store.__aenter__()
@@ -129,8 +129,8 @@ class Node:
             except (sagas.StoreUnavailable, sagas.StoreLocked):
                 self.store = self._store()
                 await asyncio.sleep(0.05)
-        asked = asyncio.Event()
-        asyncio.get_running_loop().add_signal_handler(signal.SIGTERM, asked.set)
+        stopped = asyncio.Event()
+        asyncio.get_running_loop().add_signal_handler(signal.SIGTERM, stopped.set)
         if self.hooks:
             self.hooks.begin()
         self.note(what="open", node=self.name)
@@ -140,7 +140,7 @@ class Node:
         works += [self._bulk()] if self.has("label") else []
         works += [self._schedule()] if self.has("schedule") else []
         tasks = [asyncio.create_task(work) for work in works]
-        asking = asyncio.create_task(asked.wait())
+        asking = asyncio.create_task(stopped.wait())
         while not asking.done():
             done, _ = await asyncio.wait([asking, *tasks], return_when=asyncio.FIRST_COMPLETED)
             for task in done - {asking}:
@@ -155,7 +155,7 @@ class Node:
         asyncio.get_running_loop().remove_signal_handler(signal.SIGTERM)
 
     async def _surely(self, ask: Callable[[], Awaitable[Any]]) -> Any:
-        """Ask until there is an answer."""
+        """Repeat a call until it succeeds."""
         while True:
             try:
                 return await ask()
@@ -177,18 +177,18 @@ class Node:
         print("done", flush=True)
 
     async def _one(self, number: int) -> None:
-        """A saga from its start to its end, each thing told to the witness once it was told."""
-        key, words = f"k{number}", dict[str, Any]()
-        if key in self.told:
+        """Run a saga to its end, and report each reply to the witness once it arrives."""
+        key, options = f"k{number}", dict[str, Any]()
+        if key in self.finished:
             return
         saga = self.shop.main
         if self.shop.queue is not None and number % 3 == 0:
             saga = self.shop.post
         if self.has("deadline"):
-            words["deadline"] = (0.2 + chance(f"{key}/deadline")) if is_short(number) else 600
+            options["deadline"] = (0.2 + chance(f"{key}/deadline")) if is_short(number) else 600
         start, given = self.store.start, order_of(number)
         labels = labels_of(number)
-        run = await self._surely(lambda: start(saga, key, given, labels=labels, **words))
+        run = await self._surely(lambda: start(saga, key, given, labels=labels, **options))
         self.note(what="started", key=key)
         others = [self._abort(key)] if number % 7 == 3 else []
         if self.has("early") and saga is self.shop.main:
@@ -209,7 +209,7 @@ class Node:
             await job
 
     async def _abort(self, key: str) -> None:
-        """Two callers abort a saga at some moment."""
+        """Abort a saga from two callers at a random moment."""
         await asyncio.sleep(random.uniform(0.0, 0.6))
         for _ in range(2):
             with contextlib.suppress(sagas.NoSuchSaga, *LATER):
@@ -217,7 +217,7 @@ class Node:
                     self.note(what="aborted", key=key)
 
     async def _early(self, key: str) -> None:
-        """Report a step, mostly before it begins."""
+        """Report a step, mostly before it starts."""
         value = {"paper": key}
         is_refused = chance(f"{key}/paper") < 0.1
         report: Callable[[], Awaitable[Any]] = lambda: self.store.complete(key, "paper", value)
@@ -225,32 +225,32 @@ class Node:
             report = lambda: self.store.fail(key, "paper", "no paper")
         with contextlib.suppress(sagas.NoSuchSaga, sagas.ConflictError, sagas.InvalidError):
             await self._surely(report)
-            told = None if is_refused else value
-            self.note(what="early", key=key, step="paper", failed=is_refused, value=told)
+            result = None if is_refused else value
+            self.note(what="early", key=key, step="paper", failed=is_refused, value=result)
 
     # -- schedules, operators, workers
 
     async def _schedule(self) -> None:
         given = {"mark": f"{MARK} of the schedule"}
-        words: dict[str, Any] = {"every": EVERY, "catch_up": "all", "labels": {"by": "schedule"}}
-        await self._surely(lambda: self.store.schedule("tick", self.shop.tick, given, **words))
+        options: dict[str, Any] = {"every": EVERY, "catch_up": "all", "labels": {"by": "schedule"}}
+        await self._surely(lambda: self.store.schedule("tick", self.shop.tick, given, **options))
         self.note(what="scheduled", name="tick")
 
     async def _bulk(self) -> None:
-        """Abort all sagas of a label, and retry all of another."""
+        """Abort all sagas of a label, and retry all sagas of another one."""
         await asyncio.sleep(random.uniform(0.2, 1.5))
         for word in random.sample(("abort", "retry"), 2):
             with contextlib.suppress(*LATER):
                 if word == "abort":
-                    told = await self.store.abort_all(labels={"lot": "1"}, by="bulk", timeout=3)
-                    for key in told.done:
+                    outcome = await self.store.abort_all(labels={"lot": "1"}, by="bulk", timeout=3)
+                    for key in outcome.done:
                         self.note(what="aborted", key=key, bulk=True)
                 else:
                     done = await self.store.retry_all(labels={"lot": "2"})
                     self.note(what="retried", count=done)
 
     async def _operator(self) -> None:
-        """Somebody who answers at random what needs a person."""
+        """Resolve at random what needs an operator."""
         while True:
             with contextlib.suppress(sagas.SagasError):
                 for one in await self.store.attention():
@@ -261,7 +261,7 @@ class Node:
             await asyncio.sleep(random.uniform(0.05, 0.3))
 
     async def _answer(self, one: sagas.Attention) -> None:
-        """What an operator says of one; each answer is noted before it is given, and after it."""
+        """Resolve one attempt as an operator; note each decision before and after the call."""
         if one.step is None or one.why in ("stuck", "undo_failed"):
             await self.store.resolve(one.key, "somebody saw to it")
             self.note(what="resolved", key=one.key)
@@ -271,20 +271,22 @@ class Node:
             word = "complete"
         value = {"operator": secrets.token_hex(3)}
         kind = "undo" if one.undo else "run"
-        said = {"key": one.key, "step": one.step, "kind": kind, "word": word, "value": value}
-        self.note(what="answering", why=str(one.why), **said)
-        words: dict[str, Any] = {"undo": one.undo, "by": self.name}
+        report = {"key": one.key, "step": one.step, "kind": kind, "word": word, "value": value}
+        self.note(what="answering", why=str(one.why), **report)
+        options: dict[str, Any] = {"undo": one.undo, "by": self.name}
         if word == "retry":
-            await self.store.retry(one.key, one.step, **words)
+            await self.store.retry(one.key, one.step, **options)
         elif word == "complete":
-            await self.store.complete(one.key, one.step, value, **words)
+            await self.store.complete(one.key, one.step, value, **options)
         else:
-            await self.store.fail(one.key, one.step, "somebody says no", **words)
-        self.note(what="answered", **said)
+            await self.store.fail(one.key, one.step, "somebody says no", **options)
+        self.note(what="answered", **report)
 
     def _is_refused(self, one: sagas.Attention) -> bool:
-        """Whether operators say that a step failed for good. Of such a step no one asks for another
-        call: that may have its effect before the answer of one who looked earlier.
+        """Return whether operators report that a step failed permanently.
+
+        Operators never ask for another call of such a step. That call may have its effect before
+        the report of an operator who looked earlier.
         """
         number = int("".join(filter(str.isdigit, one.key.partition("/")[0])) or 0)
         is_retried = self.has("label") and number % 3 == 2
@@ -295,22 +297,22 @@ class Node:
         for one in await self.store.list(phase="open", saga="main"):
             with contextlib.suppress(sagas.ConflictError, sagas.InvalidError):
                 value = {"late": one.key}
-                said = {"key": one.key, "step": "paper", "kind": "run", "word": "complete"}
-                self.note(what="answering", why="late", value=value, **said)
+                report = {"key": one.key, "step": "paper", "kind": "run", "word": "complete"}
+                self.note(what="answering", why="late", value=value, **report)
                 await self.store.complete(one.key, "paper", value)
 
     async def _worker(self) -> None:
-        """A worker that asks this node for tasks, whichever node drives their sagas."""
+        """Work on the tasks of this node, whichever node drives their sagas."""
         workers = self.store.workers
         while True:
-            with contextlib.suppress(sagas.SagasError):  # another one does it again
+            with contextlib.suppress(sagas.SagasError):  # another worker does it again
                 for one in await workers.claim(EXTERNAL, limit=2, wait=0.2, lease=WORKER_LEASE):
                     report = await asyncio.to_thread(self._done, one.task)
                     await workers.report(one.attempt_id, one.lease, **report)
             await asyncio.sleep(0.01)
 
     def _done(self, task: Any) -> dict[str, Any]:
-        """What the worker says of a task."""
+        """Return a worker's report of a task."""
         try:
             return {"result": self.shop.act_in_thread(task, _external(task), 0.1, 0.1)}
         except ConnectionError as error:
@@ -320,7 +322,7 @@ class Node:
 
 
 def _external(task: Any) -> str:
-    """The name of what a worker does."""
+    """Return the name of the effect of a worker's task."""
     return f"main.0.far{'.undo' if task.is_compensation else ''}"
 
 

@@ -1,6 +1,6 @@
-"""Wrong variants of the package: each changes one thing in the nodes of a round by `apply`.
+"""Mutants of the package: each changes one thing in the nodes of a round by `apply`.
 
-`finds` is the name of the fault by which the judge has to find it, in a round of these features.
+`finds` is the name of the fault by which the verifier must find it, in a round of these features.
 """
 
 from __future__ import annotations
@@ -33,7 +33,7 @@ from sagas.storage import archive, blob_layer
 
 @dataclasses.dataclass(frozen=True)
 class Variant:
-    """One of them."""
+    """One mutant."""
 
     apply: Callable[[], None]
     finds: str
@@ -41,7 +41,7 @@ class Variant:
     deploy: str
     count: int
     seconds: float
-    """How long it lasts at least."""
+    """Its shortest duration."""
 
 
 VARIANTS: dict[str, Variant] = {}
@@ -50,7 +50,7 @@ VARIANTS: dict[str, Variant] = {}
 def variant(
     finds: str, *options: str, deploy: str = "", count: int = 10, seconds: float = 0.0
 ) -> Callable[[Callable[[], None]], Callable[[], None]]:
-    """Name a function as a variant."""
+    """Register a function as a variant."""
 
     def named(apply: Callable[[], None]) -> Callable[[], None]:
         VARIANTS[apply.__name__] = Variant(apply, finds, list(options), deploy, count, seconds)
@@ -61,7 +61,7 @@ def variant(
 
 @variant("child", "child", count=16)
 def child_undo_skipped() -> None:
-    """A completed child is taken as undone, and no saga undoes it."""
+    """A completed child counts as undone, and no saga undoes it."""
     right = Children._begun
 
     async def begun(self: Children, attempt: Any) -> Any:
@@ -84,13 +84,13 @@ def early_report_dropped() -> None:
 
 @variant("deadline", "deadline", count=6)
 def deadline_ignored() -> None:
-    """Nobody looks at deadlines."""
+    """No program looks at deadlines."""
     setattr(Deadlines, "look", lambda self: None)
 
 
 @variant("limit", "concurrency_by", count=16)
 def limit_not_held() -> None:
-    """Each attempt begins, whatever the limit of its step."""
+    """Each attempt starts, whatever the limit of its step."""
     setattr(Slots, "enter", Slots.come)
 
 
@@ -99,8 +99,8 @@ def webhook_not_posted() -> None:
     """Each third delivery counts as posted, and is not."""
     right, turns = webhooks.post, itertools.count()
 
-    async def post(*words: Any) -> int:
-        return 204 if next(turns) % 3 == 0 else await right(*words)
+    async def post(*arguments: Any) -> int:
+        return 204 if next(turns) % 3 == 0 else await right(*arguments)
 
     setattr(webhooks, "post", post)
 
@@ -115,7 +115,7 @@ def blob_swept() -> None:
 
 @variant("plain", "codec", count=4)
 def plain_input_kept() -> None:
-    """Inputs are stored as they are."""
+    """Inputs are stored unencoded."""
     right = Payloads.encode
 
     def encode(self: Payloads, text: str) -> str:
@@ -126,11 +126,11 @@ def plain_input_kept() -> None:
 
 @variant("aborted-twice", count=11)
 def aborted_twice() -> None:
-    """Whoever aborts a saga hears that it was not aborted before."""
+    """Each caller that aborts a saga gets the reply that it was not aborted before."""
     right = Commands.abort
 
-    async def abort(self: Commands, *words: Any) -> bool:
-        await right(self, *words)
+    async def abort(self: Commands, *arguments: Any) -> bool:
+        await right(self, *arguments)
         return True
 
     setattr(Commands, "abort", abort)
@@ -140,7 +140,7 @@ def aborted_twice() -> None:
 def abort_lost() -> None:
     """An abort is acknowledged, and nothing follows."""
 
-    async def abort(self: sagas.Store, key: str, **words: Any) -> bool:
+    async def abort(self: sagas.Store, key: str, **options: Any) -> bool:
         return True
 
     setattr(sagas.Store, "abort", abort)
@@ -152,22 +152,24 @@ def wrong_result_handed() -> None:
     right: Any = Task.results
 
     def results(self: Task[Any]) -> dict[str, Any]:
-        found = right.fget(self)
-        return dict(zip(found, [*found.values()][1:] + [*found.values()][:1]))
+        right_results = right.fget(self)
+        return dict(
+            zip(right_results, [*right_results.values()][1:] + [*right_results.values()][:1])
+        )
 
     setattr(Task, "results", property(results))
 
 
 @variant("item", "for_each", count=8)
 def item_of_another() -> None:
-    """A function gets an item that is not its own."""
+    """A function gets the item of another step."""
     right: Any = Task.item
     setattr(Task, "item", property(lambda self: right.fget(self)[::-1]))
 
 
 @variant("schedule", "schedule", count=4, seconds=4.5)
 def schedule_not_started() -> None:
-    """A schedule goes on, and starts nothing."""
+    """A schedule continues, and starts nothing."""
 
     async def start(self: Scheduler, one: Any, key: str) -> None:
         return None
@@ -180,8 +182,8 @@ def labels_lost() -> None:
     """A saga starts without its labels."""
     right: Any = StartOptions.__init__
 
-    def init(self: StartOptions, labels: Any = None, *words: Any, **more: Any) -> None:
-        right(self, {}, *words, **more)
+    def init(self: StartOptions, labels: Any = None, *arguments: Any, **more: Any) -> None:
+        right(self, {}, *arguments, **more)
 
     setattr(StartOptions, "__init__", init)
 
@@ -191,12 +193,12 @@ def wrong_compensation() -> None:
     """A step is undone by the compensation of another one."""
     right = DefinitionRegistry.__init__
 
-    def init(self: DefinitionRegistry, sagas: Any, *words: Any) -> None:
+    def init(self: DefinitionRegistry, sagas: Any, *arguments: Any) -> None:
         for saga in sagas:
             steps = {step.name: step for step in saga.steps}
             if "ship" in steps:
                 steps["hold"].undo = steps["ship"].undo
-        right(self, sagas, *words)
+        right(self, sagas, *arguments)
 
     setattr(DefinitionRegistry, "__init__", init)
 
@@ -206,17 +208,17 @@ def compensation_not_called() -> None:
     """A step counts as undone, and nothing was called."""
     right = DefinitionRegistry.__init__
 
-    def init(self: DefinitionRegistry, sagas: Any, *words: Any) -> None:
+    def init(self: DefinitionRegistry, sagas: Any, *arguments: Any) -> None:
         for step in (step for saga in sagas for step in saga.steps if step.undo.function):
             step.undo.function = lambda task: None
-        right(self, sagas, *words)
+        right(self, sagas, *arguments)
 
     setattr(DefinitionRegistry, "__init__", init)
 
 
 @variant("context", "context", count=4)
 def context_of_another() -> None:
-    """Functions get a context that nobody has entered."""
+    """Functions get a context that was not entered."""
     setattr(Context, "get", lambda self: types.SimpleNamespace(id="another"))
 
 
@@ -226,11 +228,11 @@ def answer_replaced() -> None:
     right = Commands.report
 
     async def report(
-        self: Commands, key: str, step: str, outcome: Any, *words: Any, **more: Any
+        self: Commands, key: str, step: str, outcome: Any, *arguments: Any, **more: Any
     ) -> None:
         if outcome.kind is SUCCEEDED:
             outcome = Outcome(SUCCEEDED, '{"operator":"nobody"}')
-        await right(self, key, step, outcome, *words, **more)
+        await right(self, key, step, outcome, *arguments, **more)
 
     setattr(Commands, "report", report)
 

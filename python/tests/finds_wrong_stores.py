@@ -1,4 +1,6 @@
-"""Wrong stores over PostgreSQL under strikes at random, which may miss what a store does wrong; test_wrong_stores.py finds each, each time. By hand:
+"""Mutants of the store over PostgreSQL under random strikes, which may miss a mutant.
+
+test_wrong_stores.py finds each of them reliably. By hand:
 
     python3 -m pytest tests/finds_wrong_stores.py
 """
@@ -19,24 +21,25 @@ NAMES = sorted(module.name for module in pkgutil.iter_modules(wrong_stores.__pat
 
 
 def test_there_are_enough() -> None:
-    """At least six."""
+    """At least six are needed."""
     assert len(NAMES) >= 6
 
 
 @pytest.mark.parametrize("name", NAMES)
-def test_a_wrong_store_is_found(postgresql: Server, name: str) -> None:
-    """Under the kind of strike at which it shows, within a few databases."""
+def test_a_mutant_is_detected(postgresql: Server, name: str) -> None:
+    """The kind of strike that reveals it finds it within a few databases."""
     module = importlib.import_module(f"wrong_stores.{name}")
     if not hasattr(module, "STRIKES"):
         pytest.skip(
-            "no strike shows it: the judge cannot tell a node that lives from one that was struck, or the moment is too short"
+            "no strike shows it: the judge cannot tell a node that lives from one that was struck,"
+            " or the moment is too short"
         )
-    found: set[str] = set()
+    faults: set[str] = set()
     for seed in range(6):
         one = play(module.STRIKES, seed, 24, postgresql, most=20, wrong=name, quiet=4)
-        found |= one.verdict.names
+        faults |= one.verdict.names
         if one.folder is not None:
             shutil.rmtree(pathlib.Path(one.folder))
-        if found & module.FINDS:
+        if faults & module.FINDS:
             return
-    pytest.fail(f"{name} was not found by {module.FINDS}, but by {sorted(found)}")
+    pytest.fail(f"{name} was not found by {module.FINDS}, but by {sorted(faults)}")

@@ -1,4 +1,4 @@
-"""Judges records of nodes and clients by the reference model and the program; they must agree."""
+"""Judge records of nodes and clients by the reference model and the program; they must agree."""
 
 from __future__ import annotations
 
@@ -18,7 +18,7 @@ from sagas.cli.snapshot import Snapshot
 
 @functools.cache
 def has_program() -> bool:
-    """Whether the program judges records; `test_fleet_records.py` asks that it does."""
+    """Return whether the program judges records; `test_fleet_records.py` requires that it does."""
     done = subprocess.run(
         [program.path(), "audit", "--help"], capture_output=True, text=True, check=False
     )
@@ -26,7 +26,7 @@ def has_program() -> bool:
 
 
 def by_both(text: str) -> tuple[bool, str]:
-    """What the model says of a record; the program says the same."""
+    """Return the model's verdict on a record; the program's must be the same."""
     fault = fleet_model.judge(text)
     if has_program():
         good, answer = records.audit_record(text)
@@ -45,7 +45,7 @@ def by_both(text: str) -> tuple[bool, str]:
 def shards_of(
     url: str, files: Sequence[pathlib.Path], sync: bool, folder: str | None = None
 ) -> list[ShardCheck]:
-    """The shards of a store with their records."""
+    """Return the shards of a store with their records."""
     notes = records.read([str(file) for file in files if file.exists()])
     with Snapshot(url) as store:
         return records.RecordChecker(store, notes, sync, folder, by_both).all()
@@ -54,24 +54,24 @@ def shards_of(
 def judged(
     url: str, files: Sequence[pathlib.Path] = (), *, sync: bool = False
 ) -> tuple[list[ShardCheck], list[str]]:
-    """The shards; and what is not allowed in the record of each, or is lost."""
-    found, faults = shards_of(url, files, sync), list[str]()
-    for one in found:
+    """Return the shards, and the faults of each record."""
+    shards, faults = shards_of(url, files, sync), list[str]()
+    for one in shards:
         faults += [] if one.good else [f"record: shard {one.shard}, {one.answer}"]
         faults += [f"record: shard {one.shard}: lost {loss}" for loss in one.losses]
         faults += [
             f"record: shard {one.shard}: the end of saga {id} is lost" for id in one.ends_lost
         ]
-    return found, faults
+    return shards, faults
 
 
 def texts(url: str, files: Sequence[pathlib.Path], *, sync: bool = False) -> list[str]:
-    """The records themselves."""
+    """Return the records themselves."""
     with tempfile.TemporaryDirectory() as folder:
         shards_of(url, files, sync, folder)
         return [path.read_text() for path in sorted(pathlib.Path(folder).iterdir())]
 
 
 def reasons(faults: Sequence[str]) -> set[str]:
-    """The names of what is not allowed."""
+    """Return the names of the faults."""
     return {fault.split(": ")[2] for fault in faults if ", line " in fault}

@@ -1,6 +1,6 @@
-"""A reference model of `sagas audit --fleet`, written from docs/dev/promises/saga_fleet.md alone.
+"""A reference model of `sagas audit --fleet`, written only from docs/dev/promises/saga_fleet.md.
 
-It says which event may come next in the record of one shard.
+It defines which event may come next in the record of one shard.
 """
 
 from __future__ import annotations
@@ -12,11 +12,11 @@ BLANK = 0
 
 @dataclass
 class Session:
-    """What a node believes: counts of chunks, the digest of what it sent, and its stage."""
+    """The belief of a node: counts of chunks, the digest of what it sent, and its stage."""
 
     server: int
     epoch: int
-    asked: int
+    unanswered: int
     known: int = 0
     digest: int = 0
     stage: str = "done"
@@ -24,7 +24,7 @@ class Session:
 
 @dataclass
 class Log:
-    """What the database has."""
+    """The content of the database."""
 
     is_synchronous: bool
     epoch: int = 0
@@ -34,7 +34,7 @@ class Log:
     sessions: list[Session] = field(default_factory=list)
 
     def step(self, what: str, numbers: list[int]) -> str | None:
-        """Takes an event; why it is not allowed."""
+        """Take an event; return why it is not allowed."""
         if what in ("safe", "moved"):
             if numbers[0] < self.safe:
                 return "FewerThanShipped"
@@ -68,11 +68,11 @@ class Log:
         """It sends a chunk."""
         if one.stage != "idle":
             return "NotIdle"
-        one.stage, one.asked, one.digest = "sent", 1, digest
+        one.stage, one.unanswered, one.digest = "sent", 1, digest
         return None
 
     def wrote(self, one: Session, chunks: int, digest: int) -> str | None:
-        """The database writes what it sent."""
+        """The database writes what the session sent."""
         faults = {
             "NothingSent": one.stage != "sent",
             "OtherServer": one.server != self.server,
@@ -85,26 +85,26 @@ class Log:
         return next((name for name, is_so in faults.items() if is_so), None)
 
     def stale(self, one: Session) -> str | None:
-        """The database refuses it."""
+        """The database refuses the session."""
         was, one.stage = one.stage, "refused"
         return None if was == "sent" else "NothingSent"
 
     def heard(self, one: Session) -> str | None:
-        """It hears that it is done."""
+        """The session receives a confirmation."""
         if one.stage != "done":
             return "NothingDone"
         if one.server != self.server:
             return "OtherServer"
-        one.known, one.asked, one.stage = one.known + one.asked, 0, "idle"
+        one.known, one.unanswered, one.stage = one.known + one.unanswered, 0, "idle"
         return "NotShipped" if self.is_synchronous and one.known > self.safe else None
 
     def told(self, one: Session, chunks: int) -> str | None:
-        """It acknowledges something."""
+        """The session acknowledges chunks."""
         return "NotKnown" if chunks > one.known else None
 
 
 def judge(text: str) -> tuple[int, str] | None:
-    """The number of the first line that is not allowed, and why; None where all are."""
+    """Return the number of the first line that is not allowed, and why; None if all are."""
     head, *lines = text.splitlines()
     log = Log({"fleet 1 sync": True, "fleet 1 async": False}[head])
     for number, line in enumerate(lines, 2):

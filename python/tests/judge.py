@@ -1,6 +1,7 @@
-"""Compares what the witness, the database and the logs say of a store in which all is over.
+"""The verifier: it compares the witness, the database and the logs of a finished store.
 
-Each fault begins with a name from `FAULTS`; the wrong coordinators in `tests/wrong` are each found by one of them.
+Each fault begins with a name from `FAULTS`. Each wrong coordinator in `tests/wrong` must be found
+by one of them.
 """
 
 from __future__ import annotations
@@ -35,33 +36,44 @@ FAULTS = {
     "not-over": "a saga is neither ended nor stuck",
     "end": "the end of a saga in the database is not the one of its log",
     "results": "the results in the database are not those of the log's events",
-    "not-called": "a failure is kept that a function is to have told, and the witness saw no call of that attempt",
-    "tokens": "an attempt with two tokens, a token of two attempts, or one that is not made from its log, saga, step and attempt",
-    "no-effect": "a step is committed or undone, and the witness saw no effect under the token of that attempt",
+    "not-called": (
+        "a failure is kept that a function is to have told, and the witness saw no call of that"
+        " attempt"
+    ),
+    "tokens": (
+        "an attempt with two tokens, a token of two attempts, or one that is not made from its log,"
+        " saga, step and attempt"
+    ),
+    "no-effect": (
+        "a step is committed or undone, and the witness saw no effect under the token of that"
+        " attempt"
+    ),
     "wrong-attempt": "an effect under the token of an attempt that did not commit",
     "effect-lost": "an action had an effect, and its step neither stands nor was undone",
     "undone-twice": "a compensation had effects under two tokens",
     "wrong-action": "a compensation was of another action than the one that was done",
     "input": "a function was handed the input of another saga",
-    "handed": "a function was handed a result that its step did not give, or an end has such a result",
+    "handed": (
+        "a function was handed a result that its step did not give, or an end has such a result"
+    ),
 }
 
 
 @dataclass
 class Verdict:
-    """What the judge found, and some figures."""
+    """The faults that the verifier found, and some figures."""
 
     faults: list[str] = field(default_factory=list)
     figures: Counter[str] = field(default_factory=Counter)
 
     def fault(self, name: str, text: object) -> None:
-        """Notes a fault by its name."""
+        """Note a fault by its name."""
         assert name in FAULTS, name
         self.faults.append(f"{name}: {text}")
 
     @property
     def names(self) -> set[str]:
-        """The names of what was found."""
+        """Return the names of the faults."""
         return {fault.split(":", 1)[0] for fault in self.faults}
 
 
@@ -77,7 +89,7 @@ class Event:
 
 
 def ends_of(log: LogRows, steps: list[str], number: int) -> Iterator[Event]:
-    """The ends of attempts of one saga of a log, with their tokens."""
+    """Return the ends of attempts of one saga of a log, with their tokens."""
     misses: Counter[tuple[int, str]] = Counter()
     kinds = {
         "commit": "run",
@@ -100,14 +112,14 @@ def ends_of(log: LogRows, steps: list[str], number: int) -> Iterator[Event]:
 
 
 KEPT = {"completed": "ended", "recovered": "ended", "stuck": "stuck"}
-"""The phases that a caller is told, and what the store keeps of them."""
+"""The phases that callers see, and what the store keeps of them."""
 
 
-def told(phase: str | None, end: Json) -> tuple[str, list[str]]:
-    """The phase and the states that a caller is told of an end."""
+def seen_end(phase: str | None, end: Json) -> tuple[str, list[str]]:
+    """Return the phase and the states that a caller sees at an end."""
     by_plan = (end["answer"] or {}).get("kind") == "plan"
-    words = ["undo_failed" if state == "fixed" else state for state in end["states"]]
-    return "stuck" if phase == "stuck" else "recovered" if by_plan else "completed", words
+    states = ["undo_failed" if state == "fixed" else state for state in end["states"]]
+    return "stuck" if phase == "stuck" else "recovered" if by_plan else "completed", states
 
 
 class Judge:
@@ -126,22 +138,22 @@ class Judge:
             self.effects[note["key"], note["step"], note["kind"]][note["token"]].append(note)
 
     def of(self, what: str) -> Iterable[Json]:
-        """The witness's notes of a kind."""
+        """Return the witness's notes of a kind."""
         return (note for note in self.notes if note["what"] == what)
 
     def judge(self, count: int) -> Verdict:
-        """Looks at everything; `count` sagas were asked for."""
+        """Check everything; `count` sagas were requested."""
         fault = self.verdict.fault
         if (
             not str(self.store).startswith("postgresql:")
-            and (said := records.integrity(pathlib.Path(self.store))) != "ok"
+            and (report := records.integrity(pathlib.Path(self.store))) != "ok"
         ):
-            fault("broken-file", said)
+            fault("broken-file", report)
         if set(self.records.sagas) != {f"k{number}" for number in range(count)}:
             fault("keys", f"{len(self.records.sagas)} keys, {count} were asked for")
         for log in self.records.logs.values():
             self._log(log)
-        self._told()
+        self._replies()
         self._tokens()
         self._handed()
         for row in self.records.sagas.values():
@@ -149,7 +161,7 @@ class Judge:
         self._figures()
         return self.verdict
 
-    # -- the logs ------------------------------------------------------------------------------------------
+    # -- the logs
 
     def _log(self, log: LogRows) -> None:
         fault, at = self.verdict.fault, 0
@@ -178,12 +190,12 @@ class Judge:
                 row.phase,
                 row.end["states"],
                 row.end["aborted"],
-                row.place,
+                row.definition_index,
             ) != (
                 saga.phase,
                 saga.states,
                 saga.aborted,
-                saga.place,
+                saga.definition_index,
             ):
                 fault(
                     "end",
@@ -198,15 +210,15 @@ class Judge:
         with tempfile.TemporaryDirectory() as name:
             folder = pathlib.Path(name)
             (folder / "log").write_text(HEADER + "".join(text for _, text in log.chunks))
-            paths = [folder / f"{place}.toml" for place in range(len(log.texts))]
+            paths = [folder / f"{index}.toml" for index in range(len(log.texts))]
             for path, text in zip(paths, log.texts):
                 path.write_text(text)
-            if (said := audit(folder / "log", paths)) != wanted:
-                self.verdict.fault("audit", f"log {log.log}: {said}, and not {wanted}")
+            if (result := audit(folder / "log", paths)) != wanted:
+                self.verdict.fault("audit", f"log {log.log}: {result}, and not {wanted}")
 
-    # -- what the program was told -------------------------------------------------------------------------
+    # -- replies to the program
 
-    def _told(self) -> None:
+    def _replies(self) -> None:
         fault, sagas = self.verdict.fault, self.records.sagas
         for note in self.notes:
             what, key = note["what"], note.get("key")
@@ -221,7 +233,7 @@ class Judge:
 
     def _over(self, note: Json, row: SagaRow) -> None:
         states = list(note["states"].values())
-        if row.end is None or (note["phase"], states) != told(row.phase, row.end):
+        if row.end is None or (note["phase"], states) != seen_end(row.phase, row.end):
             self.verdict.fault("told-otherwise", f"{note}: kept is {row.phase} {row.end}")
         standing = {
             step for step, state in note["states"].items() if state in ("committed", "undo_failed")
@@ -235,7 +247,7 @@ class Judge:
             if value != expected(note["key"], step):
                 self.verdict.fault("handed", f"the end of {note['key']} has {value} of {step}")
 
-    # -- what functions were handed ------------------------------------------------------------------------
+    # -- arguments of functions
 
     def _tokens(self) -> None:
         fault = self.verdict.fault
@@ -272,11 +284,11 @@ class Judge:
                     f"the compensation of {key} {note['step']} was handed {note['result']}",
                 )
 
-    # -- saga by saga --------------------------------------------------------------------------------------
+    # -- saga by saga
 
     def _saga(self, row: SagaRow) -> None:
         fault, log = self.verdict.fault, self.records.logs[row.log]
-        steps = log.steps(row.place)
+        steps = log.steps(row.definition_index)
         if row.phase not in ("ended", "stuck"):
             fault("not-over", f"{row.key} is {row.phase} in the database")
         ends = list(ends_of(log, steps, row.number))
@@ -288,7 +300,10 @@ class Judge:
         if kept != {(end.step, end.kind, end.attempt): end.word for end in ends}:
             fault(
                 "results",
-                f"{row.key}: {kept}, by the log {[(end.word, end.step, end.attempt) for end in ends]}",
+                (
+                    f"{row.key}: {kept}, by the log"
+                    f" {[(end.word, end.step, end.attempt) for end in ends]}"
+                ),
             )
         good = {(end.step, end.kind): end.token for end in ends if end.word in ("commit", "undone")}
         for (step, kind), token in good.items():
@@ -353,5 +368,5 @@ class Judge:
 
 
 def judge(store: pathlib.Path | str, notes: pathlib.Path, count: int) -> Verdict:
-    """Judges a store in which all is over, by its file and the witness's notes."""
+    """Judge a finished store by its file and the witness's notes."""
     return Judge(store, notes).judge(count)

@@ -1,14 +1,16 @@
-"""Kills at random moments, and a judgement of each store when all in it is over.
+"""Kill programs at random moments, and judge each store when all its sagas are over.
 
-    python3 tests/kills.py [--rounds N] [--kinds program,child,both,closing,disk] [--sagas N] [--seed S] [--jobs N]
+    python3 tests/kills.py [--rounds N] [--kinds program,child,both,closing,disk] [--sagas N]
+        [--seed S] [--jobs N]
 
-A round is one store: the program of `world.py` is started on it again and again until all its sagas are over. Meanwhile
+A round is one store: the program of `world.py` is started on it again and again until all its sagas
+are over. The kinds are:
 
-- `program` kills it with -9, also while it starts;
-- `child` kills the deciding child, again and again;
-- `both` does either;
-- `closing` asks it to close, and mostly kills it within that;
-- `disk` lets its files grow no further for a while, and mostly kills it then.
+- `program` kills it with SIGKILL, also while it starts.
+- `child` kills the engine process, again and again.
+- `both` does either.
+- `closing` asks it to close, and mostly kills it before it has.
+- `disk` stops its files from growing for a while, and mostly kills it then.
 
 Every process that is signalled here was started here, and is named by its number.
 """
@@ -40,35 +42,35 @@ KINDS = ("program", "child", "both", "closing", "disk")
 
 
 def children(pid: int) -> list[int]:
-    """The children of a process, of all its threads."""
-    found: list[int] = []
+    """Return the children of a process, of all its threads."""
+    pids: list[int] = []
     try:
         for task in os.listdir(f"/proc/{pid}/task"):
-            found += map(int, pathlib.Path(f"/proc/{pid}/task/{task}/children").read_text().split())
+            pids += map(int, pathlib.Path(f"/proc/{pid}/task/{task}/children").read_text().split())
     except OSError:
         pass
-    return found
+    return pids
 
 
 @dataclass
 class Round:
-    """What became of one store."""
+    """The result of one store."""
 
     kind: str
     seed: int
     verdict: Verdict
     kills: Counter[str]
     folder: pathlib.Path | None = None
-    """Where its files are, if something was found."""
+    """The folder of its files, if there are faults."""
 
     @property
-    def found(self) -> list[str]:
+    def problems(self) -> list[str]:
         return self.verdict.faults
 
 
 @dataclass
 class Striker:
-    """Starts the program on a store, and strikes it, until all is over."""
+    """Start the program on a store, and strike it, until all is over."""
 
     folder: pathlib.Path
     kind: str
@@ -83,15 +85,15 @@ class Striker:
     began: float = field(default_factory=time.monotonic)
 
     def __post_init__(self) -> None:
-        self.words = [
+        self.command = [
             sys.executable,
             str(HERE / "world.py"),
             str(self.folder / "store.db"),
             str(self.folder / "socket"),
         ]
-        self.words += [str(self.sagas), "--concurrency", str(self.concurrency)]
-        self.words += ["--wrong", self.wrong] if self.wrong else []
-        self.words += ["--small"] if self.small else []
+        self.command += [str(self.sagas), "--concurrency", str(self.concurrency)]
+        self.command += ["--wrong", self.wrong] if self.wrong else []
+        self.command += ["--small"] if self.small else []
         path = f"{HERE.parent / 'src'}{os.pathsep}{HERE}"
         self.environment = os.environ | {
             "PYTHONPATH": path,
@@ -108,11 +110,11 @@ class Striker:
         return sum(self.kills.values())
 
     def until_over(self) -> str | None:
-        """Runs until all is over; says what went wrong with the program itself, if anything."""
+        """Run until all is over; return the problems of the program itself."""
         with open(self.folder / "errors", "ab") as errors:
             while not self.is_late:
                 process = subprocess.Popen(
-                    self.words, env=self.environment, stdout=subprocess.PIPE, stderr=errors
+                    self.command, env=self.environment, stdout=subprocess.PIPE, stderr=errors
                 )
                 try:
                     self._strike(process)
@@ -147,7 +149,7 @@ class Striker:
         getattr(self, "_" + kind)(process)
 
     def _wait(self, process: subprocess.Popen[bytes], seconds: float) -> bool:
-        """Waits a moment; whether the program still runs."""
+        """Wait a moment; return whether the program still runs."""
         try:
             process.wait(seconds)
         except subprocess.TimeoutExpired:
@@ -183,7 +185,11 @@ class Striker:
                 self._kill(process, "while it closes")
 
     def _written(self) -> int:
-        """Where the next commit is written in the WAL, which is longer: SQLite's index of it says how many pages stand there (its wal-index header, `mxFrame`)."""
+        """Return where the next commit is written in the WAL.
+
+        The WAL itself is longer: SQLite's index of it has the number of valid pages (its wal-index
+        header, `mxFrame`).
+        """
         with open(self.folder / "store.db-shm", "rb") as index:
             (pages,) = struct.unpack("=I", index.read(20)[16:])
         return 32 + pages * (4096 + 24)
@@ -209,11 +215,11 @@ class Striker:
 
 
 def run_once(folder: pathlib.Path, sagas: int) -> int:
-    """Runs the program on a store that nothing strikes; gives its status."""
+    """Run the program on a store without strikes; return its status."""
     striker = Striker(folder, "program", random.Random(0), sagas, 16, 60)
     with witness_at(folder / "socket", folder / "notes"):
         return subprocess.run(
-            striker.words,
+            striker.command,
             env=striker.environment,
             stdout=subprocess.DEVNULL,
             timeout=60,
@@ -224,7 +230,7 @@ def run_once(folder: pathlib.Path, sagas: int) -> int:
 def play(
     kind: str, seed: int, sagas: int, *, most: float = 90, wrong: str | None = None, quiet: int = 12
 ) -> Round:
-    """One round: a store, its kills, its judgement. Its files stay where something was found."""
+    """Play one round: a store, its kills and the verdict. The files stay if there are faults."""
     draw = random.Random(seed)
     folder = pathlib.Path(tempfile.mkdtemp(prefix="sagas-kills-"))
     concurrency, small = draw.choice((1, 4, 16, 64)), wrong is None and draw.random() < 0.5
@@ -244,7 +250,7 @@ def play(
 
 
 def main() -> int:
-    """The command."""
+    """Run the command."""
     parser = argparse.ArgumentParser(
         description=__doc__, formatter_class=argparse.RawDescriptionHelpFormatter
     )
@@ -253,30 +259,30 @@ def main() -> int:
     parser.add_argument("--sagas", type=int, default=60)
     parser.add_argument("--seed", type=int, default=random.randrange(10**6))
     parser.add_argument("--jobs", type=int, default=2)
-    words = parser.parse_args()
-    kinds = words.kinds.split(",")
+    options = parser.parse_args()
+    kinds = options.kinds.split(",")
     kills: Counter[str] = Counter()
     figures: Counter[str] = Counter()
     bad = 0
     began = time.monotonic()
-    with concurrent.futures.ProcessPoolExecutor(words.jobs) as pool:
+    with concurrent.futures.ProcessPoolExecutor(options.jobs) as pool:
         games = [
-            pool.submit(play, kinds[number % len(kinds)], words.seed + number, words.sagas)
-            for number in range(words.rounds)
+            pool.submit(play, kinds[number % len(kinds)], options.seed + number, options.sagas)
+            for number in range(options.rounds)
         ]
         for done, game in enumerate(concurrent.futures.as_completed(games), 1):
             one = game.result()
             kills += one.kills
             figures += one.verdict.figures
-            bad += bool(one.found)
-            for fault in one.found[:5]:
+            bad += bool(one.problems)
+            for fault in one.problems[:5]:
                 print(f"\n{one.kind} {one.seed} {one.folder}: {fault}")
             print(
-                f"\r{done} of {words.rounds} rounds, {sum(kills.values())} strikes, {bad} bad",
+                f"\r{done} of {options.rounds} rounds, {sum(kills.values())} strikes, {bad} bad",
                 end="",
                 flush=True,
             )
-    print(f"\nseed {words.seed}, {time.monotonic() - began:.0f} s")
+    print(f"\nseed {options.seed}, {time.monotonic() - began:.0f} s")
     for title, counted in (("strikes", kills), ("figures", figures)):
         print(
             f"{title}: " + ", ".join(f"{name} {number}" for name, number in sorted(counted.items()))

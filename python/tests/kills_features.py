@@ -1,22 +1,21 @@
-"""Faults over the features together: rounds of six features each, struck at random moments, with a
-deploy in between, and a judgement when all is over.
+"""Random faults over the features together: rounds of six features each, with a deploy in each.
 
     python3 tests/kills_features.py [--rounds N] [--store sqlite|postgresql] [--sagas N]
-        [--strikes N] [--seed S] [--options a,b,..] [--deploy added|renamed|typed]
-        [--wrong NAME|all]
+        [--strikes N] [--seed S] [--options a,b,c] [--deploy added|renamed|typed] [--wrong NAME|all]
 
 Forty rounds have each pair of features together. A round is one store, over SQLite with one node
 and over PostgreSQL with three. Callers start sagas, abort some, and report steps early; operators
-answer what waits for a person. Meanwhile nodes
+resolve what needs attention. Concurrently nodes
 
-- are killed with -9, and started again;
+- are killed with SIGKILL, and started again;
 - are asked to end, and started again;
-- stand still, also past their leases, and go on;
+- are stopped, also past their leases, and continued;
 - lose their engine processes;
 - over PostgreSQL, lose their database, which is stopped as if its machine had failed.
 
-In the middle each node is started with the next release of its program. `--wrong` has nodes do
-something wrong, which the judge has to find; `all` tries each such variant.
+Halfway, each node is started with the next release of its program. At the end the verifier judges
+the store. `--wrong` gives the nodes a fault that the verifier must find; `all` tries each such
+variant.
 
 Every process that is signalled here was started here, and is named by its number.
 """
@@ -47,7 +46,7 @@ if __name__ == "__main__":
 import features_wrong
 import fleet
 from brokers import Broker, Program, broker_at
-from celery_kills import worker_words
+from celery_kills import worker_command
 from driving import program
 from features_judge import FeatureVerdict, judge, rows_of
 from features_options import options_of
@@ -59,14 +58,14 @@ from witness import Witness, witness_at
 HERE = pathlib.Path(__file__).resolve().parent
 LEASE = 1.5
 PATIENCE = 20.0
-"""Seconds without strikes after which the operator reports what nobody else does."""
+"""Seconds without strikes after which the operator reports what nothing else reports."""
 KINDS = ("kill", "kill", "term", "stop", "engine")
 SERVED_KINDS = (*KINDS, "kill", "database")
 Json = dict[str, Any]
 
 
 class Receiver:
-    """What webhooks post to. It refuses some posts at first."""
+    """The receiver of webhooks. It refuses some posts at first."""
 
     def __init__(self, notes: pathlib.Path, socket: pathlib.Path, draw: random.Random) -> None:
         witness = Witness(str(socket))
@@ -82,30 +81,30 @@ class Receiver:
                 self.send_header("content-length", "0")
                 self.end_headers()
 
-            def log_message(self, *words: Any) -> None:
+            def log_message(self, *arguments: Any) -> None:
                 ...
 
         class Server(http.server.ThreadingHTTPServer):
-            def handle_error(self, *words: Any) -> None:
-                """A node that was killed reads no answer."""
+            def handle_error(self, *arguments: Any) -> None:
+                """Ignore that a killed node reads no response."""
 
         self.server = Server(("127.0.0.1", 0), Handler)
         threading.Thread(target=self.server.serve_forever, args=(0.05,), daemon=True).start()
 
     @property
     def url(self) -> str:
-        """Where it listens."""
+        """Return its address."""
         return f"http://127.0.0.1:{self.server.server_address[1]}/hook"
 
     def close(self) -> None:
-        """Listen no more."""
+        """Stop listening."""
         self.server.shutdown()
         self.server.server_close()
 
 
 @dataclasses.dataclass
 class Node:
-    """A node, of which one program after the other runs."""
+    """A node, which runs one program after the other."""
 
     name: str
     settings: pathlib.Path
@@ -114,7 +113,7 @@ class Node:
 
     def start(self) -> None:
         """Start its program."""
-        words = [sys.executable, str(HERE / "features_world.py"), str(self.settings), self.name]
+        command = [sys.executable, str(HERE / "features_world.py"), str(self.settings), self.name]
         path = f"{HERE.parent / 'src'}{os.pathsep}{HERE}"
         record = self.settings.parent / f"record-{self.name}"
         environment = os.environ | {
@@ -124,23 +123,23 @@ class Node:
             "SAGAS_RECORD": str(record),
         }
         log, release = f"log-{self.name}", str(self.release)
-        self.program = Program([*words, release], self.settings.parent, environment, log)
+        self.program = Program([*command, release], self.settings.parent, environment, log)
 
     @property
     def running(self) -> Program:
-        """Its program."""
+        """Return its program."""
         assert self.program
         return self.program
 
     @property
     def is_open(self) -> bool:
-        """Whether it has its store open."""
-        return self.running.runs and self.running.has_said("^open")
+        """Return whether it has its store open."""
+        return self.running.runs and self.running.has_printed("^open")
 
     @property
     def is_done(self) -> bool:
-        """Whether its callers were told of all."""
-        return self.running.has_said("^done")
+        """Return whether its callers have all results."""
+        return self.running.has_printed("^done")
 
     def end(self, seconds: float = 60) -> int:
         """Ask its program to end, and return its status."""
@@ -149,7 +148,7 @@ class Node:
 
 
 class Round:
-    """One store, its nodes, and what strikes them."""
+    """One store, its nodes, and their strikes."""
 
     def __init__(
         self,
@@ -201,7 +200,7 @@ class Round:
         self.faults: list[str] = []
 
     def play(self) -> FeatureVerdict:
-        """Until all is over; then it is judged."""
+        """Run until all is over; then judge it."""
         notes = self.folder / "notes"
         with contextlib.ExitStack() as stack:
             stack.enter_context(witness_at(self.folder / "socket", notes))
@@ -237,7 +236,7 @@ class Round:
 
     @contextlib.contextmanager
     def _celery(self) -> Iterator[None]:
-        """A worker of the round's own queue."""
+        """Run a worker of the round's own queue."""
         assert self.broker
         queue = f"q{self.draw.randrange(10**9)}"
         self.settings = dataclasses.replace(self.settings, broker=self.broker.url, queue=queue)
@@ -249,10 +248,10 @@ class Round:
             "PYTHONUNBUFFERED": "1",
             "SAGAS_FEATURES": str(self.folder / "settings.json"),
         }
-        words = [
-            word.replace("celery_world", "features_celery") for word in worker_words(queue, "w")
+        command = [
+            word.replace("celery_world", "features_celery") for word in worker_command(queue, "w")
         ]
-        worker = Program([*words, "-P", "threads"], self.folder, environment, "worker.log")
+        worker = Program([*command, "-P", "threads"], self.folder, environment, "worker.log")
         try:
             worker.wait_for(r" ready\.")
             yield
@@ -263,7 +262,7 @@ class Round:
 
     @property
     def struck(self) -> int:
-        """How often something was struck."""
+        """Return the number of strikes."""
         return sum(self.kills.values())
 
     def _check_time(self) -> None:
@@ -311,7 +310,7 @@ class Round:
                 self.faults.append(f"not-over: node {node.name} closed with status {code}")
 
     def _deploy(self) -> None:
-        """Each node is started with the next release, one after the other."""
+        """Start each node with the next release, one after the other."""
         for node in self.nodes if self.settings.deploy else []:
             self._wait(self.draw.uniform(0.1, 0.6))
             if self.draw.random() < 0.5 and node.is_open:
@@ -323,13 +322,13 @@ class Round:
         self.witness.note(what="deployed")
 
     def _left(self) -> list[Any]:
-        """What is not over yet, as the database has it."""
+        """Return what is not over yet, as the database has it."""
         open_sagas = rows_of(self.url, "SELECT key FROM sagas WHERE phase IS NULL LIMIT 5")
         posts = "SELECT id FROM webhook_deliveries WHERE state = 'pending' LIMIT 5"
         return [*open_sagas, *rows_of(self.url, posts)]
 
     def _is_over(self) -> bool:
-        """Whether nothing is left to be done. The schedule ends with that."""
+        """Return whether no work is left. The schedule ends with that."""
         if "schedule" in self.settings.options and not self.is_paused:
             rows_of(self.url, "UPDATE schedules SET paused = 1")
             self.is_paused = True
@@ -393,18 +392,18 @@ class Round:
 
 @dataclasses.dataclass
 class Played:
-    """What became of a round."""
+    """The result of a round."""
 
     options: list[str]
     deploy: str
     verdict: FeatureVerdict
     kills: Counter[str]
     folder: pathlib.Path | None
-    """Where its files are, if something was found."""
+    """The folder of its files, if there are faults."""
 
     @property
     def names(self) -> set[str]:
-        """The names of what was found."""
+        """Return the names of the faults."""
         return {fault.split(":", 1)[0] for fault in self.verdict.faults}
 
 
@@ -415,11 +414,11 @@ def play(
     server: Server | None = None,
     *,
     keeps: bool = True,
-    **words: Any,
+    **round_options: Any,
 ) -> Played:
-    """One round: a store, its strikes, its judgement."""
+    """Play one round: a store, its strikes and the verdict."""
     folder = pathlib.Path(tempfile.mkdtemp(prefix="sagas-features-"))
-    one = Round(folder, seed, count, strikes, server, **words)
+    one = Round(folder, seed, count, strikes, server, **round_options)
     verdict = one.play()
     is_bad = keeps and bool(verdict.faults)
     if not is_bad:
@@ -431,14 +430,14 @@ def play(
 
 
 def try_wrong(name: str, server: Server | None = None) -> Played:
-    """A round of a wrong variant, without strikes."""
+    """Play a round of a wrong variant, without strikes."""
     variant = features_wrong.VARIANTS[name]
-    words = {"options": variant.options, "deploy": variant.deploy, "seconds": variant.seconds}
-    return play(1, variant.count, 0, server, most=60, wrong=name, keeps=False, **words)
+    settings = {"options": variant.options, "deploy": variant.deploy, "seconds": variant.seconds}
+    return play(1, variant.count, 0, server, most=60, wrong=name, keeps=False, **settings)
 
 
 def main() -> int:
-    """The command."""
+    """Run the command."""
     parser = argparse.ArgumentParser(
         description=__doc__, formatter_class=argparse.RawDescriptionHelpFormatter
     )
@@ -450,41 +449,41 @@ def main() -> int:
     parser.add_argument("--options", help="in place of those of the seed, with commas between")
     parser.add_argument("--deploy", choices=DEPLOYS, help="in place of that of the seed")
     parser.add_argument("--wrong", help="a wrong variant, or all")
-    words = parser.parse_args()
-    if words.wrong:
-        return wrong(words.wrong)
+    options = parser.parse_args()
+    if options.wrong:
+        return wrong(options.wrong)
     kills, figures = Counter[str](), Counter[str]()
     bad, began = 0, time.monotonic()
-    options = words.options.split(",") if words.options else None
+    options = options.options.split(",") if options.options else None
     with contextlib.ExitStack() as stack:
         server = broker = None
-        if words.store == "postgresql":
+        if options.store == "postgresql":
             server = stack.enter_context(serving({"fsync": "on"}))
             folder = pathlib.Path(stack.enter_context(tempfile.TemporaryDirectory()))
             broker = stack.enter_context(broker_at("redis", folder))
-        for number in range(words.rounds):
-            seed = words.seed + number
+        for number in range(options.rounds):
+            seed = options.seed + number
             one = play(
                 seed,
-                words.sagas,
-                words.strikes,
+                options.sagas,
+                options.strikes,
                 server,
                 broker=broker,
                 options=options,
-                deploy=words.deploy,
+                deploy=options.deploy,
             )
             kills += one.kills
             figures += one.verdict.figures
             bad += bool(one.verdict.faults)
             for fault in one.verdict.faults[:8]:
                 print(f"{seed} {one.folder}: {fault}")
-            said = f"{seed}: {','.join(one.options)}; {one.deploy}"
+            summary = f"{seed}: {','.join(one.options)}; {one.deploy}"
             strikes = sum(kills.values())
             print(
-                f"{said}; {number + 1} of {words.rounds} rounds, {strikes} strikes, {bad} bad",
+                f"{summary}; {number + 1} of {options.rounds} rounds, {strikes} strikes, {bad} bad",
                 flush=True,
             )
-    print(f"seed {words.seed}, {time.monotonic() - began:.0f} s")
+    print(f"seed {options.seed}, {time.monotonic() - began:.0f} s")
     for title, counted in (("strikes", kills), ("figures", figures)):
         print(
             f"{title}: " + ", ".join(f"{name} {count}" for name, count in sorted(counted.items()))
@@ -497,10 +496,11 @@ def wrong(name: str) -> int:
     missed = 0
     for one in sorted(features_wrong.VARIANTS) if name == "all" else [name]:
         played, finds = try_wrong(one), features_wrong.VARIANTS[one].finds
-        is_found = finds in played.names
-        missed += not is_found
+        is_detected = finds in played.names
+        missed += not is_detected
         print(
-            f"{one}: {'found by' if is_found else 'NOT found by'} {finds}; {sorted(played.names)}",
+            f"{one}: {'found by' if is_detected else 'NOT found by'} {finds};"
+            f" {sorted(played.names)}",
             flush=True,
         )
     return 1 if missed else 0

@@ -1,18 +1,24 @@
-"""Two nodes over one database, struck at random moments, and a judgement of the store when all in it is over.
+"""Strike two nodes over one database at random moments, and judge the store at the end.
 
-    python3 tests/kills_nodes.py [--rounds N] [--kinds nodes,children,..] [--sagas N] [--seed S]
+    python3 tests/kills_nodes.py [--rounds N] [--kinds nodes,children,closing]
+        [--sagas N] [--seed S]
 
-Both nodes start the same sagas, and each is started again until it has seen the end of all. They reach their server through a relay. Meanwhile
+Both nodes start the same sagas, and each is started again until it has the results of all. They
+reach their server through a relay. The kinds are:
 
-- `nodes` kills them with -9, also while they start; `children` kills their deciding children; `closing` asks them to close, and mostly kills them then;
-- `sleep` stops them past their lease, and lets them go on;
-- `names` does as `nodes`, and both have one name;
-- `server` stops the server at once, as if its machine had failed, and starts it;
-- `relay` delays, cuts, and cuts between a statement, a commit too, and its answer;
-- `sessions` has the server end the nodes' sessions; `lock` locks tables for a while.
+- `nodes` kills them with SIGKILL, also while they start.
+- `children` kills their engine processes.
+- `closing` asks them to close, and mostly kills them then.
+- `sleep` stops them past their lease, and continues them.
+- `names` does as `nodes`, and both have one name.
+- `server` stops the server at once, as if its machine had failed, and starts it.
+- `relay` delays data and cuts connections, also between a statement or a commit and its reply.
+- `sessions` has the server end the nodes' sessions.
+- `lock` locks tables for a while.
 
-Each node has a worker, who gets tasks of the sagas of both; some sagas are aborted as an outcome of theirs is unknown.
-Each node records what it hears and acknowledges; the records are judged with what the database has, and by that alone.
+Each node has a worker, which gets tasks of the sagas of both. Some sagas are aborted while one of
+their outcomes is unknown. Each node records its replies and acknowledgements; these records are
+compared only with the database.
 """
 
 from __future__ import annotations
@@ -48,13 +54,13 @@ BOOK = """
 CREATE TABLE kinds(kind text PRIMARY KEY); INSERT INTO kinds VALUES ('good');
 CREATE TABLE book(token text, note text, kind text REFERENCES kinds DEFERRABLE INITIALLY DEFERRED);
 """
-"""Where the steps inside have their effects."""
+"""The table in which steps inside have their effects."""
 TABLES = ("nodes", "shards", "event_log", "sagas", "attempts", "suspensions")
 
 
 @dataclass
 class NodeStriker(Striker):
-    """One of the nodes, and what strikes it."""
+    """One of the nodes, and its strikes."""
 
     server: Server | None = None
     relay: Relay | None = None
@@ -65,10 +71,10 @@ class NodeStriker(Striker):
         super().__post_init__()
         assert self.server and self.relay
         through = self.server.url(self.url.rpartition("/")[2], port=self.relay.port)
-        self.words[2] = through
+        self.command[2] = through
         self.environment["SAGAS_RECORD"] = str(self.folder / "record")
-        self.words += [
-            "--eye",
+        self.command += [
+            "--reader",
             self.url,
             "--node",
             "same" if self.kind == "names" else self.name,
@@ -126,12 +132,14 @@ class NodeStriker(Striker):
     def _sessions(self, process: subprocess.Popen[bytes]) -> None:
         with psycopg.connect(self.url, autocommit=True) as link:
             link.execute(
-                "SELECT pg_terminate_backend(pid) FROM pg_stat_activity WHERE datname = current_database() AND pid <> pg_backend_pid() AND application_name = 'sagas'"
+                "SELECT pg_terminate_backend(pid) FROM pg_stat_activity WHERE datname ="
+                " current_database() AND pid <> pg_backend_pid() AND application_name = 'sagas'"
             )
         self.kills["sessions"] += 1
 
     def _lock(self, process: subprocess.Popen[bytes]) -> None:
-        # One that waited for ever could hold up all: an eye that looks behind it, in its node's loop, and so a transaction of that node before it.
+        # A statement that waits without limit could block everything: a reader that waits for it in
+        # its node's loop, and so an earlier transaction of that node.
         with psycopg.connect(self.url, options="-c lock_timeout=2s") as link, contextlib.suppress(
             psycopg.errors.LockNotAvailable
         ):
@@ -141,7 +149,9 @@ class NodeStriker(Striker):
 
 
 def noted(url: str, notes: pathlib.Path) -> list[str]:
-    """Tells the witness's notes of the effects inside; gives the tokens of which there are two."""
+    """Report the effects of steps inside to the witness's notes; return the tokens that occur
+    twice.
+    """
     with psycopg.connect(url) as link, open(notes, "a", encoding="utf-8") as file:
         rows = link.execute("SELECT token, note FROM book").fetchall()
         file.writelines(f"{note}\n" for _, note in rows)
@@ -158,7 +168,10 @@ def play(
     wrong: str | None = None,
     quiet: int = 6,
 ) -> Round:
-    """One round: a database, its strikes, its judgement. Its files stay where something was found."""
+    """Play one round: a database, its strikes and the verdict.
+
+    The files stay if there are faults.
+    """
     draw = random.Random(seed)
     folder = pathlib.Path(tempfile.mkdtemp(prefix="sagas-kills-"))
     concurrency, small = draw.choice((4, 16, 64)), wrong is None and draw.random() < 0.5
@@ -188,7 +201,11 @@ def play(
                 )
             )
         troubles: list[str | None] = []
-        threads = [threading.Thread(target=lambda one=one: troubles.append(one.until_over())) for one in strikers]  # type: ignore[misc]
+
+        def strike(striker: NodeStriker) -> None:
+            troubles.append(striker.until_over())
+
+        threads = [threading.Thread(target=strike, args=(striker,)) for striker in strikers]
         for thread in threads:
             thread.start()
         for thread in threads:
@@ -218,7 +235,7 @@ def play(
 
 
 def main() -> int:
-    """The command."""
+    """Run the command."""
     parser = argparse.ArgumentParser(
         description=__doc__, formatter_class=argparse.RawDescriptionHelpFormatter
     )
@@ -226,24 +243,25 @@ def main() -> int:
     parser.add_argument("--kinds", default=",".join(KINDS))
     parser.add_argument("--sagas", type=int, default=40)
     parser.add_argument("--seed", type=int, default=random.randrange(10**6))
-    words = parser.parse_args()
-    kinds = words.kinds.split(",")
+    options = parser.parse_args()
+    kinds = options.kinds.split(",")
     kills: Counter[str] = Counter()
     figures: Counter[str] = Counter()
     bad, began = 0, time.monotonic()
     with serving({"fsync": "on"}) as server:
-        for number in range(words.rounds):
-            one = play(kinds[number % len(kinds)], words.seed + number, words.sagas, server)
+        for number in range(options.rounds):
+            one = play(kinds[number % len(kinds)], options.seed + number, options.sagas, server)
             kills += one.kills
             figures += one.verdict.figures
-            bad += bool(one.found)
-            for fault in one.found[:5]:
+            bad += bool(one.problems)
+            for fault in one.problems[:5]:
                 print(f"\n{one.kind} {one.seed} {one.folder}: {fault}")
             print(
-                f"{number + 1} of {words.rounds} rounds, {sum(kills.values())} strikes, {bad} bad",
+                f"{number + 1} of {options.rounds} rounds,"
+                f" {sum(kills.values())} strikes, {bad} bad",
                 flush=True,
             )
-    print(f"seed {words.seed}, {time.monotonic() - began:.0f} s")
+    print(f"seed {options.seed}, {time.monotonic() - began:.0f} s")
     for title, counted in (("strikes", kills), ("figures", figures)):
         print(
             f"{title}: " + ", ".join(f"{name} {number}" for name, number in sorted(counted.items()))

@@ -1,14 +1,17 @@
-"""Backups that are restored under running nodes, which are killed at random moments, and a judgement when all is over.
+"""Restore backups under running nodes, which are killed at random moments, and judge the result.
 
     python3 tests/kills_restores.py [--rounds N] [--sagas N] [--restores N] [--seed S]
 
-Two programs start the same sagas, and wait for them; one that a restore has lost is started again. Meanwhile both are killed with -9 and started again,
-and a backup by `pg_dump` takes the place of the database. A witness outside of all keeps each call of a function and each end that a caller got. Then
+Two programs start the same sagas, and wait for them; one that a restore has lost is started again.
+Concurrently both are killed with SIGKILL and started again, and a backup by `pg_dump` replaces the
+database. A witness outside keeps each call of a function and each end that a caller got. At the
+end:
 
-- each saga has ended, as the last caller was told after the last restore, and nothing that was told before the backup or after the restore is missing;
-- what had ended before the backup is not called again;
-- no idempotency key is of two sagas;
-- no event log has a gap, and audit and record say yes.
+- Each saga has ended, as the last caller saw after the last restore. No end that a caller saw
+  before the backup or after the restore is missing.
+- Sagas that had ended before the backup are not called again.
+- No idempotency key is of two sagas.
+- No event log has a gap, and audit and record pass.
 """
 
 from __future__ import annotations
@@ -41,12 +44,12 @@ from sagas.cli import store_command
 
 LEASE, LONG = 2.0, 300.0
 MARGIN = 2.0
-"""Seconds that an answer of the database may take until the witness has it."""
+"""Seconds that a reply of the database may take until the witness has it."""
 Json = dict[str, Any]
 
 
 def pair(witness: Witness, draw: random.Random) -> sagas.Saga:
-    """Two steps, of which the second fails now and then, so that the first is undone."""
+    """Return two steps; the second fails now and then, so that the first is undone."""
     saga = sagas.Saga("pair")
 
     async def called(task: sagas.Task[Any], word: str) -> None:
@@ -73,7 +76,7 @@ def pair(witness: Witness, draw: random.Random) -> sagas.Saga:
 
 
 async def call(store: sagas.Store, saga: sagas.Saga, key: str, witness: Witness) -> None:
-    """Starts a saga until it is told how it ended."""
+    """Start a saga, and repeat that until its result is known."""
     while True:
         try:
             end = await (await store.start(saga, key)).wait(timeout=20)
@@ -85,25 +88,25 @@ async def call(store: sagas.Store, saga: sagas.Saga, key: str, witness: Witness)
 
 
 async def node(url: str, socket: str, name: str, count: int) -> None:
-    """A program, until it was told of all sagas."""
+    """Run a program until it has the results of all sagas."""
     witness, draw = Witness(socket), random.Random(name)
     saga = pair(witness, draw)
     async with sagas.open(
         url, [saga], node=name, lease=LEASE, concurrency=32, shutdown_timeout=5
     ) as store:
         print("open", flush=True)
-        for lot in range(0, count, 10):
+        for first in range(0, count, 10):
             await asyncio.gather(
                 *(
                     call(store, saga, f"k{number}", witness)
-                    for number in range(lot, min(count, lot + 10))
+                    for number in range(first, min(count, first + 10))
                 )
             )
 
 
 @dataclass
 class Program:
-    """A node that is started again as long as it has not been told of all."""
+    """A node that is started again until it has the results of all sagas."""
 
     command: list[str]
     draw: random.Random
@@ -134,7 +137,9 @@ class Program:
 
 @dataclass
 class Restored:
-    """When the backup was begun that was restored, and when that was done, in wall time."""
+    """The times at which the restored backup was started, and its restore was finished
+    (wall time).
+    """
 
     backup: float
     done: float
@@ -142,18 +147,17 @@ class Restored:
 
 @dataclass
 class Round:
-    """What a round came to. `again`: how many sagas were executed again."""
+    """The result of a round. `again`: the number of sagas that were executed again."""
 
     faults: list[str] = field(default_factory=list)
     kills: int = 0
     again: int = 0
 
     def judge(self, url: str, notes: list[Json], restores: list[Restored], count: int) -> None:
-        """Compares the witness's notes with what the database has."""
+        """Compare the witness's notes with the database."""
         rows, last = records.read(url), restores[-1]
-        since = (
-            restores[-2].done + MARGIN if len(restores) > 1 else 0.0
-        )  # a restore before it has lost what was told until then
+        # a restore before it has lost the replies until then
+        since = restores[-2].done + MARGIN if len(restores) > 1 else 0.0
         ends, calls, keys = (
             defaultdict[str, list[Json]](list),
             defaultdict[str, list[Json]](list),
@@ -191,7 +195,7 @@ class Round:
 
 
 def play(seed: int, count: int, restores: int, server: Server) -> Round:
-    """One round: a database, its restores, its judgement. Its files stay where something was played."""
+    """Play one round: a database, its restores and the verdict. The files stay."""
     draw, played = random.Random(seed), Round()
     folder, url = pathlib.Path(tempfile.mkdtemp(prefix="sagas-restores-")), server.create()
     socket, done = str(folder / "socket"), list[Restored]()
@@ -234,7 +238,7 @@ def play(seed: int, count: int, restores: int, server: Server) -> Round:
 
 
 def finish(url: str, server: Server, folder: pathlib.Path) -> None:
-    """What a restore has reopened, of which no caller waits any more, ends with the next node."""
+    """Let a node end what a restore has reopened, for which no caller waits any more."""
 
     async def main() -> None:
         with witness_at(folder / "last", folder / "last-notes"):
@@ -248,7 +252,7 @@ def finish(url: str, server: Server, folder: pathlib.Path) -> None:
 
 
 def main() -> int:
-    """Some rounds; the status is 1 where something was found."""
+    """Play some rounds; the status is 1 if there are faults."""
     parser = argparse.ArgumentParser(
         description=__doc__, formatter_class=argparse.RawDescriptionHelpFormatter
     )
@@ -261,7 +265,10 @@ def main() -> int:
     with serving() as server:
         for number in range(options.rounds):
             played = play(options.seed + number, options.sagas, options.restores, server)
-            counts = f"{played.kills} kills, {played.again} sagas called again, {len(played.faults)} faults"
+            counts = (
+                f"{played.kills} kills, {played.again} sagas called again,"
+                f" {len(played.faults)} faults"
+            )
             print(
                 f"round {options.seed + number}: {counts}",
                 *played.faults[:8],

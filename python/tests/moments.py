@@ -1,6 +1,7 @@
-"""Moments at which a store over PostgreSQL has to do right, each brought about by itself: no strike at random, nothing that a busy machine decides.
+"""Moments at which a store over PostgreSQL must do right, each brought about deliberately.
 
-A moment is two programs' worth of nodes in one process, with the witness and the judge of the kill tests. Each call of a step waits for its gate.
+No strike is random, and a busy machine changes nothing. A moment is two nodes in one process, with
+the witness and the verifier of the kill tests. Each call of a step waits for its gate.
 """
 
 from __future__ import annotations
@@ -22,7 +23,7 @@ from kills_nodes import BOOK, noted
 from relay import Relay, relaying
 from server import Server
 from witness import Witness, witness_at
-from world import ROW, Eye, World, started
+from world import ROW, OutsideReader, World, started
 
 import sagas
 from sagas.runtime.coordinator import Coordinator
@@ -37,20 +38,23 @@ from sagas.storage.postgresql import (
 )
 
 TAKEOVER = connections.TAKEOVER.format(node="node", last="last_seq(shard)", taken="mine")
-COMMIT = b'"event":"commit"'  # as a word of its own: there is one row of each kind
-"""What stands in the statement that keeps a step's end."""
+COMMIT = b'"event":"commit"'  # as a whole word: there is one row of each kind
+"""A part of the statement that stores a step's end."""
 
 
 class Node(World):
-    """The sagas of one node: two steps in a row, each call of which is told to the witness and then waits for its gate; those `inside` are transactions,
-    of async functions or, in the second saga, of plain ones."""
+    """The sagas of one node: two steps in a row.
+
+    Each call is reported to the witness and then waits for its gate. Those `inside` are
+    transactions, of async functions or, in the second saga, of plain ones.
+    """
 
     def __init__(self, witness: Witness, url: str, gates: bool, inside: bool = False) -> None:
         self.called: list[tuple[str, str]] = []
         self.gates: dict[tuple[str, str], asyncio.Event] = defaultdict(asyncio.Event)
         self.gated, self.loop = gates, asyncio.get_running_loop()
         self.refused: set[tuple[str, str]] = set()
-        super().__init__(witness, Eye(url))
+        super().__init__(witness, OutsideReader(url))
         self.sagas = [self.pair(inside), self.plain()] if inside else [self.pair(inside)]
 
     def pair(self, inside: bool) -> sagas.Saga:
@@ -79,34 +83,34 @@ class Node(World):
         return in_a_row("plain", call, True)
 
     async def passes(self, task: Any) -> None:
-        """Waits for its gate."""
+        """Wait for its gate."""
         if self.gated:
             await self.gates[task.key, task.step].wait()
 
     def open_all(self) -> None:
-        """No call waits any more."""
+        """Open all gates, so that no call waits any more."""
         self.gated = False
         for gate in self.gates.values():
             gate.set()
 
     async def one(self, store: sagas.Store, number: int, saga: int = 0) -> None:
-        """A saga from its start to its end, both told to the witness once they were told here."""
-        key, note, eye = f"k{number}", self.witness.note, self.eye
+        """Run a saga to its end; report both replies to the witness once they arrive here."""
+        key, note, reader = f"k{number}", self.witness.note, self.reader
         run = await started(store, self.sagas[saga], key, {"i": number})
-        note(what="started", key=key, there=eye.phase(key)[0])
+        note(what="started", key=key, there=reader.phase(key)[0])
         end = await run.wait()
-        told = {
+        end_note = {
             "phase": end.phase,
             "states": end.states,
             "results": end.results,
             "cost": end.cost,
             "aborted": end.aborted,
         }
-        note(what="over", key=key, there=eye.phase(key)[1], **told)
+        note(what="over", key=key, there=reader.phase(key)[1], **end_note)
 
 
 def in_a_row(name: str, call: Callable[[Any], Any], inside: bool) -> sagas.Saga:
-    """A saga of two steps."""
+    """Return a saga of two steps."""
     saga = sagas.Saga(name)
     saga.step(name="b", transaction=inside, needs=[saga.step(name="a", transaction=inside)(call)])(
         call
@@ -115,12 +119,15 @@ def in_a_row(name: str, call: Callable[[Any], Any], inside: bool) -> sagas.Saga:
 
 
 class Stage:
-    """Where a moment is played: a database, its server, a witness; and whether the store is a wrong one, which may never get to an end."""
+    """The setting of a moment: a database, its server and a witness.
+
+    The store may be a mutant, which may never get to an end.
+    """
 
     def __init__(self, server: Server, url: str, socket: pathlib.Path, wrong: bool) -> None:
         self.server, self.url, self.wrong = server, url, wrong
         self._socket, self.record = str(socket), socket.parent / "record"
-        self.found: set[str] = set()
+        self.fault_names: set[str] = set()
 
     @contextlib.asynccontextmanager
     async def node(
@@ -132,7 +139,7 @@ class Stage:
         inside: bool = False,
         room: int | None = None,
     ) -> AsyncIterator[tuple[Node, sagas.Store]]:
-        """A node, until the block ends. `room`: how many sagas it puts into a log."""
+        """Open a node until the block ends. `room`: the number of sagas that it puts into a log."""
         node = Node(Witness(self._socket), self.url, gates, inside)
         store = sagas.open(
             url or self.url, node.sagas, node=name, lease=600, idle=600, record=self.record
@@ -149,7 +156,7 @@ class Stage:
                     await store.close()
 
     async def over(self, *work: Awaitable[object]) -> None:
-        """Waits until it is done; a wrong store may not do it."""
+        """Wait until the moment is over; a wrong store may not get there."""
         _, late = await asyncio.wait(
             [asyncio.ensure_future(one) for one in work], timeout=3 if self.wrong else 60
         )
@@ -157,32 +164,39 @@ class Stage:
             one.cancel()
 
     async def happens(self, what: Callable[[], Any]) -> None:
-        """Waits until something is so; with a wrong store it may never be."""
+        """Wait for a condition; with a wrong store it may never hold."""
         with contextlib.suppress(TimeoutError if self.wrong else ()):
             await until(what, 3 if self.wrong else 60)
 
     def ask(self, text: str) -> list[tuple[Any, ...]]:
-        """What the database says."""
+        """Return the rows of a query."""
         with psycopg.connect(self.url, options="-csearch_path=sagas") as link:
             return link.execute(text).fetchall()  # type: ignore[arg-type]
 
     def waiting(self) -> list[tuple[Any, ...]]:
-        """The server's processes whose statements wait for a lock."""
+        """Return the server's processes whose statements wait for a lock."""
         return self.ask(
-            "SELECT pid FROM pg_stat_activity WHERE datname = current_database() AND wait_event_type = 'Lock'"
+            "SELECT pid FROM pg_stat_activity WHERE datname = current_database() AND"
+            " wait_event_type = 'Lock'"
         )
 
     async def gone(self, processes: list[tuple[Any, ...]]) -> None:
-        """Waits until they are no more: what they had to do is done."""
+        """Wait until they have ended, with their work done."""
         await until(lambda: not {*processes} & {*self.ask("SELECT pid FROM pg_stat_activity")})
 
     def give(self, key: str, name: str) -> None:
-        """The log of a saga is another node's from now on, who hears of it; who had it does not."""
+        """Make another node the owner of a saga's log.
+
+        The new owner is notified; the former one is not.
+        """
         of = "shard = (SELECT id / 1000 FROM sagas.sagas WHERE key = %s)"
         with psycopg.connect(self.url) as link:
             link.execute("SET search_path = sagas")
             taken = link.execute(
-                f"WITH mine AS (UPDATE shards SET owner = n.node, epoch = epoch + 1 FROM nodes n WHERE {of} AND n.name = %s RETURNING shard, epoch, n.node) {TAKEOVER}",
+                (
+                    "WITH mine AS (UPDATE shards SET owner = n.node, epoch = epoch + 1 FROM nodes"
+                    f" n WHERE {of} AND n.name = %s RETURNING shard, epoch, n.node) {TAKEOVER}"
+                ),
                 (key, name),
             )
             assert taken.rowcount == 1
@@ -190,20 +204,20 @@ class Stage:
 
     @contextlib.contextmanager
     def locked(self, table: str) -> Iterator[None]:
-        """Nobody can write a table; to read it stays allowed."""
+        """Lock a table against writes; reads stay allowed."""
         with psycopg.connect(self.url) as link:
             link.execute(f"LOCK TABLE sagas.{table} IN EXCLUSIVE MODE")  # type: ignore[arg-type]
             yield
 
 
 def inner(store: sagas.Store) -> Coordinator:
-    """The inside of a store."""
+    """Return the inside of a store."""
     assert store._coordinator
     return store._coordinator
 
 
 async def nothing_happens(stage: Stage) -> int:
-    """Four sagas, one behind the other, and nothing else."""
+    """Four sagas in sequence, without any error."""
     async with stage.node("one", gates=False) as (node, store):
         for number in range(4):
             await stage.over(node.one(store, number))
@@ -211,7 +225,10 @@ async def nothing_happens(stage: Stage) -> int:
 
 
 async def another_node_has_the_log(stage: Stage) -> int:
-    """A node reports into a log that another has: the one goes on with a saga, and the other, which calls its steps too, with both."""
+    """A node reports into a log that another one has.
+
+    The other node, which calls its steps too, continues both sagas.
+    """
     async with stage.node("same") as (first, store):
         work = [asyncio.create_task(first.one(store, number)) for number in range(2)]
         await until(lambda: len(first.called) == 2)
@@ -236,7 +253,9 @@ async def another_node_has_the_log(stage: Stage) -> int:
 async def in_one_commit(
     stage: Stage, node: Node, store: sagas.Store, keys: Sequence[str], number: int
 ) -> asyncio.Task[None]:
-    """Of these sagas, each of another log, the first steps end while a further saga is being started: what they come to is one commit, behind that."""
+    """Let the first steps of these sagas, each of another log, end while a further saga is being
+    started. Their outcomes are then one commit, after the start.
+    """
     with stage.locked("sagas"):
         work = asyncio.create_task(node.one(store, number))
         await until(stage.waiting)
@@ -247,7 +266,10 @@ async def in_one_commit(
 
 
 async def another_node_has_one_of_two_logs(stage: Stage) -> int:
-    """A node reports into both by one commit: of the one that another has nothing is written, and of the other all."""
+    """A node reports into both by one commit.
+
+    Nothing is written of the log that another node has, and all of the other one.
+    """
     async with stage.node("one", room=1) as (first, store), stage.node("two") as (second, _):
         work = [asyncio.create_task(first.one(store, number)) for number in range(2)]
         await until(lambda: len(first.called) == 2)
@@ -259,7 +281,7 @@ async def another_node_has_one_of_two_logs(stage: Stage) -> int:
         await until(lambda: ("k1", "b") in first.called or len(inner(store).shards.runners) == 2)
         assert store.commits == before + 2
         if stage.ask("SELECT 1 FROM attempts JOIN sagas USING (id) WHERE key = 'k1'"):
-            stage.found.add("not-its-own")
+            stage.fault_names.add("not-its-own")
         second.open_all()
         first.open_all()
         await stage.over(*work)
@@ -267,8 +289,10 @@ async def another_node_has_one_of_two_logs(stage: Stage) -> int:
 
 
 async def another_node_has_the_only_log(stage: Stage) -> int:
-    """A node reports into a log that another has taken up, and has not written since: its lines
-    join on, so their primary key refuses nothing, and nothing is written all the same."""
+    """A node reports into a log that another one has taken over and not written since.
+
+    Its lines join on, so that their primary key refuses nothing; still nothing may be written.
+    """
     async with stage.node("one") as (first, store), stage.node("two") as (second, _):
         work = asyncio.create_task(first.one(store, 0))
         await until(lambda: first.called)
@@ -277,7 +301,7 @@ async def another_node_has_the_only_log(stage: Stage) -> int:
         first.gates["k0", "a"].set()
         await until(lambda: ("k0", "b") in first.called or not inner(store).shards.runners)
         if stage.ask("SELECT 1 FROM attempts"):
-            stage.found.add("not-its-own")
+            stage.fault_names.add("not-its-own")
         second.open_all()
         first.open_all()
         await stage.over(work)
@@ -285,14 +309,15 @@ async def another_node_has_the_only_log(stage: Stage) -> int:
 
 
 async def a_commit_of_two_logs_comes_late(stage: Stage) -> int:
-    """The server comes to it when its connection is cut, and its logs are under other epochs, as where their node has taken them up again."""
+    """The server executes it when its connection is cut, and its logs have other epochs, as after a
+    takeover by the same node.
+    """
     with relaying(stage.server.port) as relay:
         async with stage.node("one", url=through(stage, relay), room=1) as (node, store):
             work = [asyncio.create_task(node.one(store, number)) for number in range(4)]
             await until(lambda: len(node.called) == 4)
-            work.append(
-                await in_one_commit(stage, node, store, ("k0", "k1"), 4)
-            )  # the statement is prepared behind it, and not parsed when it is cut
+            # the statement is prepared after it, and not being parsed when it is cut
+            work.append(await in_one_commit(stage, node, store, ("k0", "k1"), 4))
             await until(lambda: len(node.called) == 7)
             with stage.locked("attempts"):
                 work.append(await in_one_commit(stage, node, store, ("k2", "k3"), 5))
@@ -301,11 +326,12 @@ async def a_commit_of_two_logs_comes_late(stage: Stage) -> int:
                 relay.cut()
                 with psycopg.connect(stage.url, options="-csearch_path=sagas") as link:
                     link.execute(
-                        f"WITH mine AS (UPDATE shards SET epoch = epoch + 1 RETURNING shard, epoch, owner AS node) {TAKEOVER}"
+                        "WITH mine AS (UPDATE shards SET epoch = epoch + 1 RETURNING shard, epoch,"
+                        f" owner AS node) {TAKEOVER}"
                     )
             await stage.gone(late)
             if stage.ask("SELECT 1 FROM attempts JOIN sagas USING (id) WHERE key IN ('k2', 'k3')"):
-                stage.found.add("came-late")
+                stage.fault_names.add("came-late")
             relay.before = 0.0
             node.open_all()
             await stage.over(*work)
@@ -313,7 +339,9 @@ async def a_commit_of_two_logs_comes_late(stage: Stage) -> int:
 
 
 async def a_refused_start_comes_late(stage: Stage) -> int:
-    """The server comes to it when its connection is cut, its log is taken up again, and the caller has heard that nothing was begun."""
+    """The server executes it when its connection is cut, its log is taken over again, and the
+    caller has the reply that nothing was started.
+    """
     with relaying(stage.server.port) as relay:
         async with stage.node("one", gates=False, url=through(stage, relay)) as (node, store):
             for number in range(2):
@@ -324,7 +352,7 @@ async def a_refused_start_comes_late(stage: Stage) -> int:
                 relay.cut()
                 with contextlib.suppress(sagas.StoreUnavailable):
                     await start
-                    stage.found.add("not-refused")
+                    stage.fault_names.add("not-refused")
                 await until(lambda: stage.ask("SELECT epoch FROM shards") > [(1,)])
             await stage.gone(late)
     return 2
@@ -333,7 +361,9 @@ async def a_refused_start_comes_late(stage: Stage) -> int:
 async def the_answer_to_a_commit_is_lost(
     stage: Stage, mark: bytes = COMMIT, inside: bool = False
 ) -> int:
-    """The statement that keeps a step's end is done, and its connection cut before the answer."""
+    """The statement that stores a step's end is done, and its connection is cut before
+    the reply.
+    """
     with relaying(stage.server.port) as relay:
         async with stage.node("one", url=through(stage, relay), inside=inside) as (node, store):
             work = asyncio.create_task(node.one(store, 0))
@@ -349,12 +379,12 @@ async def the_answer_to_a_commit_is_lost(
 
 
 def through(stage: Stage, relay: Relay) -> str:
-    """The database's address by a relay."""
+    """Return the database's address through a relay."""
     return stage.server.url(stage.url.rpartition("/")[2], port=relay.port)
 
 
 async def the_commit_takes_long(stage: Stage) -> int:
-    """Nobody can write lines while a saga is started, and while its step ends."""
+    """No node can write lines while a saga is started, and while its step ends."""
     async with stage.node("one") as (node, store):
         first = asyncio.create_task(node.one(store, 0))
         await until(lambda: node.called)
@@ -362,7 +392,7 @@ async def the_commit_takes_long(stage: Stage) -> int:
             second = asyncio.create_task(node.one(store, 1))
             node.gates["k0", "a"].set()
             await until(stage.waiting)
-            await asyncio.sleep(0.05)  # what would be told before the commit is told by now
+            await asyncio.sleep(0.05)  # a reply that came before the commit has arrived by now
         node.open_all()
         await stage.over(first, second)
     return 2
@@ -379,15 +409,14 @@ async def two_nodes_guess_a_key_at_once(stage: Stage) -> int:
 
 
 async def at_once(stage: Stage, looks: bool) -> int:
-    """Two nodes whose starts of one key wait for the same table."""
+    """Let two nodes whose starts of one key wait for the same table start it."""
     async with stage.node("one", gates=False) as (first, store), stage.node("two", gates=False) as (
         second,
         other,
     ):
         for one in (store, other):
-            one._lookup.guessing.told(
-                was_there=looks
-            )  # so that its next keys are looked for, or are not
+            # so that its next keys are looked for, or are not
+            one._lookup.guessing.told(was_there=looks)
         with stage.locked("sagas"):
             work = [
                 asyncio.create_task(first.one(store, 0)),
@@ -399,7 +428,9 @@ async def at_once(stage: Stage, looks: bool) -> int:
 
 
 async def a_node_lives(stage: Stage) -> int:
-    """Another node looks for what nobody has, three times: what this one calls is its own."""
+    """Another node looks for shards without an owner, three times: the calls of this one are its
+    own.
+    """
     async with stage.node("one") as (first, store):
         work = asyncio.create_task(first.one(store, 0))
         await until(lambda: first.called)
@@ -411,7 +442,7 @@ async def a_node_lives(stage: Stage) -> int:
                 or second.called
             )
             if second.called:
-                stage.found.add("called-again")
+                stage.fault_names.add("called-again")
             first.open_all()
             second.open_all()
             await stage.over(work)
@@ -427,7 +458,7 @@ async def steps_are_inside(stage: Stage) -> int:
 
 
 async def another_node_has_the_log_of_a_step_inside(stage: Stage) -> int:
-    """A step inside ends when its log is another's, who has called it too."""
+    """A step inside ends when its log is another node's, which has called it too."""
     async with stage.node("same", inside=True) as (first, store):
         work = asyncio.create_task(first.one(store, 0))
         await until(lambda: first.called)
@@ -447,7 +478,10 @@ async def another_node_has_the_log_of_a_step_inside(stage: Stage) -> int:
 
 
 async def another_node_has_the_logs_of_steps_inside(stage: Stage) -> int:
-    """Two steps inside, and one in a thread, end at once when their logs are another's, who has called them too: each by its own record."""
+    """Two steps inside, and one in a thread, end at once.
+
+    Their logs are another node's, which has called them too: each ends by its own record.
+    """
     async with stage.node("same", inside=True, room=1) as (first, store):
         work = [asyncio.create_task(first.one(store, number, number // 2)) for number in range(3)]
         await until(lambda: len(first.called) == 3)
@@ -457,7 +491,7 @@ async def another_node_has_the_logs_of_steps_inside(stage: Stage) -> int:
                 first.gates[f"k{number}", "a"].set()
             await until(lambda: not inner(store).shards.runners)
             if stage.ask("SELECT id FROM attempts UNION ALL SELECT 0 FROM public.book"):
-                stage.found.add("not-its-own")
+                stage.fault_names.add("not-its-own")
             second.open_all()
             first.open_all()
             await stage.over(*work)
@@ -465,7 +499,7 @@ async def another_node_has_the_logs_of_steps_inside(stage: Stage) -> int:
 
 
 async def the_commit_of_a_step_inside_is_refused(stage: Stage) -> int:
-    """By a constraint that is looked at in the commit, at the first try."""
+    """A constraint that is checked in the commit refuses it, at the first try."""
     async with stage.node("one", gates=False, inside=True) as (node, store):
         node.refused.add(("k0", "a"))
         await stage.over(node.one(store, 0))
@@ -473,7 +507,7 @@ async def the_commit_of_a_step_inside_is_refused(stage: Stage) -> int:
 
 
 async def the_answer_to_a_step_inside_is_lost(stage: Stage) -> int:
-    """The same, of a step's own transaction."""
+    """As `the_answer_to_a_commit_is_lost`, of a step's own transaction."""
     return await the_answer_to_a_commit_is_lost(stage, b"EXECUTE sagas_record(", inside=True)
 
 
@@ -502,7 +536,7 @@ MOMENTS = {
 
 @contextlib.contextmanager
 def applied(name: str | None) -> Iterator[None]:
-    """A wrong store in place of the right one, until the block ends."""
+    """Replace the right store by a wrong one until the block ends."""
     owners: list[Any] = [
         storage,
         storage.PostgreSQL,
@@ -525,7 +559,7 @@ def applied(name: str | None) -> Iterator[None]:
             for word in [word for word, value in vars(owner).items() if was.get(word) is not value]:
                 if word in was:
                     setattr(owner, word, was[word])
-                else:  # as what a warning leaves in the module that it was told in
+                else:  # as a warning leaves marks in the module that issued it
                     delattr(owner, word)
         commit_statement.PARTS.clear()
         commit_statement.PARTS.update(parts)
@@ -533,7 +567,7 @@ def applied(name: str | None) -> Iterator[None]:
 
 
 def play(server: Server, name: str, wrong: str | None = None) -> tuple[set[str], list[str]]:
-    """A moment over a database of its own; gives the names of what is found, and the faults."""
+    """Play a moment over its own database; return the names of the faults, and the faults."""
     url = server.create()
     with psycopg.connect(url) as link:
         link.execute(BOOK)
@@ -543,9 +577,9 @@ def play(server: Server, name: str, wrong: str | None = None) -> tuple[set[str],
             stage = Stage(server, url, socket, wrong is not None)
             count = asyncio.run(asyncio.wait_for(MOMENTS[name](stage), 120))
         if noted(url, notes):
-            stage.found.add("inside-twice")
+            stage.fault_names.add("inside-twice")
         verdict = judge(url, notes, count)
         _, faults = fleet.judged(url, [stage.record])
     server.drop(url)
-    found = {"record"} if faults else set[str]()
-    return verdict.names | stage.found | found, verdict.faults + faults
+    record_faults = {"record"} if faults else set[str]()
+    return verdict.names | stage.fault_names | record_faults, verdict.faults + faults

@@ -1,6 +1,8 @@
-"""The objects of OpenAPI 3.1, as the tables of the specification have them: which fields each may
-and must have, and of which type. Debian's package `openapi-specification` has the text, and no JSON
-Schema of 3.1."""
+"""The objects of OpenAPI 3.1, as the tables of the specification define them.
+
+They say which fields each object may and must have, and of which type. Debian's package
+`openapi-specification` has the text, and no JSON Schema of 3.1.
+"""
 
 from __future__ import annotations
 
@@ -51,8 +53,9 @@ class Of:
 
 @dataclasses.dataclass
 class Rules:
-    """The fields of an object by name, those that it must have, each perhaps only for one `type`,
-    and the types of the others by a pattern."""
+    """The fields of an object by name, its required fields, and the types of other fields by
+    pattern. A field may be required only for one `type`.
+    """
 
     fields: dict[str, Of] = dataclasses.field(default_factory=dict)
     required: dict[str, str] = dataclasses.field(default_factory=dict)
@@ -60,72 +63,73 @@ class Rules:
 
 
 def type_of(cell: str) -> Of:
-    """The type that a cell of a table has."""
-    words = [found for found in WORD.finditer(cell)]
+    """Return the type in a cell of a table."""
+    tokens = [match for match in WORD.finditer(cell)]
 
     def one() -> Of:
-        found = words.pop(0)
-        text = found[0]
+        match = tokens.pop(0)
+        text = match[0]
         if text == "Map[":
             one()  # of the names: always `string`
-            words.pop(0)
+            tokens.pop(0)
             return closed("map")
         if text == "[":
             return closed("list")
-        return Of("any") if text == "Any" or "{" in text else Of(found[1] or found[2])
+        return Of("any") if text == "Any" or "{" in text else Of(match[1] or match[2])
 
     def some() -> Of:
         parts = [one()]
-        while words and words[0][0] == "\\|":
-            words.pop(0)
+        while tokens and tokens[0][0] == "\\|":
+            tokens.pop(0)
             parts.append(one())
         return parts[0] if len(parts) == 1 else Of("or", tuple(parts))
 
     def closed(word: str) -> Of:
-        found = Of(word, (some(),))
-        words.pop(0)
-        return found
+        closed_type = Of(word, (some(),))
+        tokens.pop(0)
+        return closed_type
 
     return some()
 
 
 def read() -> dict[str, Rules]:
-    """The rules of all objects."""
-    found = {name: rules_of(text) for name, text in OBJECT.findall(TEXT.read_text())}
-    header = Rules(dict(found["Parameter"].fields), {}, dict(found["Parameter"].patterns))
+    """Return the rules of all objects."""
+    objects = {name: rules_of(text) for name, text in OBJECT.findall(TEXT.read_text())}
+    header = Rules(dict(objects["Parameter"].fields), {}, dict(objects["Parameter"].patterns))
     for name in ("name", "in"):
         del header.fields[name]
+    # "follows the structure of the Parameter Object", except for these
     return {
-        **found,
+        **objects,
         "Header": header,
-    }  # "follows the structure of the Parameter Object", but for these
+    }
 
 
 def rules_of(text: str) -> Rules:
-    """Those of one object."""
+    """Return the rules of one object."""
     rules = Rules()
     for row in ROW.findall(text):
         cells = [cell.strip() for cell in re.split(r"(?<!\\)\|", row)]
-        name, kind, *told = cells
+        name, kind, *description = cells
         if "{" in name or "HTTP Status Code" in name:
             pattern = {"/{path}": "/.*", "{name}": ".*", "{expression}": ".*"}
             rules.patterns[pattern.get(name, r"[1-5](\d\d|XX)")] = type_of(kind)
             continue
         rules.fields[name] = type_of(kind)
-        if told[-1].startswith("**REQUIRED**"):  # else of some only
-            applies = re.search(r"`(\w+)`", told[0]) if len(told) > 1 else None
+        if description[-1].startswith("**REQUIRED**"):  # else of some only
+            applies = re.search(r"`(\w+)`", description[0]) if len(description) > 1 else None
             rules.required[name] = applies[1] if applies else ""
     return rules
 
 
 class Checker:
-    """Compares a document with the rules."""
+    """Compare a document with the rules."""
 
     def __init__(self) -> None:
         self.rules, self.seen = read(), dict[str, int]()
 
     def faults(self, value: Any, of: Of, where: str) -> Iterator[str]:
-        """What is wrong with a value."""
+        """Return the errors of a value."""
         self.seen[of.word] = self.seen.get(of.word, 0) + 1
         if of.word == "or":
             is_reference = isinstance(value, dict) and "$ref" in value
@@ -168,7 +172,9 @@ class Checker:
 
 
 def schema_faults(schema: Any, where: str) -> Iterator[str]:
-    """By the meta-schema of JSON Schema 2020-12; no keyword is one that it does not have."""
+    """Return the errors by the meta-schema of JSON Schema 2020-12, which must define each
+    keyword.
+    """
     try:
         jsonschema.Draft202012Validator.check_schema(schema)
     except jsonschema.SchemaError as error:
@@ -177,17 +183,17 @@ def schema_faults(schema: Any, where: str) -> Iterator[str]:
 
 
 def keyword_faults(schema: Any, where: str) -> Iterator[str]:
-    """Keywords that JSON Schema does not have, in a schema and those within it."""
+    """Return keywords that JSON Schema does not define, in a schema and those within it."""
     known = ANNOTATIONS | {*jsonschema.Draft202012Validator.VALIDATORS}
     for name in schema if isinstance(schema, dict) else ():
         if name not in known and not name.startswith("x-"):
             yield f"{where}: there is no keyword {name}"
-    for one, place in subschemas(schema):
-        yield from keyword_faults(one, f"{where}/{place}")
+    for one, location in subschemas(schema):
+        yield from keyword_faults(one, f"{where}/{location}")
 
 
 def subschemas(schema: Any) -> Iterator[tuple[Any, str]]:
-    """The schemas within one, with their places."""
+    """Return the schemas within one, with their locations."""
     for name, value in schema.items() if isinstance(schema, dict) else ():
         if name in ("properties", "$defs", "patternProperties", "dependentSchemas"):
             yield from ((one, f"{name}/{key}") for key, one in value.items())

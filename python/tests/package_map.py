@@ -33,18 +33,18 @@ python/tests/package_map.py` writes this page from the modules' docstrings.*
 
 
 def lines(layer: str) -> list[str]:
-    """A line for each module of a layer; `""` is the package's own folder."""
-    found = []
+    """Return a line for each module of a layer; `""` is the package's own folder."""
+    entries = []
     for path in sorted(SRC.glob("*.py") if not layer else (SRC / layer).rglob("*.py")):
         name = path.relative_to(SRC).as_posix()
-        said = ast.get_docstring(ast.parse(path.read_text())) or ""
+        docstring = ast.get_docstring(ast.parse(path.read_text())) or ""
         if name != "__init__.py":
-            found.append(f"- `{name}`: {said.splitlines()[0]}")
-    return found
+            entries.append(f"- `{name}`: {docstring.splitlines()[0]}")
+    return entries
 
 
 def page(name: str) -> str:
-    """The text of a page."""
+    """Return the text of a page."""
     title, layers = PAGES[name]
     parts = [HEAD.format(title)]
     for layer in layers:

@@ -1,4 +1,4 @@
-"""What a store holds, read without the package."""
+"""The content of a store, read without the package."""
 
 from __future__ import annotations
 
@@ -23,7 +23,7 @@ class SagaRow:
 
     id: int
     key: str
-    place: int
+    definition_index: int
     input: Any
     phase: str | None
     end: Json | None
@@ -55,9 +55,9 @@ class LogRows:
     def events(self) -> list[Json]:
         return [json.loads(line) for line in self.lines]
 
-    def steps(self, place: int) -> list[str]:
-        """The names of the steps of a definition."""
-        return [step["name"] for step in tomllib.loads(self.texts[place])["step"]]
+    def steps(self, definition_index: int) -> list[str]:
+        """Return the names of the steps of a definition."""
+        return [step["name"] for step in tomllib.loads(self.texts[definition_index])["step"]]
 
 
 @dataclass(frozen=True)
@@ -90,7 +90,7 @@ def _server(store: pathlib.Path | str) -> Iterator[Callable[[str], list[Any]]]:
 
 
 def read(store: pathlib.Path | str) -> Records:
-    """Reads a store, beside a running program too."""
+    """Read a store, even while a program runs on it."""
     rows = contextlib.contextmanager(_server if str(store).startswith("postgresql:") else _lite)
     with rows(store) as ask:
         logs = {
@@ -107,8 +107,10 @@ def read(store: pathlib.Path | str) -> Records:
         ):
             logs[log].chunks.append((first, text))
         sagas = {
-            key: SagaRow(id, key, place, json.loads(text), phase, json.loads(end) if end else None)
-            for id, key, place, text, phase, end in ask(
+            key: SagaRow(
+                id, key, definition_index, json.loads(text), phase, json.loads(end) if end else None
+            )
+            for id, key, definition_index, text, phase, end in ask(
                 "SELECT id, key, definition_index, input, phase, outcome FROM sagas"
             )
         }
@@ -122,7 +124,7 @@ def read(store: pathlib.Path | str) -> Records:
 
 
 def integrity(store: pathlib.Path) -> str:
-    """What SQLite says of the file."""
+    """Return SQLite's integrity report on the file."""
     db = sqlite3.connect(store)
     try:
         return str(db.execute("PRAGMA integrity_check").fetchone()[0])

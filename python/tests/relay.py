@@ -1,4 +1,7 @@
-"""A relay between a node and its server, which delays what passes, cuts connections, and cuts them between a statement and its answer."""
+"""A relay between a node and its server.
+
+It delays data, cuts connections, and cuts them between a statement and its reply.
+"""
 
 from __future__ import annotations
 
@@ -11,19 +14,30 @@ from collections.abc import Iterator
 
 
 class Relay:
-    """Listens on a port of its own, in a thread of its own. The chances may be changed at any time."""
+    """A relay that listens on its own port, in its own thread.
+
+    The chances may be changed at any time.
+    """
 
     def __init__(self, target: int, seed: int = 0, host: str = "127.0.0.1") -> None:
         self.host, self.target, self.port = host, target, 0
         self.before = self.after = self.delay = 0.0
-        """Chances: that a statement is cut on its way there; that its answer is, once it was done; that either is late."""
+        """Chances: that a statement is lost; that its reply is lost, once it was done; that either
+        is late.
+        """
         self.mark: bytes | None = None
-        """The next statement that holds this is done, and its connection cut before the answer; then it is None."""
+        """The next statement that holds this is done, and its connection cut before the reply; then
+        it is None.
+        """
         self.still: bytes | None = None
-        """Once this is said, in either direction, it stands still: that and all else is held, and connections stay open, until `go_on`."""
+        """Once this text passes, in either direction, the relay stops: it holds that and all other
+        data, and connections stay open, until `go_on`.
+        """
         self.stands = threading.Event()
         self.unanswered: bytes | None = None
-        """The next statement that holds this is done, and what its connection's server says is held until `answer`; then it is None."""
+        """The next statement that holds this is done, and the data from its connection's server is
+        held until `answer`; then it is None.
+        """
         self.owes = threading.Event()
         """Such a statement was passed on."""
         self.cuts: Counter[str] = Counter()
@@ -37,30 +51,30 @@ class Relay:
         self._answers = asyncio.Event()
 
     def start(self) -> None:
-        """Listens."""
+        """Listen."""
         self._thread.start()
         self._ready.wait(60)
 
     def stop(self) -> None:
-        """Cuts all, and ends."""
+        """Cut all connections, and end."""
         self._loop.call_soon_threadsafe(self._end)
         self._thread.join(60)
 
     def cut(self) -> None:
-        """Cuts all connections."""
+        """Cut all connections."""
         self._loop.call_soon_threadsafe(self._cut_all)
 
     def go_on(self) -> None:
-        """Passes what was held."""
+        """Pass on the data that was held."""
         self.still = None
         self._loop.call_soon_threadsafe(self._passes.set)
 
     def hold(self) -> None:
-        """Holds all, until `go_on`."""
+        """Hold all data, until `go_on`."""
         self._loop.call_soon_threadsafe(self._passes.clear)
 
     def answer(self) -> None:
-        """Passes answers that were held."""
+        """Pass on the replies that were held."""
         self._loop.call_soon_threadsafe(self._answers.set)
 
     def _cut_all(self) -> None:
@@ -93,9 +107,8 @@ class Relay:
                 asyncio.create_task(self._pass(back, writer, "after", marked, owes)),
             ]
             await asyncio.wait(both, return_when=asyncio.FIRST_COMPLETED)
-            if (
-                both[0].done() and not self._passes.is_set()
-            ):  # the client said all that it says, and what is held still comes to it
+            # the client has sent everything, and still receives what is held
+            if both[0].done() and not self._passes.is_set():
                 forth.write_eof()
                 await both[1]
             self._links -= {writer, forth}
@@ -141,7 +154,7 @@ class Relay:
 
 @contextlib.contextmanager
 def relaying(target: int, seed: int = 0, host: str = "127.0.0.1") -> Iterator[Relay]:
-    """A relay, until the block ends."""
+    """Run a relay until the block ends."""
     relay = Relay(target, seed, host)
     relay.start()
     try:

@@ -21,22 +21,22 @@ import psycopg
 from sagas.cli import store_command
 
 OTHER = 65534
-"""The user as whom the server runs where this one is root, as whom it refuses."""
+"""The user of the server if this process is root's: the server refuses to run as root."""
 
 
 def folder_of_programs() -> pathlib.Path:
-    """Where `initdb` and `postgres` are: of Debian's package, or wherever the path has them."""
+    """Return the folder of `initdb` and `postgres`: of Debian's package, or of the path."""
     for folder in sorted(glob.glob("/usr/lib/postgresql/*/bin"), reverse=True):
         if os.access(f"{folder}/initdb", os.X_OK):
             return pathlib.Path(folder)
-    found = shutil.which("initdb")
-    if not found:
+    initdb = shutil.which("initdb")
+    if not initdb:
         raise FileNotFoundError("initdb is missing: apt-get install postgresql")
-    return pathlib.Path(found).parent
+    return pathlib.Path(initdb).parent
 
 
 def free_port() -> int:
-    """A port that nobody has."""
+    """Return a port that no process uses."""
     with socket.socket() as one:
         one.bind(("127.0.0.1", 0))
         return int(one.getsockname()[1])
@@ -44,19 +44,21 @@ def free_port() -> int:
 
 @functools.cache
 def made() -> pathlib.Path:
-    """The files of a new server, made once by this process: each server has a copy of them."""
+    """Return the files of a new server, made once by this process: each server has a copy
+    of them.
+    """
     folder = pathlib.Path(tempfile.mkdtemp(prefix="sagas-pg-", dir="/tmp"))
     atexit.register(shutil.rmtree, folder, ignore_errors=True)
     folder.chmod(0o755)
     server = Server(folder / "new")
     server.own()
-    words = ["-U", "owner", "-A", "trust", "-E", "UTF8", "--no-locale", "--no-sync"]
-    server.run("initdb", "-D", str(server.folder / "data"), *words)
+    options = ["-U", "owner", "-A", "trust", "-E", "UTF8", "--no-locale", "--no-sync"]
+    server.run("initdb", "-D", str(server.folder / "data"), *options)
     return server.folder / "data"
 
 
 class Server:
-    """A server that can be stopped and started; each test has a database of its own on it."""
+    """A server that can be stopped and started; each test has its own database on it."""
 
     def __init__(self, folder: pathlib.Path, settings: dict[str, str] | None = None) -> None:
         self.folder, self.port, self._started = folder, free_port(), False
@@ -65,20 +67,20 @@ class Server:
         )
 
     def own(self) -> None:
-        """Makes its folder, which is its user's."""
+        """Make its folder, which belongs to its user."""
         self.folder.mkdir(parents=True, exist_ok=True)
         if os.geteuid() == 0:
             os.chown(self.folder, OTHER, OTHER)
 
     def make(self) -> None:
-        """Makes its files."""
+        """Make its files."""
         self.own()
         subprocess.run(["cp", "-a", str(made()), str(self.folder / "data")], check=True)
 
     def copy(self, primary: Server) -> None:
-        """Makes its files those of another server, as whose standby it will start."""
+        """Make its files those of another server; it will start as the standby of that one."""
         self.own()
-        words = [
+        options = [
             "-D",
             str(self.folder / "data"),
             "-h",
@@ -94,34 +96,39 @@ class Server:
             "fast",
             "--no-sync",
         ]
-        self.run("pg_basebackup", *words)
+        self.run("pg_basebackup", *options)
 
     def promote(self) -> None:
-        """A standby takes writes from now on."""
+        """Promote the standby: it accepts writes from now on."""
         self.run("pg_ctl", "-D", str(self.folder / "data"), "-w", "-t", "180", "promote")
 
-    def _as_other(self, name: str, *words: str) -> list[str]:
+    def _as_other(self, name: str, *arguments: str) -> list[str]:
         first = (
             ["setpriv", f"--reuid={OTHER}", f"--regid={OTHER}", "--clear-groups"]
             if os.geteuid() == 0
             else []
         )
-        return [*first, str(folder_of_programs() / name), *words]
+        return [*first, str(folder_of_programs() / name), *arguments]
 
-    def run(self, name: str, *words: str) -> None:
-        """Runs one of PostgreSQL's programs, as the user of the server."""
+    def run(self, name: str, *arguments: str) -> None:
+        """Run one of PostgreSQL's programs, as the user of the server."""
+        # a file: the server keeps its standard output
         with open(
             self.folder.parent / f"{self.folder.name}.said", "w+", encoding="utf-8"
-        ) as said:  # a file: the server keeps what it is given
+        ) as output:
             done = subprocess.run(
-                self._as_other(name, *words), stdout=said, stderr=said, cwd="/", check=False
+                self._as_other(name, *arguments), stdout=output, stderr=output, cwd="/", check=False
             )
             if done.returncode:
-                said.seek(0)
-                raise RuntimeError(f"{name}: {said.read()}")
+                output.seek(0)
+                raise RuntimeError(f"{name}: {output.read()}")
 
     def start(self) -> None:
-        """Starts it, and waits until it answers. It is no child of this process. At its first start it takes another port where somebody has its own meanwhile."""
+        """Start it, and wait until it answers.
+
+        It is not a child of this process. At its first start it takes another port if its own is
+        used.
+        """
         for turn in range(3):
             try:
                 self._start()
@@ -133,34 +140,37 @@ class Server:
         self._started = True
 
     def _start(self) -> None:
-        words = {
+        settings = {
             "listen_addresses": "127.0.0.1",
             "port": str(self.port),
             "unix_socket_directories": str(self.folder),
         } | self._settings
-        told = " ".join(f"-c {name}={value}" for name, value in words.items())
+        options = " ".join(f"-c {name}={value}" for name, value in settings.items())
         places = ["-D", str(self.folder / "data"), "-l", str(self.folder / "output")]
-        self.run("pg_ctl", *places, "-o", told, "-w", "-t", "180", "start")
+        self.run("pg_ctl", *places, "-o", options, "-w", "-t", "180", "start")
 
     def stop(self, mode: str = "immediate") -> None:
-        """Stops it: `fast`, or `immediate` as if its machine had failed."""
+        """Stop it: `fast`, or `immediate` as if its machine had failed."""
         if (self.folder / "data" / "postmaster.pid").exists():
-            place = str(self.folder / "data")
-            self.run("pg_ctl", "-D", place, "-m", mode, "-w", "-t", "180", "stop")
+            data = str(self.folder / "data")
+            self.run("pg_ctl", "-D", data, "-m", mode, "-w", "-t", "180", "stop")
 
     def url(self, database: str, user: str = "owner", port: int | None = None) -> str:
-        """The address of a database."""
+        """Return the address of a database."""
         return f"postgresql://{user}@127.0.0.1:{port or self.port}/{database}"
 
     def create(self, template: str = "template1") -> str:
-        """A new database, a copy of another one to which nobody is connected; gives its address."""
+        """Create a database and return its address. A template must have no connections."""
         name = f"t{uuid.uuid4().hex}"
         with psycopg.connect(self.url("postgres"), autocommit=True) as link:
             link.execute(f"CREATE DATABASE {name} TEMPLATE {template}")
         return self.url(name)
 
     def as_user(self, url: str) -> str:
-        """A store in a database; gives its address for a user of its own, who has what a program over it needs, and no more."""
+        """Make a store in a database, and return its address for a new user.
+
+        The user has only the rights that a program over it needs.
+        """
         with psycopg.connect(url, autocommit=True) as link:
             if link.execute("SELECT 1 FROM pg_roles WHERE rolname = 'app'").fetchone() is None:
                 link.execute("CREATE ROLE app LOGIN")
@@ -168,19 +178,19 @@ class Server:
         return self.url(url.rpartition("/")[2], user="app")
 
     def drop(self, url: str) -> None:
-        """Drops a database, whoever is in it."""
+        """Drop a database, with any connections to it."""
         name = url.rpartition("/")[2]
         with psycopg.connect(self.url("postgres"), autocommit=True) as link:
             link.execute(f"DROP DATABASE IF EXISTS {name} WITH (FORCE)")
 
     def back_up(self, url: str) -> pathlib.Path:
-        """A backup of a database that may be in use."""
+        """Make a backup of a database that may be in use."""
         backup = self.folder / f"{uuid.uuid4().hex}.backup"
         self.run("pg_dump", "-Fc", "-f", str(backup), url)
         return backup
 
     def snapshot(self, url: str) -> pathlib.Path:
-        """A copy of all its files, as of a machine that is off."""
+        """Copy all its files, as of a machine that is off."""
         self.stop()
         snapshot = self.folder / f"{uuid.uuid4().hex}.snapshot"
         subprocess.run(["cp", "-a", str(self.folder / "data"), str(snapshot)], check=True)
@@ -188,14 +198,14 @@ class Server:
         return snapshot
 
     def go_back(self, url: str, snapshot: pathlib.Path) -> None:
-        """A copy takes the place of its files."""
+        """Replace its files by a copy."""
         self.stop()
         shutil.rmtree(self.folder / "data")
         snapshot.rename(self.folder / "data")
         self.start()
 
     def restore(self, url: str, backup: pathlib.Path) -> None:
-        """A backup takes the place of a database, whoever is in it."""
+        """Replace a database by a backup, despite any connections to it."""
         name, restored = url.rpartition("/")[2], self.create()
         self.run("pg_restore", "-d", restored, str(backup))
         self.drop(url)
@@ -207,7 +217,7 @@ class Server:
 def serving(
     settings: dict[str, str] | None = None, inside: pathlib.Path | None = None
 ) -> Iterator[Server]:
-    """A server in a folder of its own, `inside` another where it says so, until the block ends."""
+    """Run a server in its own folder, or one below `inside`, until the block ends."""
     with _folder(inside) as folder:
         server = Server(folder / "server", settings)
         try:
@@ -235,17 +245,18 @@ class Pair:
         self.primary, self.standby = primary, standby
 
     def ask(self, text: str) -> list[tuple[object, ...]]:
-        """A statement on the primary."""
+        """Execute a statement on the primary."""
         with psycopg.connect(self.primary.url("postgres"), autocommit=True) as link:
             cursor = link.execute(text)  # type: ignore[arg-type]
             return cursor.fetchall() if cursor.description else []
 
     def url(self, database: str) -> str:
-        """The address of a database, with both hosts."""
-        return f"postgresql://owner@127.0.0.1:{self.primary.port},127.0.0.1:{self.standby.port}/{database}?target_session_attrs=read-write"
+        """Return the address of a database, with both hosts."""
+        hosts = f"127.0.0.1:{self.primary.port},127.0.0.1:{self.standby.port}"
+        return f"postgresql://owner@{hosts}/{database}?target_session_attrs=read-write"
 
     def hold_back(self) -> None:
-        """What the primary has now the standby has too, and nothing that comes later."""
+        """Let the standby have everything up to now, and nothing that comes later."""
         ((now,),) = self.ask("SELECT pg_current_wal_flush_lsn()")
         with psycopg.connect(self.standby.url("postgres"), autocommit=True) as link:
             until = time.monotonic() + 60
@@ -261,14 +272,17 @@ class Pair:
             time.sleep(0.02)
 
     def fail_over(self) -> None:
-        """The primary fails, and its standby takes over."""
+        """Let the primary fail and its standby take over."""
         self.primary.stop("immediate")
         self.standby.promote()
 
 
 @contextlib.contextmanager
 def paired(synchronous: bool) -> Iterator[Pair]:
-    """A server and its standby; with a synchronous one no commit is told before the standby has it."""
+    """Run a server and its standby.
+
+    With a synchronous one no commit is acknowledged before the standby has it.
+    """
     with serving() as primary, _folder() as folder:
         standby = Server(folder / "standby")
         pair = Pair(primary, standby)

@@ -1,4 +1,7 @@
-"""The functions of the kill tests' workers in other languages: each call is a line at a socket, and is told to the witness as a Python worker's is."""
+"""The functions of the kill tests' workers in other languages.
+
+Each call is a line at a socket, and is reported to the witness as a Python worker's is.
+"""
 
 from __future__ import annotations
 
@@ -15,7 +18,7 @@ from typing import Any, BinaryIO
 from service_worker import RATES, Bare
 from serving import environment
 from witness import Witness
-from world import Eye
+from world import OutsideReader
 
 import sagas
 
@@ -25,8 +28,8 @@ class _Handler(socketserver.StreamRequestHandler):
 
     def handle(self) -> None:
         with contextlib.suppress(OSError, ValueError):  # the worker was killed
-            told = json.loads(self.rfile.readline())
-            self.wfile.write(json.dumps(self.server.act(told)).encode() + b"\n")
+            request = json.loads(self.rfile.readline())
+            self.wfile.write(json.dumps(self.server.act(request)).encode() + b"\n")
 
 
 class _Actor(socketserver.ThreadingUnixStreamServer):
@@ -37,12 +40,12 @@ class _Actor(socketserver.ThreadingUnixStreamServer):
         self.world = world
         super().__init__(address, _Handler)
 
-    def act(self, told: dict[str, Any]) -> dict[str, Any]:
-        """One call; gives how it ended."""
-        kind = "undo" if told.pop("undo") else "run"
-        failing, unknown = RATES[told["saga"], told["step"], kind]
+    def act(self, request: dict[str, Any]) -> dict[str, Any]:
+        """Make one call; return how it ended."""
+        kind = "undo" if request.pop("undo") else "run"
+        failing, unknown = RATES[request["saga"], request["step"], kind]
         try:
-            task = SimpleNamespace(**told, is_compensation=kind == "undo")
+            task = SimpleNamespace(**request, is_compensation=kind == "undo")
             return {"do": "ok", "value": self.world.act(task, failing, unknown)}
         except sagas.Fail:
             return {"do": "fail", "value": None}
@@ -56,8 +59,8 @@ class _Actor(socketserver.ThreadingUnixStreamServer):
 def acting(
     address: pathlib.Path, socket: pathlib.Path, store: str, definitions: pathlib.Path
 ) -> Iterator[None]:
-    """Functions at an address, until the block ends."""
-    server = _Actor(str(address), Bare(Witness(str(socket)), Eye(store), definitions))
+    """Serve functions at an address until the block ends."""
+    server = _Actor(str(address), Bare(Witness(str(socket)), OutsideReader(store), definitions))
     thread = threading.Thread(target=server.serve_forever, args=(0.05,), daemon=True)
     thread.start()
     try:
@@ -71,13 +74,15 @@ def acting(
 def worker(
     command: list[str], url: str, address: pathlib.Path, lease: float, errors: BinaryIO
 ) -> subprocess.Popen[bytes]:
-    """A worker in another language: the driver of the contract suite, whose functions are at the address."""
+    """Start a worker in another language: the driver of the contract suite, whose functions are at
+    the address.
+    """
     process = subprocess.Popen(
         command, env=environment(), stdin=subprocess.PIPE, stdout=subprocess.DEVNULL, stderr=errors
     )
     steps = [f"{saga}/{step}{'/undo' if kind == 'undo' else ''}" for saga, step, kind in RATES]
-    words = {"id": 1, "do": "worker", "worker": "w", "url": url, "token": None, "steps": steps}
-    line = json.dumps({**words, "concurrency": 3, "lease": lease, "wait": 5, "act": str(address)})
+    request = {"id": 1, "do": "worker", "worker": "w", "url": url, "token": None, "steps": steps}
+    line = json.dumps({**request, "concurrency": 3, "lease": lease, "wait": 5, "act": str(address)})
     assert process.stdin
     process.stdin.write(line.encode() + b"\n")
     process.stdin.flush()

@@ -1,11 +1,15 @@
-"""Kills of the service and of its workers at random moments, and the package's judge over the store when all in it is over.
+"""Kill the service and its workers at random moments, and judge the store at the end.
 
-    python3 tests/service_kills.py [--rounds N] [--store sqlite|postgresql] [--sagas N] [--workers N|mixed] [--callers N] [--strikes N] [--seed S]
+    python3 tests/service_kills.py [--rounds N] [--store sqlite|postgresql] [--sagas N]
+        [--workers N|mixed] [--callers N] [--strikes N] [--seed S]
 
-A round is one store. Callers start sagas, wait for their ends and approve; workers do the steps. Meanwhile the service is killed with -9 or asked to
-end, workers are killed, or stand still past their leases and go on; reports are sent twice. Some sagas are aborted as a step of theirs is unknown. Over PostgreSQL there are two services, and callers and workers
-are half at one and half at the other; one of them may stand still past its lease, too. With `--workers mixed` one third of ten workers is in Python, one in Node,
-one in Go. Every process that is signalled here was started here.
+A round is one store. Callers start sagas, wait for their ends and approve; workers do the steps.
+Concurrently the service is killed with SIGKILL or asked to end, workers are killed, or are stopped
+past their leases and continued; reports are sent twice. Some sagas are aborted as a step of theirs
+is unknown. Over PostgreSQL there are two services, and half of the callers and workers use each;
+one service may be stopped past its lease, too. With `--workers mixed` one third of ten workers is
+in Python, one in Node, one in Go. The package's verifier judges the store. Every process that is
+signalled here was started here, and is named by its number.
 """
 
 from __future__ import annotations
@@ -40,23 +44,25 @@ from server import Server, serving
 from service_worker import texts
 from serving import HERE, Served, environment
 from witness import Witness, witness_at
-from world import Eye, expected
+from world import OutsideReader, expected
 
 NAMES = ("chain", "trip", "must", "late")
 LEASE = 1.0
 NODE_LEASE = 2.0
-"""Seconds, of a task and of a service over PostgreSQL."""
+"""Seconds: the leases of a task and of a service over PostgreSQL."""
 
 
 class Callers:
-    """Threads that start sagas, and see them to their ends, whatever becomes of the services; each asks now one and now another."""
+    """Threads that start sagas, and wait for their ends despite failing services; each call goes to
+    one service or another.
+    """
 
     def __init__(
         self, services: list[Served], socket: pathlib.Path, sagas: int, count: int, most: float
     ) -> None:
-        self.services, self.eye, self.witness = (
+        self.services, self.reader, self.witness = (
             services,
-            Eye(services[0].store),
+            OutsideReader(services[0].store),
             Witness(str(socket)),
         )
         self.left, self.lock = list(range(sagas)), threading.Lock()
@@ -74,7 +80,7 @@ class Callers:
         return any(thread.is_alive() for thread in self.threads)
 
     def end(self) -> None:
-        """Waits for all; then nobody is asked any more."""
+        """Wait for all threads; then no request is sent any more."""
         for thread in self.threads:
             thread.join()
         self.over.set()
@@ -83,7 +89,7 @@ class Callers:
     def _ask(
         self, clients: list[httpx.Client], ask: Callable[[httpx.Client], httpx.Response]
     ) -> httpx.Response:
-        """Asks until it is answered, one service after the other."""
+        """Repeat a request until a service replies, one service after the other."""
         while time.monotonic() < self.until:
             clients.append(clients.pop(0))
             with contextlib.suppress(httpx.HTTPError):
@@ -107,7 +113,7 @@ class Callers:
                             return
                         number = self.left.pop(0)
                     self._one(clients, number)
-        except Exception as error:  # told at the end
+        except Exception as error:  # reported at the end
             self.faults.append(f"a caller: {error!r}")
 
     def _one(self, clients: list[httpx.Client], number: int) -> None:
@@ -117,29 +123,32 @@ class Callers:
         if answer.status_code not in (200, 201):
             self.faults.append(f"{key}: {answer.status_code} {answer.text}")
             return
-        note(what="started", key=key, there=self.eye.phase(key)[0])
+        note(what="started", key=key, there=self.reader.phase(key)[0])
         is_late = number % 5 == 3 and self._is_unknown(clients, key)
         if (number % 17 == 0 or is_late) and self._ask(
             clients,
             lambda client: client.post(f"/v1/sagas/{key}/abort", json={"note": "for a try"}),
         ).json()["aborted"]:
-            note(what="aborted", key=key, there=self.eye.aborts(key))
+            note(what="aborted", key=key, there=self.reader.aborts(key))
         end: dict[str, Any] = {"over": False}
         while not end["over"]:
             end = self._ask(
                 clients, lambda client: client.get(f"/v1/sagas/{key}/wait?seconds=5")
             ).json()
-        told = {
+        end_note = {
             "phase": end["phase"],
             "states": end["states"],
             "results": end["results"],
             "cost": (end["plan"] or {}).get("cost"),
             "aborted": end["aborted"],
         }
-        note(what="over", key=key, there=self.eye.phase(key)[1], **told)
+        note(what="over", key=key, there=self.reader.phase(key)[1], **end_note)
 
     def _is_unknown(self, clients: list[httpx.Client], key: str) -> bool:
-        """Waits until an outcome is unknown, and whether one is before the saga's end: a worker may have had its task from the service that does not drive it."""
+        """Wait for an unknown outcome, and return whether one occurs before the saga's end.
+
+        A worker may have had its task from the service that does not drive it.
+        """
         while True:
             saga = self._ask(
                 clients, lambda client: client.get(f"/v1/sagas/{key}/wait?seconds=0")
@@ -153,7 +162,7 @@ class Callers:
             while not self.over.is_set():
                 with contextlib.suppress(httpx.HTTPError):
                     clients.append(clients.pop(0))
-                    for key in self.eye.asked():
+                    for key in self.reader.awaiting_approval():
                         value = expected(key, "approve")
                         if (
                             clients[0]
@@ -162,13 +171,13 @@ class Callers:
                             == 200
                         ):
                             self.witness.note(
-                                what="finished", key=key, there=self.eye.finished(key, value)
+                                what="finished", key=key, there=self.reader.finished(key, value)
                             )
                 self.over.wait(0.1)
 
 
 class Round:
-    """One store, its services, workers and callers, and what strikes them."""
+    """One store, its services, workers and callers, and their strikes."""
 
     def __init__(
         self,
@@ -196,7 +205,7 @@ class Round:
 
     def _service(self, name: str, url: str) -> Served:
         (self.folder / name).mkdir()
-        words = [
+        options = [
             "--node",
             name,
             "--lease",
@@ -204,35 +213,35 @@ class Round:
             "--record",
             str(self.folder / name / "record"),
         ]
-        return Served(self.folder / name, texts(), *words, store=url)
+        return Served(self.folder / name, texts(), *options, store=url)
 
-    def _worker(self, place: int) -> subprocess.Popen[bytes]:
-        service = self.services[place % len(self.services)]
-        language = place % (1 + len(self.others))
+    def _worker(self, index: int) -> subprocess.Popen[bytes]:
+        service = self.services[index % len(self.services)]
+        language = index % (1 + len(self.others))
         if language:
             with open(self.folder / "worker-errors", "ab") as errors:
                 return service_actor.worker(
                     self.others[language - 1], service.url, self.folder / "actor", LEASE, errors
                 )
-        words = [
+        command = [
             sys.executable,
             str(HERE / "service_worker.py"),
             service.url,
             service.store,
             str(self.folder / "socket"),
         ]
-        words += [str(service.folder / "definitions"), "--lease", str(LEASE)]
+        command += [str(service.folder / "definitions"), "--lease", str(LEASE)]
         path = f"{HERE.parent / 'src'}{os.pathsep}{HERE}"
         with open(self.folder / "worker-errors", "ab") as errors:
             return subprocess.Popen(
-                words,
+                command,
                 env=environment() | {"PYTHONPATH": path},
                 stdout=subprocess.DEVNULL,
                 stderr=errors,
             )
 
     def play(self) -> Verdict:
-        """Until all is over; then it is judged."""
+        """Run until all is over; then judge it."""
         with contextlib.ExitStack() as stack:
             stack.enter_context(witness_at(self.folder / "socket", self.folder / "notes"))
             for service in self.services:
@@ -251,7 +260,7 @@ class Round:
                 self.services, self.folder / "socket", self.sagas, self.callers, self.most
             )
             try:
-                self.workers = [self._worker(place) for place in range(self.count)]
+                self.workers = [self._worker(index) for index in range(self.count)]
                 callers.start()
                 while callers.busy and sum(self.kills.values()) < self.strikes:
                     time.sleep(self.draw.uniform(0.05, 0.8))
@@ -281,7 +290,7 @@ class Round:
             *(["the service stands still"] if self.url else []),
         ]
         what = self.draw.choice(kinds)
-        place = self.draw.randrange(self.count)
+        index = self.draw.randrange(self.count)
         service = self.draw.choice(self.services)
         if what == "the service":
             service.kill()
@@ -293,11 +302,11 @@ class Round:
             assert service.process
             self._stand_still(service.process, NODE_LEASE)
         elif what == "a worker":
-            self.workers[place].kill()
-            self.workers[place].wait()
-            self.workers[place] = self._worker(place)
+            self.workers[index].kill()
+            self.workers[index].wait()
+            self.workers[index] = self._worker(index)
         else:
-            self._stand_still(self.workers[place], LEASE)
+            self._stand_still(self.workers[index], LEASE)
         self.kills[what] += 1
 
     def _stand_still(self, process: subprocess.Popen[bytes], lease: float) -> None:
@@ -323,7 +332,7 @@ def play(
     server: Server | None = None,
     others: Sequence[list[str]] = (),
 ) -> tuple[Verdict, Counter[str], pathlib.Path | None]:
-    """One round; its files stay where something was found."""
+    """Play one round; its files stay if there are faults."""
     folder = pathlib.Path(tempfile.mkdtemp(prefix="sagas-service-"))
     url = server.create() if server else None
     one = Round(folder, random.Random(seed), sagas, workers, callers, strikes, most, url, others)
@@ -337,7 +346,7 @@ def play(
 
 
 def main() -> int:
-    """The command."""
+    """Run the command."""
     parser = argparse.ArgumentParser(
         description=__doc__, formatter_class=argparse.RawDescriptionHelpFormatter
     )
@@ -350,28 +359,28 @@ def main() -> int:
     parser.add_argument("--callers", type=int, default=20)
     parser.add_argument("--strikes", type=int, default=40)
     parser.add_argument("--seed", type=int, default=random.randrange(10**6))
-    words = parser.parse_args()
+    options = parser.parse_args()
     kills: Counter[str] = Counter()
     figures: Counter[str] = Counter()
     bad, began = 0, time.monotonic()
     with contextlib.ExitStack() as stack:
         server = (
-            stack.enter_context(serving({"fsync": "on"})) if words.store == "postgresql" else None
+            stack.enter_context(serving({"fsync": "on"})) if options.store == "postgresql" else None
         )
         made = stack.enter_context(commands())
         others = (
             [made(one) for one in languages() if one != "python"]
-            if words.workers == "mixed"
+            if options.workers == "mixed"
             else []
         )
-        workers = 10 if others else int(words.workers)
-        for number in range(words.rounds):
+        workers = 10 if others else int(options.workers)
+        for number in range(options.rounds):
             verdict, struck, folder = play(
-                words.seed + number,
-                words.sagas,
+                options.seed + number,
+                options.sagas,
                 workers,
-                words.callers,
-                words.strikes,
+                options.callers,
+                options.strikes,
                 most=900,
                 server=server,
                 others=others,
@@ -380,12 +389,13 @@ def main() -> int:
             figures += verdict.figures
             bad += bool(verdict.faults)
             for fault in verdict.faults[:5]:
-                print(f"{words.seed + number} {folder}: {fault}")
+                print(f"{options.seed + number} {folder}: {fault}")
             print(
-                f"{number + 1} of {words.rounds} rounds, {sum(kills.values())} strikes, {bad} bad",
+                f"{number + 1} of {options.rounds} rounds,"
+                f" {sum(kills.values())} strikes, {bad} bad",
                 flush=True,
             )
-    print(f"seed {words.seed}, {time.monotonic() - began:.0f} s")
+    print(f"seed {options.seed}, {time.monotonic() - began:.0f} s")
     for title, counted in (("strikes", kills), ("figures", figures)):
         print(
             f"{title}: " + ", ".join(f"{name} {number}" for name, number in sorted(counted.items()))

@@ -1,4 +1,6 @@
-"""A worker of the kill tests: each call is told to a witness outside, as those of `world.py` are.
+"""A worker of the kill tests.
+
+Each call is reported to a witness outside, as those of `world.py` are.
 
     python3 tests/service_worker.py URL STORE SOCKET DEFINITIONS [--lease SECONDS] [--concurrency N]
 """
@@ -12,7 +14,7 @@ import random
 from typing import Any
 
 from witness import Witness
-from world import Eye, World
+from world import OutsideReader, World
 
 import sagas
 from sagas.api.service_connection import ServiceRefused
@@ -52,73 +54,74 @@ RATES: dict[tuple[str, str, str], tuple[float, float]] = {
     ("late", "order", "undo"): (0.2, 0.0),
     ("late", "go", "run"): (0.3, 0.0),
 }
-"""How often a call fails, and how often its caller does not hear of it."""
+"""The chance that a call fails, and the chance that its outcome is unknown to its caller."""
 
 
 class Bare(World):
     """The world without functions: its definitions are files."""
 
-    def __init__(self, witness: Any, eye: Eye, folder: pathlib.Path) -> None:
-        self.witness, self.eye = witness, eye
+    def __init__(self, witness: Any, reader: OutsideReader, folder: pathlib.Path) -> None:
+        self.witness, self.reader = witness, reader
         self.sagas = definition_files.read(folder)
 
 
 class Twice(sagas.Worker):
-    """It sends some reports twice; the second one is found to be the same."""
+    """A client that sends some reports twice; the second one must be found to be the same."""
 
-    def __init__(self, *words: Any, **more: Any) -> None:
-        super().__init__(*words, **more)
+    def __init__(self, *arguments: Any, **more: Any) -> None:
+        super().__init__(*arguments, **more)
         self._right = self._service.ask_until_answered
         self._service.ask_until_answered = self._twice  # type: ignore[method-assign]
 
     def _twice(
         self, path: str, body: dict[str, Any], giving_up: bool = False
     ) -> dict[str, Any] | None:
-        told = self._right(path, body, giving_up)
-        if told and "kept" in told and random.random() < 0.2:
+        reply = self._right(path, body, giving_up)
+        if reply and "kept" in reply and random.random() < 0.2:
             try:
                 again = self._right(
                     path, {name: value for name, value in body.items() if name != "next"}
                 )
                 assert again and again["repeated"], (path, body, again)
-            except (
-                ServiceRefused
-            ) as refusal:  # of an unknown outcome a service knows no more when it has started again, and its lease is none
+            except ServiceRefused as refusal:
+                # a service that was restarted has forgotten an unknown outcome and its lease
                 assert refusal.status == 409 and path.endswith("/unknown"), (path, body, refusal)
-        return told
+        return reply
 
 
 def texts() -> dict[str, str]:
-    """The definitions of `world.py`, and what goes with them."""
+    """Return the definitions of `world.py`, with their service files."""
     world = World.__new__(World)
-    found = {
+    files = {
         f"{saga.name}.toml": saga.toml()
         for saga in (World.chain(world), World.trip(world), World.must(world))
     }
-    found["late.toml"] = LATE
+    files["late.toml"] = LATE
     for name in ("chain", "trip", "must", "late"):
         steps = [step for saga, step, kind in RATES if saga == name and kind == "run"]
         pauses = {
             step: 0.5 if RATES.get((name, step, "run"), (0, 0))[1] else 0.02 for step in steps
         }
         manner = 'backoff = {{ initial = {0}, maximum = {0} }}\nundo_on_exhausted = "fail"\n'
-        found[f"{name}.service.toml"] = "".join(
+        files[f"{name}.service.toml"] = "".join(
             f"[step.{step}]\n{manner.format(pauses[step])}" for step in steps
         )
-    found["late.service.toml"] += '[step.approve]\nkind = "approval"\n'
-    return found
+    files["late.service.toml"] += '[step.approve]\nkind = "approval"\n'
+    return files
 
 
 def main() -> None:
-    """Works until it is killed."""
+    """Work until it is killed."""
     parser = argparse.ArgumentParser(description=__doc__)
     for name in ("url", "store", "socket", "definitions"):
         parser.add_argument(name)
     parser.add_argument("--lease", type=float, default=1.0)
     parser.add_argument("--concurrency", type=int, default=3)
-    words = parser.parse_args()
-    world = Bare(Witness(words.socket), Eye(words.store), pathlib.Path(words.definitions))
-    worker = Twice(words.url, lease=words.lease, concurrency=words.concurrency, wait=5)
+    options = parser.parse_args()
+    world = Bare(
+        Witness(options.socket), OutsideReader(options.store), pathlib.Path(options.definitions)
+    )
+    worker = Twice(options.url, lease=options.lease, concurrency=options.concurrency, wait=5)
     for (saga, step, kind), (failing, unknown) in RATES.items():
         declare = worker.step if kind == "run" else worker.compensation
         declare(saga, step)(functools.partial(world.act, failing=failing, unknown=unknown))

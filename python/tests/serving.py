@@ -1,4 +1,7 @@
-"""A real service for tests: `sagas serve` as a process of its own, on an address of its own, which it keeps when it is started again."""
+"""A real service for tests: `sagas serve` as its own process.
+
+It has its own address, which it keeps when it is started again.
+"""
 
 from __future__ import annotations
 
@@ -75,8 +78,10 @@ undo = "never"
 """
 DEFINITIONS = {
     "trip.toml": TRIP,
-    "trip.service.toml": "[step.tour]\nbackoff = { initial = 0.05 }\nmax_unknown = 0\n"
-    '[step.car]\nundo_on_exhausted = "fail"\n',
+    "trip.service.toml": (
+        "[step.tour]\nbackoff = { initial = 0.05 }\nmax_unknown = 0\n"
+        '[step.car]\nundo_on_exhausted = "fail"\n'
+    ),
     "order.toml": ORDER,
     "order.service.toml": '[step.review]\nkind = "approval"\n',
     "licence.toml": LICENCE,
@@ -86,7 +91,10 @@ DEFINITIONS = {
 
 
 def host() -> str:
-    """An address of the loopback that no other test has: so nobody takes its port while the service is away."""
+    """Return an address of the loopback that no other test has.
+
+    No process takes its port while the service is down.
+    """
     pid, count = os.getpid(), next(COUNT)
     return f"127.{1 + pid // 250 % 250}.{1 + pid % 250}.{1 + count % 250}"
 
@@ -100,16 +108,18 @@ def environment() -> dict[str, str]:
 
 
 class Served:
-    """A service over `folder/store.db`, or another store, with definitions in `folder/definitions`."""
+    """A service over `folder/store.db`, or another store, with definitions in
+    `folder/definitions`.
+    """
 
     def __init__(
         self,
         folder: pathlib.Path,
         files: dict[str, str] = DEFINITIONS,
-        *words: str,
+        *arguments: str,
         store: str | None = None,
     ) -> None:
-        self.folder, self.words, self.address = folder, words, f"{host()}:0"
+        self.folder, self.arguments, self.address = folder, arguments, f"{host()}:0"
         self.store, self.errors = store or str(folder / "store.db"), folder / "errors"
         self.process: subprocess.Popen[bytes] | None = None
         (folder / "definitions").mkdir(exist_ok=True)
@@ -131,11 +141,11 @@ class Served:
             str(self.folder / "definitions"),
             "--listen",
             self.address,
-            *self.words,
+            *self.arguments,
         ]
 
     def start(self) -> None:
-        """Starts it, and waits until it answers."""
+        """Start it, and wait until it answers."""
         with open(self.errors, "ab") as errors:
             self.process = subprocess.Popen(
                 self.command(),
@@ -152,13 +162,13 @@ class Served:
         self.address = line.split("http://")[1].strip().rstrip("/")
 
     def kill(self) -> None:
-        """Ends it at once."""
+        """Kill it."""
         if self.process:
             self.process.kill()
             self._ended()
 
     def stop(self) -> int:
-        """Asks it to end, and waits; gives its status."""
+        """Ask it to end, and wait; return its status."""
         process = self.process
         if process is None:
             return 0
@@ -176,31 +186,35 @@ class Served:
         self.process.stdout.close()
         self.process = None
 
-    def client(self, token: str | None = None, **words: Any) -> httpx.Client:
-        """A client of it; it does not follow anybody's proxy."""
+    def client(self, token: str | None = None, **options: Any) -> httpx.Client:
+        """Return a client of it, which follows no proxy settings."""
         headers = {"Authorization": f"Bearer {token}"} if token else {}
-        hooks = {"response": [contract.check]}  # each answer is as the OpenAPI document has it
-        words = {"verify": False} | words  # it speaks no TLS, so no certificates need be read
+        # each response is as the OpenAPI document defines it
+        hooks = {"response": [contract.check]}
+        options = {"verify": False} | options  # it speaks no TLS, so no certificates need be read
         return httpx.Client(
             base_url=self.url,
             timeout=LONG,
             trust_env=False,
             headers=headers,
             event_hooks=hooks,
-            **words,
+            **options,
         )
 
-    def told(self) -> str:
-        """What it has logged."""
+    def log_text(self) -> str:
+        """Return its log output."""
         return self.errors.read_text(errors="replace")
 
 
 @contextmanager
 def served(
-    folder: pathlib.Path, files: dict[str, str] = DEFINITIONS, *words: str, store: str | None = None
+    folder: pathlib.Path,
+    files: dict[str, str] = DEFINITIONS,
+    *arguments: str,
+    store: str | None = None,
 ) -> Iterator[Served]:
-    """A service until the block ends."""
-    one = Served(folder, files, *words, store=store)
+    """Run a service until the block ends."""
+    one = Served(folder, files, *arguments, store=store)
     one.start()
     try:
         yield one
@@ -208,19 +222,19 @@ def served(
         one.kill()
 
 
-def command(*words: str) -> subprocess.CompletedProcess[str]:
-    """Run `sagas WORDS` in this process; return its status and what it prints."""
+def command(*arguments: str) -> subprocess.CompletedProcess[str]:
+    """Run `sagas ARGUMENTS` in this process; return its status and output."""
     out, errors = io.StringIO(), io.StringIO()
     with contextlib.redirect_stdout(out), contextlib.redirect_stderr(errors):
         try:
-            status = main([*words])
-        except SystemExit as ended:  # as `argparse` refuses words
+            status = main([*arguments])
+        except SystemExit as ended:  # as `argparse` refuses arguments
             status = int(str(ended.code))
-    return subprocess.CompletedProcess(words, status, out.getvalue(), errors.getvalue())
+    return subprocess.CompletedProcess(arguments, status, out.getvalue(), errors.getvalue())
 
 
 def token(folder: pathlib.Path, name: str, *roles: str) -> str:
-    """A token of the file `folder/tokens.toml`."""
+    """Return a token of the file `folder/tokens.toml`."""
     done = command("token", str(folder / "tokens.toml"), name, *roles)
     done.check_returncode()
     return done.stdout.strip()
@@ -229,38 +243,38 @@ def token(folder: pathlib.Path, name: str, *roles: str) -> str:
 def take(
     client: httpx.Client, *steps: str, wait: float = 30, lease: float = 600, most: int = 1
 ) -> list[dict[str, Any]]:
-    """Takes tasks."""
+    """Claim tasks."""
     answer = client.post(
         "/v1/tasks/claim",
         json={"steps": steps, "wait": wait, "lease": lease, "limit": most, "worker": "w"},
     )
     assert answer.status_code == 200, answer.text
-    found: list[dict[str, Any]] = answer.json()["tasks"]
-    return found
+    tasks: list[dict[str, Any]] = answer.json()["tasks"]
+    return tasks
 
 
 def error_of(answer: httpx.Response) -> str:
-    """The name of an answer's problem."""
-    told: dict[str, Any] = answer.json()
-    return str(told["type"]).rpartition(":")[2]
+    """Return the name of a response's problem."""
+    problem: dict[str, Any] = answer.json()
+    return str(problem["type"]).rpartition(":")[2]
 
 
 def report(
     client: httpx.Client, task: dict[str, Any], word: str = "complete", **more: Any
 ) -> httpx.Response:
-    """Reports a task."""
+    """Report a task."""
     return client.post(
         f"/v1/tasks/{task['attempt_id']}/{word}", json={"lease": task["lease"], **more}
     )
 
 
 def start(client: httpx.Client, definition: str, key: str, given: Any = None) -> httpx.Response:
-    """Starts a saga."""
+    """Start a saga."""
     return client.post("/v1/sagas", json={"definition": definition, "key": key, "input": given})
 
 
 def all_done(client: httpx.Client, *steps: str, failing: Sequence[str] = ()) -> None:
-    """Does these tasks, one after the other, each once it is there."""
+    """Do these tasks, one after the other, each once it exists."""
     for step in steps:
         (task,) = take(client, step)
         answer = (
@@ -272,7 +286,7 @@ def all_done(client: httpx.Client, *steps: str, failing: Sequence[str] = ()) -> 
 
 
 def stuck(client: httpx.Client, key: str) -> None:
-    """A saga that is stuck."""
+    """Return a saga that is stuck."""
     assert start(client, "licence", key).status_code == 201
     all_done(client, "licence/server", "licence/licence", failing=["licence/licence"])
     assert client.get(f"/v1/sagas/{key}/wait").json()["phase"] == "stuck"

@@ -15,7 +15,7 @@ WORLD = os.environ.get("SAGAS_TEST_WORLD")
 
 
 def note(task: sagas.Task[Any], what: str) -> None:
-    """Append what a function does, as a world outside would see it."""
+    """Append a call of a function to a file, as a service outside would."""
     if WORLD is not None:
         with pathlib.Path(WORLD).open("a") as file:
             file.write(json.dumps([task.key, what, task.idempotency_key, task.attempt]) + "\n")
@@ -33,7 +33,7 @@ class Order:
     parcels: list[Parcel] = field(default_factory=list)
     gift: bool = False
     number: int = 0
-    """Another definition for each: what it costs to end without the mail, which chooses nothing."""
+    """A separate definition for each: the cost to end without the mail, which chooses nothing."""
 
 
 order = sagas.Saga("order")
@@ -200,18 +200,18 @@ def tour(task: sagas.Task[Trip]) -> list[Any]:
 
 
 def wanted(number: int) -> Order:
-    """The order of this number: 0 to 6 parcels, of some of which one cannot be sent."""
+    """Return the order of this number: 0 to 6 parcels, of some of which one cannot be sent."""
     count, is_bad = number % 7, number % 3 == 2
     parcels = [
-        Parcel("nowhere" if is_bad and place == count // 2 else f"t{place}", place * 4, 0.003)
-        for place in range(count)
+        Parcel("nowhere" if is_bad and index == count // 2 else f"t{index}", index * 4, 0.003)
+        for index in range(count)
     ]
     return Order(parcels, number % 2 == 1, number)
 
 
-def parcels(count: int, bad: int | None = None, value: Any = lambda place: place) -> Order:
-    """An order of so many parcels, of which one cannot be sent."""
+def parcels(count: int, bad: int | None = None, value: Any = lambda index: index) -> Order:
+    """Return an order of `count` parcels, of which one cannot be sent."""
     made = (
-        Parcel("nowhere" if place == bad else f"t{place}", value(place)) for place in range(count)
+        Parcel("nowhere" if index == bad else f"t{index}", value(index)) for index in range(count)
     )
     return Order([*made])

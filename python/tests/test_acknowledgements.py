@@ -1,4 +1,4 @@
-"""What the record of a program has of its commits and acknowledgements, without a database."""
+"""A program's record of its commits and acknowledgements, without a database."""
 
 from __future__ import annotations
 
@@ -41,32 +41,32 @@ class Sent:
 
 
 def commit(first: int, text: str = "a\nb\n", shard: int = SHARD, epoch: int = 1) -> Sent:
-    """A commit of one chunk."""
+    """Return a commit of one chunk."""
     rows = [(shard, first, 0.0, text, epoch)]
     return Sent({"lines": rows}, {shard: first + text.count("\n")})
 
 
 @pytest.fixture
 def record(tmp_path: pathlib.Path) -> Iterator[RecordFile]:
-    """A record in which a shard without events was taken up."""
-    found = RecordFile(str(tmp_path / "record"), "run")
-    found.open()
-    found.moved(LINE)
-    found.took((SHARD, 1, LINE), 0, "")
-    yield found
-    found.close()
+    """Return a record in which a shard without events was taken over."""
+    file = RecordFile(str(tmp_path / "record"), "run")
+    file.open()
+    file.moved(LINE)
+    file.took((SHARD, 1, LINE), 0, "")
+    yield file
+    file.close()
 
 
 def noted(record: RecordFile) -> list[str]:
-    """The lines of a record that is closed, without what names the session."""
+    """Return the lines of a record that is closed, without the name of the session."""
     record.close()
     return written(record)
 
 
 def written(record: RecordFile) -> list[str]:
-    """The lines that are in the file."""
-    words = [line.split(" ") for line in pathlib.Path(record.path).read_text().splitlines()]
-    return [" ".join([one[0], *one[5:]]) for one in words if one[0] != "sagas-record"]
+    """Return the lines that are in the file."""
+    fields = [line.split(" ") for line in pathlib.Path(record.path).read_text().splitlines()]
+    return [" ".join([one[0], *one[5:]]) for one in fields if one[0] != "sagas-record"]
 
 
 def digest(text: str) -> int:
@@ -77,8 +77,8 @@ FIRST = f"sent 0 {digest('a' + chr(10) + 'b' + chr(10))}"
 SECOND = f"sent 2 {digest(('a' + chr(10) + 'b' + chr(10)) * 2)}"
 
 
-def test_what_follows_an_answer_is_written_with_it(record: RecordFile) -> None:
-    """An acknowledgement that rests on no more than another one can wait."""
+def test_an_acknowledgement_is_written_with_its_reply(record: RecordFile) -> None:
+    """An acknowledgement can wait if it depends on no more than another one."""
     session, one = record.session(SHARD, 1), commit(0)
     record.commit = one
     assert written(record) == []
@@ -93,7 +93,7 @@ def test_what_follows_an_answer_is_written_with_it(record: RecordFile) -> None:
 
 
 def test_an_acknowledgement_of_an_older_chunk_while_another_is_sent(record: RecordFile) -> None:
-    """It is written at once. The chunk that is sent follows, with its answer."""
+    """It is written at once. The chunk in transit follows, with its reply."""
     session, one, two = record.session(SHARD, 1), commit(0), commit(2)
     record.commit = one
     record.heard(one, {SHARD})
@@ -104,8 +104,8 @@ def test_an_acknowledgement_of_an_older_chunk_while_another_is_sent(record: Reco
     assert noted(record)[4:] == [SECOND, "heard 4"]
 
 
-def test_what_is_acknowledged_too_early_is_behind_what_was_sent(record: RecordFile) -> None:
-    """And before the answer, if that comes at all."""
+def test_an_early_acknowledgement_follows_what_was_sent(record: RecordFile) -> None:
+    """It also precedes the reply, if one comes."""
     session, one, two = record.session(SHARD, 1), commit(0), commit(2)
     record.commit = one
     record.heard(one, {SHARD})
@@ -118,7 +118,7 @@ def test_what_is_acknowledged_too_early_is_behind_what_was_sent(record: RecordFi
 
 
 def test_a_commit_without_an_answer(record: RecordFile) -> None:
-    """It is there, and what was heard of others too."""
+    """The commit is in the record, and so are the replies of the others."""
     session = record.session(SHARD, 1)
     record.commit = commit(0)
     record.unanswered()
@@ -131,7 +131,7 @@ def test_a_commit_without_an_answer(record: RecordFile) -> None:
 
 
 def test_another_server_takes_over_while_a_commit_is_sent(record: RecordFile) -> None:
-    """The commit and its answer are of the server that was there when it was sent."""
+    """The commit and its reply are those of the server at the time of sending."""
     one = commit(0)
     record.commit = one
     record.moved("00000002")
@@ -139,7 +139,7 @@ def test_another_server_takes_over_while_a_commit_is_sent(record: RecordFile) ->
     record.told((record.session(SHARD, 1), 2), "call")
     record.close()
     lines = [line.split(" ") for line in pathlib.Path(record.path).read_text().splitlines()[1:]]
-    assert [(words[0], words[4]) for words in lines] == [
+    assert [(fields[0], fields[4]) for fields in lines] == [
         ("took", LINE),
         ("sent", LINE),
         ("heard", LINE),
@@ -149,7 +149,9 @@ def test_another_server_takes_over_while_a_commit_is_sent(record: RecordFile) ->
 
 @pytest.mark.parametrize("early", [False, True])
 def test_a_shard_that_begins(record: RecordFile, early: bool) -> None:
-    """Its takeover is noted once, before its first commit and before what rests on that."""
+    """Its takeover is noted once, before its first commit and before acknowledgements that depend
+    on it.
+    """
     one, session = commit(0, shard=8), record.session(8, 1)
     one.parts["born"] = [(8, "name")]
     record.commit = one
@@ -162,14 +164,16 @@ def test_a_shard_that_begins(record: RecordFile, early: bool) -> None:
     two = commit(2, shard=8)
     record.commit = two
     record.heard(two, {8})
-    told, heard = "told 2 call", "heard 2"
-    order = [told, heard] if early else [heard, told]
+    acknowledged, heard = "told 2 call", "heard 2"
+    order = [acknowledged, heard] if early else [heard, acknowledged]
     assert noted(record) == ["took 0 0", "took 0 0", FIRST, *order, SECOND, "heard 4"]
 
 
 def test_lines_are_in_order(tmp_path: pathlib.Path) -> None:
-    """As in a record that writes each at once; only an acknowledgement of what was heard may be
-    before a commit that was sent meanwhile. What is acknowledged is in the file.
+    """The order is that of a record that writes each line at once.
+
+    Only an acknowledgement of an earlier reply may come before a commit that was sent in the
+    meantime. Acknowledged lines are in the file.
     """
     for seed in range(300):
         chance = random.Random(seed)
@@ -177,7 +181,7 @@ def test_lines_are_in_order(tmp_path: pathlib.Path) -> None:
         record.open()
         record.moved(LINE)
         expected: dict[int, list[str]] = {1: [], 2: []}
-        heads, texts, told = {1: 0, 2: 0}, {1: "", 2: ""}, dict[tuple[int, str], int]()
+        heads, texts, newest = {1: 0, 2: 0}, {1: "", 2: ""}, dict[tuple[int, str], int]()
         for shard, lines in expected.items():
             record.took((shard, 1, LINE), 0, "")
             lines.append("took 0 0")
@@ -188,9 +192,9 @@ def test_lines_are_in_order(tmp_path: pathlib.Path) -> None:
                 early = chance.random() < 0.1
                 events = chance.randint(0, heads[shard]) + 5 * early
                 record.told((record.session(shard, 1), events), edge)
-                if told.get((shard, edge), -1) < events:
-                    is_most = events > max([told.get((shard, one), -1) for one in EDGES])
-                    told[shard, edge] = events
+                if newest.get((shard, edge), -1) < events:
+                    is_most = events > max([newest.get((shard, one), -1) for one in EDGES])
+                    newest[shard, edge] = events
                     expected[shard].append(f"told {events} {edge}")
                     if is_most:
                         has = pathlib.Path(record.path).read_text().splitlines()
@@ -215,28 +219,30 @@ def test_lines_are_in_order(tmp_path: pathlib.Path) -> None:
                 under_way = None
         record.close()
         for shard, lines in expected.items():
-            words = [one.split(" ") for one in pathlib.Path(record.path).read_text().splitlines()]
-            found = [" ".join([one[0], *one[5:]]) for one in words if one[2] == str(shard)]
-            assert settled(found) == settled(lines), f"seed {seed}, shard {shard}"
+            fields = [one.split(" ") for one in pathlib.Path(record.path).read_text().splitlines()]
+            shard_lines = [" ".join([one[0], *one[5:]]) for one in fields if one[2] == str(shard)]
+            assert in_canonical_order(shard_lines) == in_canonical_order(
+                lines
+            ), f"seed {seed}, shard {shard}"
 
 
-def settled(lines: Sequence[str]) -> list[str]:
-    """The same, with each acknowledgement of what was heard before the commit that it is behind."""
-    found, heard = list[str](), 0
+def in_canonical_order(lines: Sequence[str]) -> list[str]:
+    """Return the lines, with each such acknowledgement moved before the commit that it follows."""
+    ordered, heard = list[str](), 0
     for line in lines:
-        what, *words = line.split(" ")
-        heard = int(words[0]) if what == "heard" else heard
-        place = len(found)
-        if what == "told" and int(words[0]) <= heard:
-            while found[place - 1].startswith(("sent", "told")) and _is_behind(found, place):
-                place -= 1
-        found.insert(place, line)
-    return found
+        what, *fields = line.split(" ")
+        heard = int(fields[0]) if what == "heard" else heard
+        index = len(ordered)
+        if what == "told" and int(fields[0]) <= heard:
+            while ordered[index - 1].startswith(("sent", "told")) and _is_behind(ordered, index):
+                index -= 1
+        ordered.insert(index, line)
+    return ordered
 
 
-def _is_behind(found: Sequence[str], place: int) -> bool:
-    """Whether a commit is between that place and the last answer."""
-    for line in reversed(found[:place]):
+def _is_behind(lines: Sequence[str], index: int) -> bool:
+    """Return whether a commit is between that index and the last reply."""
+    for line in reversed(lines[:index]):
         if line.startswith("sent"):
             return True
         if not line.startswith("told"):
@@ -244,18 +250,18 @@ def _is_behind(found: Sequence[str], place: int) -> bool:
     return False
 
 
-# -- what acknowledgements rest on
+# -- the commits that acknowledgements depend on
 
 
-def shelf() -> DefinitionRegistry:
+def definitions() -> DefinitionRegistry:
     saga = sagas.Saga("one")
     saga.step(name="a")(lambda task: None)
     return DefinitionRegistry([saga])
 
 
 def begun(acknowledgements: Acknowledgements) -> tuple[ShardDriver, Attempt]:
-    """A shard with the first attempt of a saga, whose commit is done."""
-    kinds = shelf().kinds
+    """Return a shard with the first attempt of a saga, whose commit is done."""
+    kinds = definitions().kinds
     shard = ShardDriver.created(ShardIdentity(SHARD, "name", ShardDefinitions(kinds)), LINE)
     shard.to(ShardState.STARTING)
     shard.to(ShardState.ACTIVE)
@@ -271,29 +277,31 @@ def begun(acknowledgements: Acknowledgements) -> tuple[ShardDriver, Attempt]:
 
 
 def recovered(shard: ShardDriver, busy: Sequence[tuple[int, str, int]]) -> recovery.Recovery:
-    """What comes of a recovery of a shard whose saga is open, with these attempts."""
+    """Return the effects of a recovery of a shard whose saga is open, with these attempts."""
     shard.fail()
     shard.to(ShardState.LOADING)
     rows = [(SHARD * 1000, "k", 0, "{}", None, None, None)]
     loaded = Loaded("line\n", 1, 1, rows, [], [], 2, LINE, 1)
     shard.loaded(loaded)
     known = {saga.key: saga for saga in shard.sagas.values()}
-    told = [{"saga": 0, "step": one, "task": word, "attempt": at} for one, word, at in busy]
-    return recovery.recover(loaded, [json.dumps({"busy": told})], 0.0, shard, known)
+    busy_tasks = [{"saga": 0, "step": one, "task": word, "attempt": at} for one, word, at in busy]
+    return recovery.recover(loaded, [json.dumps({"busy": busy_tasks})], 0.0, shard, known)
 
 
-def test_an_attempt_that_the_store_does_not_have_rests_on_nothing(record: RecordFile) -> None:
-    """Its saga may be the same one as before, and restored. If it were called all the same, the
-    record would not be allowed, even if an older session had its answer.
+def test_acknowledgements_of_an_attempt_outside_the_store(record: RecordFile) -> None:
+    """Its saga may be the same one as before, and restored.
+
+    If it were called anyway, the record would not be allowed, even if an older session had its
+    reply.
     """
     acknowledgements = Acknowledgements(record)
     shard, attempt = begun(acknowledgements)
     acknowledgements.called(attempt)
-    acknowledgements.recovered(found := recovered(shard, [(0, "run", 1)]))
-    assert found.resumed == [attempt] and found.restored == [attempt.instance]
+    acknowledgements.recovered(recovery_result := recovered(shard, [(0, "run", 1)]))
+    assert recovery_result.resumed == [attempt] and recovery_result.restored == [attempt.instance]
     acknowledgements.called(attempt)
-    acknowledgements.recovered(found := recovered(shard, []))
-    assert found.forgotten == [attempt] and found.restored == [attempt.instance]
+    acknowledgements.recovered(recovery_result := recovered(shard, []))
+    assert recovery_result.forgotten == [attempt] and recovery_result.restored == [attempt.instance]
     assert attempt.instance.rest and attempt.rest is None
     acknowledgements.called(attempt)
     assert [line for line in noted(record) if line.startswith("told")] == [
@@ -303,8 +311,8 @@ def test_an_attempt_that_the_store_does_not_have_rests_on_nothing(record: Record
     ]
 
 
-def test_what_is_not_in_the_store_rests_on_nothing(record: RecordFile) -> None:
-    """No acknowledgement of it rests on what was decided."""
+def test_acknowledgements_of_sagas_outside_the_store(record: RecordFile) -> None:
+    """No acknowledgement of it depends on the decision."""
     acknowledgements = Acknowledgements(record)
     shard, attempt = begun(acknowledgements)
     saga = attempt.instance
@@ -315,12 +323,12 @@ def test_what_is_not_in_the_store_rests_on_nothing(record: RecordFile) -> None:
     acknowledgements.started(saga)
     acknowledgements.ended(saga)
     acknowledgements.replied(saga)
-    acknowledgements.started(SagaInstance("other", "{}", shelf().kinds[0], 0))
-    acknowledgements.ended(SagaInstance("other", "{}", shelf().kinds[0], 0))
+    acknowledgements.started(SagaInstance("other", "{}", definitions().kinds[0], 0))
+    acknowledgements.ended(SagaInstance("other", "{}", definitions().kinds[0], 0))
     assert noted(record) == ["took 0 0"]
 
 
-def test_a_saga_that_is_not_of_this_program_rests_on_nothing(record: RecordFile) -> None:
+def test_acknowledgements_of_another_nodes_saga(record: RecordFile) -> None:
     """Another node has it. If its function were called, the record would not be allowed."""
     acknowledgements = Acknowledgements(record)
     shard, attempt = begun(acknowledgements)

@@ -1,4 +1,4 @@
-"""The pages of docs/dev/architecture have the package as it is."""
+"""The pages of docs/dev/architecture describe the package as it is."""
 
 from __future__ import annotations
 
@@ -9,15 +9,15 @@ import package_map
 
 FOLDER = package_map.TOP / "docs/dev/architecture"
 CHANGES = re.compile(r"\b(INSERT INTO|UPDATE (?!SET\b|OF\b)|DELETE FROM|pg_notify\()")
-"""Part of a statement that changes rows, or says that they changed."""
+"""A part of a statement that changes rows, or reports that they changed."""
 
 
 def statements(body: list[ast.stmt], owner: str) -> list[str]:
-    """The names of a module that have such a statement."""
-    found: list[str] = []
+    """Return the names of a module that have such a statement."""
+    changing: list[str] = []
     for node in body:
         if isinstance(node, ast.ClassDef):
-            found += statements(node.body, f"{owner}.{node.name}")
+            changing += statements(node.body, f"{owner}.{node.name}")
             continue
         if isinstance(node, (ast.FunctionDef, ast.AsyncFunctionDef)):
             names = [node.name]
@@ -32,36 +32,36 @@ def statements(body: list[ast.stmt], owner: str) -> list[str]:
             one.value for one in within if isinstance(one, ast.Constant) and id(one) not in prose
         ]
         if any(isinstance(text, str) and CHANGES.search(text) for text in texts):
-            found += [f"{owner}.{name}" for name in names]
-    return found
+            changing += [f"{owner}.{name}" for name in names]
+    return changing
 
 
 def test_each_statement_that_changes_rows_has_its_fence() -> None:
-    """The page names each statement on PostgreSQL, and none that is gone."""
+    """The page names each statement on PostgreSQL, and none that was removed."""
     page = (FOLDER / "statements.md").read_text(encoding="utf-8")
-    found: set[str] = set()
+    stated: set[str] = set()
     for path in package_map.SRC.rglob("*.py"):
         if "sqlite" not in path.parts:
-            found |= {*statements(ast.parse(path.read_text(encoding="utf-8")).body, path.stem)}
+            stated |= {*statements(ast.parse(path.read_text(encoding="utf-8")).body, path.stem)}
     rows = "\n".join(line for line in page.splitlines() if line.startswith("| `"))
-    assert found == {name for name in re.findall(r"`([\w.]+)`", rows) if "." in name}
+    assert stated == {name for name in re.findall(r"`([\w.]+)`", rows) if "." in name}
 
 
 def test_the_map_is_the_tree() -> None:
-    """Each module has its line, and no line is of a module that is gone."""
+    """Each module has its line, and no line is of a module that was removed."""
     for name in package_map.PAGES:
         written = (FOLDER / name).read_text(encoding="utf-8")
         assert written == package_map.page(name), "run python3 python/tests/package_map.py"
 
 
 def test_each_layer_is_in_a_page() -> None:
-    """A folder of the package that no page has would have no line."""
+    """A folder of the package without a page would have no line."""
     layers = {layer for _, layers in package_map.PAGES.values() for layer in layers if layer}
     folders = {path.parent for path in package_map.SRC.rglob("*.py")} - {package_map.SRC}
     assert layers == {path.relative_to(package_map.SRC).parts[0] for path in folders}
 
 
-def test_each_line_says_one_thing() -> None:
+def test_each_line_is_short() -> None:
     """It fits into a line of 120 columns."""
     layers = [layer for _, layers in package_map.PAGES.values() for layer in layers]
     assert [line for layer in layers for line in package_map.lines(layer) if len(line) > 120] == []

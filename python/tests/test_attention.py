@@ -1,4 +1,4 @@
-"""What needs a person until a person has seen to it, wherever it is asked for."""
+"""Each item that needs an operator, until an operator has resolved it, in each list."""
 
 from __future__ import annotations
 
@@ -8,7 +8,7 @@ import re
 from typing import Any
 
 import pytest
-from cases import QUICK, Task, asked_of, run, until
+from cases import QUICK, Task, attempts_to_report, run, until
 
 import sagas
 from sagas.cli import store_command
@@ -17,8 +17,11 @@ from sagas.inspection.question import StoreReader
 
 
 def shop() -> sagas.Saga:
-    """Takes, and sends: by its input the sending fails, and then the giving back; or nobody knows;
-    or nothing is left to do."""
+    """Return a saga that takes and sends.
+
+    Its input decides: the send fails, and then the compensation; or the outcome is unknown; or no
+    step is left.
+    """
     shop = sagas.Saga("shop")
 
     @shop.step(keep=9, undo=0)
@@ -42,7 +45,7 @@ def shop() -> sagas.Saga:
 
 
 def must() -> sagas.Saga:
-    """A saga that may be stuck."""
+    """Return a saga that may be stuck."""
     must = sagas.Saga("must")
 
     @must.step(skip=sagas.NEVER)
@@ -60,35 +63,37 @@ WANTED: list[Entry] = [
 ]
 
 
-def told(found: list[sagas.Attention]) -> list[Entry]:
-    """All but the time."""
-    return [(one.key, one.saga, one.why, one.step, one.undo, one.detail) for one in found]
+def entries_of(items: list[sagas.Attention]) -> list[Entry]:
+    """Return items without their time."""
+    return [(one.key, one.saga, one.why, one.step, one.undo, one.detail) for one in items]
 
 
 async def fill(store: sagas.Store, kinds: list[sagas.Saga]) -> None:
-    """One of each, and some of which nobody has to see anything."""
+    """Fill a store with one saga of each kind, and some that need no operator."""
     await (await store.start(kinds[1], "stuck")).wait()
     await (await store.start(kinds[0], "well-undone")).wait()
     end = await (await store.start(kinds[0], "gone", "gone")).wait()
     first, *_ = str(end).splitlines()
     assert first == "shop gone: recovered, but the compensation of take failed permanently"
     await store.start(kinds[0], "unknown", "unknown")
-    await until(lambda: asked_of(store))
+    await until(lambda: attempts_to_report(store))
 
 
-def test_what_needs_a_person(
-    place: str, capsys: pytest.CaptureFixture[str], caplog: pytest.LogCaptureFixture
+def test_items_that_need_an_operator(
+    location: str, capsys: pytest.CaptureFixture[str], caplog: pytest.LogCaptureFixture
 ) -> None:
-    """It is one list, for the program, an operator's command and the service's first page; and goes
-    when somebody has resolved it."""
+    """The program, an operator's command and the service's first page have the same list.
+
+    An item leaves it when an operator has resolved it.
+    """
     kinds = [shop(), must()]
 
     async def main() -> None:
         events: list[sagas.Event] = []
-        async with sagas.open(place, kinds, on_event=events.append) as store:
+        async with sagas.open(location, kinds, on_event=events.append) as store:
             await fill(store, kinds)
-            assert told(await store.attention()) == WANTED
-            assert told(await store.attention(limit=1)) == WANTED[:1]
+            assert entries_of(await store.attention()) == WANTED
+            assert entries_of(await store.attention(limit=1)) == WANTED[:1]
             with pytest.raises(ValueError, match="limit=0"):
                 await store.attention(limit=0)
             (failed,) = [one for one in events if one.name == "saga_undo_failed"]
@@ -97,7 +102,7 @@ def test_what_needs_a_person(
             )
             looks = StoreReader(store.reader())
             try:
-                assert told(looks.ask(lists.attention())) == WANTED
+                assert entries_of(looks.ask(lists.attention())) == WANTED
                 assert looks.ask(lists.attention_counts()) == {
                     "stuck": 1,
                     "undo_failed": 1,
@@ -115,15 +120,15 @@ def test_what_needs_a_person(
         run(main())
     assert "saga_undo_failed key=gone saga=shop" in caplog.text
     capsys.readouterr()
-    assert store_command.main([place, "attention", "--json"]) == 0
+    assert store_command.main([location, "attention", "--json"]) == 0
     shown = json.loads(capsys.readouterr().out)
     assert [tuple(one.values())[:6] for one in shown] == WANTED
-    assert store_command.main([place, "attention"]) == 0
+    assert store_command.main([location, "attention"]) == 0
     assert "gone     shop  undo failed      take (undo)" in capsys.readouterr().out
 
 
-async def by_store(place: str, kinds: list[sagas.Saga]) -> None:
-    async with sagas.open(place, kinds) as store:
+async def by_store(location: str, kinds: list[sagas.Saga]) -> None:
+    async with sagas.open(location, kinds) as store:
         await store.resolve("gone", "paid back", by="ann")
         await store.resolve("gone", "paid back")
         with pytest.raises(sagas.StepNotWaiting, match="'gone' .* The first note stays"):
@@ -134,15 +139,15 @@ async def by_store(place: str, kinds: list[sagas.Saga]) -> None:
             await store.resolve("well-undone", "x")
 
 
-async def by_command(place: str, kinds: list[sagas.Saga]) -> None:
+async def by_command(location: str, kinds: list[sagas.Saga]) -> None:
     for note, status in (("paid back", 0), ("again", 1), ("paid back", 0)):
-        assert store_command.main([place, "resolve", "gone", "--note", note]) == status
-    assert store_command.main([place, "resolve", "well-undone", "--note", "x"]) == 1
+        assert store_command.main([location, "resolve", "gone", "--note", note]) == status
+    assert store_command.main([location, "resolve", "well-undone", "--note", "x"]) == 1
 
 
-async def by_client(place: str, kinds: list[sagas.Saga]) -> None:
-    async with sagas.Client(place) as client:
-        assert told(await client.attention()) == WANTED
+async def by_client(location: str, kinds: list[sagas.Saga]) -> None:
+    async with sagas.Client(location) as client:
+        assert entries_of(await client.attention()) == WANTED
         await client.resolve("gone", "paid back", by="ann")
         await client.resolve("gone", "paid back")
         with pytest.raises(sagas.StepNotWaiting, match="'gone' .* The first note stays"):
@@ -155,15 +160,15 @@ async def by_client(place: str, kinds: list[sagas.Saga]) -> None:
             await client.resolve("nobody", "x")
 
 
-def by_plain_client(place: str) -> None:
-    with sagas.SyncClient(place) as client:
-        assert told(client.attention(limit=2)) == WANTED[:2]
+def by_plain_client(location: str) -> None:
+    with sagas.SyncClient(location) as client:
+        assert entries_of(client.attention(limit=2)) == WANTED[:2]
         client.resolve("gone", "paid back")
 
 
-def by_plain_store(place: str, kinds: list[sagas.Saga]) -> None:
-    with sagas.open_sync(place, kinds) as store:
-        assert told(store.attention()) == WANTED
+def by_plain_store(location: str, kinds: list[sagas.Saga]) -> None:
+    with sagas.open_sync(location, kinds) as store:
+        assert entries_of(store.attention()) == WANTED
         store.resolve("gone", "paid back")
 
 
@@ -174,21 +179,23 @@ EVERYBODY = [
 ]
 
 
-@pytest.mark.parametrize(("place", "who"), EVERYBODY, indirect=["place"])
-def test_one_whose_compensation_failed_is_resolved(
-    place: str, who: Any, capsys: pytest.CaptureFixture[str]
+@pytest.mark.parametrize(("location", "who"), EVERYBODY, indirect=["location"])
+def test_a_saga_with_a_failed_compensation_is_resolved(
+    location: str, who: Any, capsys: pytest.CaptureFixture[str]
 ) -> None:
-    """By whoever may: then nothing of it needs a person, and it is in the list of those that are
-    resolved. Its first note stays, with its time."""
+    """Any operator may resolve it: then it needs no operator, and is in the list of resolved sagas.
+
+    Its first note stays, with its time.
+    """
     kinds = [shop(), must()]
 
     async def first() -> None:
-        async with sagas.open(place, kinds) as store:
+        async with sagas.open(location, kinds) as store:
             await fill(store, kinds)
 
     async def then() -> None:
-        async with sagas.open(place, kinds) as store:
-            assert told(await store.attention()) == [WANTED[0], WANTED[2]]
+        async with sagas.open(location, kinds) as store:
+            assert entries_of(await store.attention()) == [WANTED[0], WANTED[2]]
             (one,) = await store.list(phase="resolved")
             assert (one.key, one.phase, one.note) == ("gone", "resolved", "paid back")
             assert await store.list(phase="undo_failed") == []
@@ -202,16 +209,16 @@ def test_one_whose_compensation_failed_is_resolved(
 
     run(first())
     if who is by_plain_client:
-        who(place)
+        who(location)
     elif who is by_plain_store:
-        who(place, kinds)
+        who(location, kinds)
     else:
-        run(who(place, kinds))
+        run(who(location, kinds))
     run(then())
 
-    def shell(*words: str) -> str:
+    def shell(*arguments: str) -> str:
         capsys.readouterr()
-        assert store_command.main([place, *words]) == 0
+        assert store_command.main([location, *arguments]) == 0
         return capsys.readouterr().out
 
     text = shell("show", "gone")

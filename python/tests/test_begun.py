@@ -1,4 +1,8 @@
-"""What has begun and is not called now: the program that has the saga knows for what it waits, and the command, which has the store alone, says that it has begun."""
+"""Attempts that have started and are not being called.
+
+The program that has the saga knows what they wait for. The command, which has only the store,
+reports that they have started.
+"""
 
 from __future__ import annotations
 
@@ -29,7 +33,7 @@ BOUNDS: dict[str, dict[str, Any]] = {
 
 
 def kinds(gate: asyncio.Event) -> dict[str, sagas.Saga]:
-    """A saga for each reason to wait, whose step is called until the gate opens."""
+    """Return a saga for each reason to wait, whose step is called until the gate opens."""
 
     async def wait(task: Task) -> None:
         await gate.wait()
@@ -37,16 +41,16 @@ def kinds(gate: asyncio.Event) -> dict[str, sagas.Saga]:
     async def fail(task: Task) -> None:
         raise ValueError("not now")
 
-    found = {word: sagas.Saga(word) for word in (*BOUNDS, "backoff", "worker")}
-    for word, words in BOUNDS.items():
-        found[word].step(name="a", **words)(wait)
-    found["backoff"].step(name="a", tries=2, backoff=HOUR)(fail)
-    found["worker"].step(name="a", external=True)
-    return found
+    sagas_by_reason = {word: sagas.Saga(word) for word in (*BOUNDS, "backoff", "worker")}
+    for word, options in BOUNDS.items():
+        sagas_by_reason[word].step(name="a", **options)(wait)
+    sagas_by_reason["backoff"].step(name="a", tries=2, backoff=HOUR)(fail)
+    sagas_by_reason["worker"].step(name="a", external=True)
+    return sagas_by_reason
 
 
 def test_without_async(tmp_path: pathlib.Path) -> None:
-    """The same."""
+    """The same without async."""
     saga = sagas.Saga("one")
     saga.step(name="a", external=True)
     with sagas.open_sync(tmp_path / "x.db", [saga]) as store:
@@ -55,8 +59,8 @@ def test_without_async(tmp_path: pathlib.Path) -> None:
         store.complete("k", "a")
 
 
-def test_what_waited_for_its_time_is_called(place: str) -> None:
-    """Once that has come, nothing says any more that it is waited for."""
+def test_a_call_after_a_wait_is_not_listed_as_waiting(location: str) -> None:
+    """Once the time has come, no list reports the wait any more."""
     gate, late = asyncio.Event(), sagas.Saga("late")
 
     @late.wait(until=datetime.timedelta(seconds=0.05))
@@ -64,25 +68,28 @@ def test_what_waited_for_its_time_is_called(place: str) -> None:
         await gate.wait()
 
     async def main() -> None:
-        async with sagas.open(place, [late], shutdown_timeout=0.0) as store:
+        async with sagas.open(location, [late], shutdown_timeout=0.0) as store:
             with contextlib.closing(StoreReader(store.reader())) as looks:
                 await store.start(late, "k")
                 await until(lambda: [one.waits for one in store.active_attempts("k")] == [""])
                 view = looks.ask(one_saga.view("k"))
                 assert view and view.held == [] and looks.ask(lists.waits(person=False)) == []
-                told = with_active_attempts(view, store.active_attempts("k"), store.now())
-                assert told.running == {("then", False)} and told.held == []
+                state = with_active_attempts(view, store.active_attempts("k"), store.now())
+                assert state.running == {("then", False)} and state.held == []
 
     run(main())
 
 
 def test_the_store_and_its_program_together() -> None:
-    """A lease that has run out is none; what the program says goes before an older row, and is left out where it is of another attempt."""
+    """A lease that has expired does not count.
 
-    def held(why: str, until: float | None, said: str | None = None, attempt: int = 1) -> Waits:
-        return Waits(1, "k", "s", "a", False, attempt, why, 2, 5.0, until, said)
+    The program's report replaces an older row, and is left out if it is of another attempt.
+    """
 
-    def told(
+    def held(why: str, until: float | None, detail: str | None = None, attempt: int = 1) -> Waits:
+        return Waits(1, "k", "s", "a", False, attempt, why, 2, 5.0, until, detail)
+
+    def state_of(
         rows: list[Waits], *begun: sagas.ActiveAttempt
     ) -> tuple[list[tuple[str, str | None]], bool]:
         summary = sagas.Summary(1, "k", "s", "open", 0.0, None, None)
@@ -90,46 +97,52 @@ def test_the_store_and_its_program_together() -> None:
         view = SagaView(
             summary, False, None, None, {}, [], None, rows, [], [], [stretch], [], [], "", "x-1"
         )
-        found = with_active_attempts(view, begun, 100.0)
-        return [(one.why, one.said) for one in found.held], ("a", False) in found.running
+        state = with_active_attempts(view, begun, 100.0)
+        return [(one.why, one.said) for one in state.held], ("a", False) in state.running
 
     def begun(waits: str, attempt: int = 1) -> sagas.ActiveAttempt:
         return sagas.ActiveAttempt("a", False, attempt, waits, None)
 
     assert (
-        told([]) == ([], False)
-        and told([], begun("")) == ([], True)
-        and told([], begun("", 2)) == ([], False)
+        state_of([]) == ([], False)
+        and state_of([], begun("")) == ([], True)
+        and state_of([], begun("", 2)) == ([], False)
     )
-    assert told([], begun("concurrency")) == ([("concurrency", None)], False)
-    assert told([held("external", 101.0, "w")]) == ([("external", "w")], True)
+    assert state_of([], begun("concurrency")) == ([("concurrency", None)], False)
+    assert state_of([held("external", 101.0, "w")]) == ([("external", "w")], True)
     lapsed = [("worker", "the lease of w expired")], False
     assert (
-        told([held("external", 99.0, "w")])
-        == told([held("external", 99.0, "w")], begun("worker"))
+        state_of([held("external", 99.0, "w")])
+        == state_of([held("external", 99.0, "w")], begun("worker"))
         == lapsed
     )
-    assert told([held("unknown", 99.0, "odd")], begun("")) == ([], True)
-    assert told([held("unknown", 99.0, "odd")], begun("concurrency")) == (
+    assert state_of([held("unknown", 99.0, "odd")], begun("")) == ([], True)
+    assert state_of([held("unknown", 99.0, "odd")], begun("concurrency")) == (
         [("concurrency", None)],
         False,
     )
-    assert told([held("unknown", None, "odd")], begun("unknown")) == ([("unknown", "odd")], False)
+    assert state_of([held("unknown", None, "odd")], begun("unknown")) == (
+        [("unknown", "odd")],
+        False,
+    )
 
 
-def test_what_has_begun_says_for_what_it_waits(
-    place: str, capsys: pytest.CaptureFixture[str]
+def test_started_attempts_have_a_reason_to_wait(
+    location: str, capsys: pytest.CaptureFixture[str]
 ) -> None:
-    """Its limit, its rate, a back-off, or somebody elsewhere; of what is called the program says that, and of both the command that it has begun."""
+    """The reasons are its limit, its rate, a back-off, or an external worker.
 
-    async def shown(key: str, *words: str) -> str:
-        assert await asyncio.to_thread(store_command.main, [place, "show", key, *words]) == 0
+    The program reports attempts that are being called; the command reports both as started.
+    """
+
+    async def shown(key: str, *arguments: str) -> str:
+        assert await asyncio.to_thread(store_command.main, [location, "show", key, *arguments]) == 0
         return capsys.readouterr().out
 
     async def main() -> None:
         gate = asyncio.Event()
         there = kinds(gate)
-        async with sagas.open(place, there.values(), shutdown_timeout=0.0) as store:
+        async with sagas.open(location, there.values(), shutdown_timeout=0.0) as store:
 
             def waits(key: str) -> list[str]:
                 return [one.waits for one in store.active_attempts(key)]

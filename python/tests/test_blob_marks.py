@@ -1,4 +1,4 @@
-"""Whose the values in a blob store are, and values that a blob store does not give."""
+"""The owner of the values in a blob store, and values that a blob store does not return."""
 
 from __future__ import annotations
 
@@ -27,7 +27,7 @@ OLD = datetime.timedelta(days=3).total_seconds()
 
 
 def wait_for_name(store: sagas.Store) -> Any:
-    """The blobs of a store, once it is known whose they are."""
+    """Return the blobs of a store, once their owner is known."""
     return until(lambda: blobs_of(store).prefix and blobs_of(store))
 
 
@@ -35,8 +35,8 @@ def blobs_of(store: sagas.Store) -> Any:
     return store._access.coordinator.store.blobs
 
 
-async def asked(store: sagas.Store, key: str) -> None:
-    """Waits until a saga waits for its approval."""
+async def approval_requested(store: sagas.Store, key: str) -> None:
+    """Wait until a saga waits for its approval."""
     await until(lambda: [one for one in store.active_attempts(key) if one.waits == "approval"])
 
 
@@ -45,16 +45,16 @@ async def swept(store: sagas.Store) -> int:
     return int(await database.swept())
 
 
-def copied(place: str, tmp_path: pathlib.Path) -> str:
-    """A copy of a store, as a backup gives it."""
-    if not place.startswith("postgresql"):
+def copied(location: str, tmp_path: pathlib.Path) -> str:
+    """Return a copy of a store, as a backup has it."""
+    if not location.startswith("postgresql"):
         copy = str(tmp_path / "copy.db")
-        with contextlib.closing(sqlite3.connect(place)) as db, contextlib.closing(
+        with contextlib.closing(sqlite3.connect(location)) as db, contextlib.closing(
             sqlite3.connect(copy)
         ) as to:
             db.backup(to)
         return copy
-    base, _, name = place.rpartition("/")
+    base, _, name = location.rpartition("/")
     owner = base.replace("app@", "owner@")
     with psycopg.connect(f"{owner}/postgres", autocommit=True) as link:
         link.execute(f"CREATE DATABASE copy_{name} TEMPLATE {name}")
@@ -62,28 +62,30 @@ def copied(place: str, tmp_path: pathlib.Path) -> str:
 
 
 def make_older(folder: pathlib.Path) -> None:
-    """As if all was put some days ago."""
+    """Change the times as if all had been put some days ago."""
     for path in values_in(folder):
         before = path.stat().st_mtime - OLD
         os.utime(path, (before, before))
 
 
 def test_a_copy_deletes_nothing_of_the_original(
-    place: str, tmp_path: pathlib.Path, caplog: pytest.LogCaptureFixture
+    location: str, tmp_path: pathlib.Path, caplog: pytest.LogCaptureFixture
 ) -> None:
-    """Neither by its sweep nor by its retention; what it puts itself the original does not delete.
-    It is told so, and may replace the original once an operator says so: then it deletes."""
+    """Neither its sweep nor its retention does, and the original does not delete the copy's own
+    blobs. The copy logs that. It may replace the original once an operator says so: then it
+    deletes.
+    """
     saga, folder = copy(), tmp_path / "blobs"
     blobs, nothing = sagas.FolderBlobStore(folder), datetime.timedelta(0)
 
     async def original() -> None:
-        async with at(place, blobs, saga) as store:
+        async with at(location, blobs, saga) as store:
             await store.start(saga, "k", LARGE)
             await store.fail("k", "sign", "no")
             await store.wait("k", 60)
 
     async def later() -> None:
-        async with at(place, blobs, saga) as store:
+        async with at(location, blobs, saga) as store:
             await store.start(saga, "later", LARGE)
             await until(lambda: len(values_in(folder)) == 4)
 
@@ -101,7 +103,7 @@ def test_a_copy_deletes_nothing_of_the_original(
         return [one.key for one in await store.list()] == ["own"]
 
     async def again() -> None:
-        async with at(place, blobs, saga) as store:
+        async with at(location, blobs, saga) as store:
             assert (await wait_for_name(store)).other is None
             make_older(folder)
             assert await swept(store) == 0
@@ -118,7 +120,7 @@ def test_a_copy_deletes_nothing_of_the_original(
             assert (await store.wait("own", 60)).results["second"] == f"{LARGE}12"
 
     run(original())
-    other = copied(place, tmp_path)
+    other = copied(location, tmp_path)
     run(later())
     run(of_copy())
     assert len(values_in(folder)) == 6
@@ -129,25 +131,28 @@ def test_a_copy_deletes_nothing_of_the_original(
     assert "No value is deleted" in caplog.text and LARGE not in caplog.text
 
 
-def test_an_exact_copy_at_the_same_place(tmp_path: pathlib.Path) -> None:
-    """A backup that takes the place of the store has an older token. A folder of its own without
-    marks it takes at once. If two open stores each take the values, neither deletes any."""
-    saga, folder, place = copy(), tmp_path / "blobs", str(tmp_path / "store.db")
+def test_an_exact_copy_at_the_same_path(tmp_path: pathlib.Path) -> None:
+    """A backup that replaces the store has an older token.
+
+    It takes over a separate folder without marks at once. If two open stores each take over the
+    values, neither deletes any.
+    """
+    saga, folder, location = copy(), tmp_path / "blobs", str(tmp_path / "store.db")
     blobs = sagas.FolderBlobStore(folder)
 
     async def opened(blobs: Any, key: str) -> str | None:
-        async with at(place, blobs, saga) as store:
+        async with at(location, blobs, saga) as store:
             await store.start(saga, key, LARGE)
             other = (await wait_for_name(store)).other
             return None if other is None else str(other.name)
 
     assert run(opened(blobs, "a")) is None
-    backup = pathlib.Path(place).read_bytes()
+    backup = pathlib.Path(location).read_bytes()
     assert run(opened(blobs, "b")) is None
-    with open(place, "r+b") as file:  # the same file, with other contents
+    with open(location, "r+b") as file:  # the same file, with other contents
         file.truncate(0)
         file.write(backup)
-    assert run(opened(blobs, "c")) == place
+    assert run(opened(blobs, "c")) == location
     shutil.copytree(folder, tmp_path / "more")
     for path in (tmp_path / "more").rglob("*"):
         if path.is_file() and len(path.relative_to(tmp_path / "more").parts) == 2:
@@ -155,10 +160,12 @@ def test_an_exact_copy_at_the_same_place(tmp_path: pathlib.Path) -> None:
     assert run(opened(sagas.FolderBlobStore(tmp_path / "more"), "d")) is None
 
     async def both() -> None:
-        more = blob_layer.Blobs(sagas.FolderBlobStore(tmp_path / "more"), THRESHOLD, PLAIN, place)
-        with contextlib.closing(sqlite3.connect(place)) as db:
+        more = blob_layer.Blobs(
+            sagas.FolderBlobStore(tmp_path / "more"), THRESHOLD, PLAIN, location
+        )
+        with contextlib.closing(sqlite3.connect(location)) as db:
             ((secret,),) = db.execute("SELECT value FROM secrets WHERE name = 'leases'").fetchall()
-        mine = more.mark(place, bytes.fromhex(secret))
+        mine = more.mark(location, bytes.fromhex(secret))
         assert await mine.renew() is None
         (mark,) = [
             path
@@ -177,7 +184,7 @@ def test_an_exact_copy_at_the_same_place(tmp_path: pathlib.Path) -> None:
 
 
 def test_two_nodes_have_the_same_values(url: str, tmp_path: pathlib.Path) -> None:
-    """Each changes the marks, and neither takes the other's for those of another store."""
+    """Each changes the marks, and neither takes the other's marks for those of another store."""
     saga, blobs = copy(), sagas.FolderBlobStore(tmp_path / "blobs")
 
     async def main() -> None:
@@ -191,25 +198,25 @@ def test_two_nodes_have_the_same_values(url: str, tmp_path: pathlib.Path) -> Non
 
 
 def test_own_blobs_refused(tmp_path: pathlib.Path) -> None:
-    """What is no blob store, and a store that never had one."""
-    place = str(tmp_path / "store.db")
+    """It refuses an object that is not a blob store, and a store that never had one."""
+    location = str(tmp_path / "store.db")
 
     async def main() -> None:
-        async with sagas.open(place, [copy()]):
+        async with sagas.open(location, [copy()]):
             pass
 
     run(main())
     for blobs, status, text in [
-        (place, 2, "this is a file"),
+        (location, 2, "this is a file"),
         ("json:dumps", 2, "must have the functions"),
         (str(tmp_path / "blobs"), 4, "no program has opened this store with a blob store"),
     ]:
-        done = command("store", place, "own-blobs", "--blobs", blobs)
+        done = command("store", location, "own-blobs", "--blobs", blobs)
         assert (done.returncode, text in done.stderr) == (status, True), done
 
 
 class Flaky(Memory):
-    """A blob store that does not give some values."""
+    """A blob store that does not return some values."""
 
     def __init__(self) -> None:
         super().__init__()
@@ -223,29 +230,35 @@ class Flaky(Memory):
         return self.there[key]
 
 
-def test_a_value_that_is_not_given_parks_its_attempt_alone(
-    place: str, caplog: pytest.LogCaptureFixture, monkeypatch: pytest.MonkeyPatch
+def test_a_missing_value_parks_only_its_attempt(
+    location: str, caplog: pytest.LogCaptureFixture, monkeypatch: pytest.MonkeyPatch
 ) -> None:
-    """Opening reads no value. Sagas whose values are there go on beside; those that are parked go
-    on by themselves once their values are given, and an abort ends one without them."""
+    """Opening reads no value.
+
+    Sagas whose values exist continue in parallel. Parked sagas continue by themselves once their
+    values are returned, and an abort ends one without them.
+    """
     saga, flaky = copy(), Flaky()
     monkeypatch.setattr(blob_layer, "PAUSES", (0.001,))
     monkeypatch.setattr(attempts, "LEAST_UNREAD", 0.05)
     bad = [f"bad-{number}" for number in range(6)]  # more than are read at a time
 
     async def main() -> None:
-        async with at(place, flaky, saga) as store:
+        async with at(location, flaky, saga) as store:
             for key in [*bad, "good"]:
                 await store.start(saga, key, LARGE)
-                await asked(store, key)
+                await approval_requested(store, key)
             prefixes = await store._access.coordinator.store.read_stored(
-                "SELECT a.value FROM attempts a JOIN sagas s ON s.id = a.id WHERE s.key <> ? AND a.step = 0",
+                (
+                    "SELECT a.value FROM attempts a JOIN sagas s ON s.id = a.id WHERE s.key <> ?"
+                    " AND a.step = 0"
+                ),
                 "good",
             )
             flaky.lacks = {json.loads(text)["$blob"] for (text,) in prefixes}
         assert len(flaky.lacks) == len(bad)
         flaky.gets = 0
-        async with at(place, flaky, saga) as store:
+        async with at(location, flaky, saga) as store:
             await until(lambda: all(store.active_attempts(key) for key in [*bad, "good"]))
             await wait_for_name(store)
             assert flaky.gets == 0
@@ -267,16 +280,16 @@ def test_a_value_that_is_not_given_parks_its_attempt_alone(
         assert LARGE not in caplog.text
 
     async def all_parked(store: sagas.Store) -> list[sagas.Attention]:
-        found = await store.attention()
-        return found if len(found) == len(bad) else []
+        parked = await store.attention()
+        return parked if len(parked) == len(bad) else []
 
     run(main())
 
 
-def test_a_worker_gets_other_tasks_meanwhile(
+def test_a_worker_gets_tasks_with_readable_values(
     tmp_path: pathlib.Path, monkeypatch: pytest.MonkeyPatch
 ) -> None:
-    """The task whose input is not given is set aside, and is claimed later."""
+    """The task whose input is missing is set aside, and is claimed later."""
     monkeypatch.setattr(blob_layer, "PAUSES", (0.001,))
     monkeypatch.setattr(attempts, "LEAST_UNREAD", 0.05)
     flaky, saga = Flaky(), sagas.Saga("done")
@@ -289,7 +302,7 @@ def test_a_worker_gets_other_tasks_meanwhile(
         async with store:
             for key in ("bad", "good"):
                 await store.start(saga, key, f"{key} {LARGE}")
-                await asked(store, key)
+                await approval_requested(store, key)
             flaky.lacks = {key for key, value in flaky.there.items() if value.startswith(b'"bad')}
             assert len(flaky.lacks) == 1
             for key in ("bad", "good"):
@@ -304,15 +317,15 @@ def test_a_worker_gets_other_tasks_meanwhile(
     run(main())
 
 
-def test_a_start_of_a_key_compares_its_digest(place: str) -> None:
-    """The input of the saga that is there is not got, unless it may be the same under other types."""
+def test_a_start_of_a_key_compares_its_digest(location: str) -> None:
+    """The input of the existing saga is not read, unless it may be the same under other types."""
     saga, flaky = copy(), Flaky()
 
     async def main() -> None:
-        async with at(place, flaky, saga) as store:
+        async with at(location, flaky, saga) as store:
             await store.start(saga, "k", LARGE)
-            await asked(store, "k")
-        async with at(place, flaky, saga) as store:
+            await approval_requested(store, "k")
+        async with at(location, flaky, saga) as store:
             await wait_for_name(store)
             flaky.lacks = {*flaky.there}
             assert not (await store.start(saga, "k", LARGE)).new

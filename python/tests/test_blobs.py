@@ -1,4 +1,4 @@
-"""Large values in a blob store: there before their rows, gone behind them, over both databases."""
+"""Large values in a blob store: put before their rows, deleted after them, over both databases."""
 
 from __future__ import annotations
 
@@ -31,7 +31,7 @@ THRESHOLD = 1000
 
 
 class Memory:
-    """A blob store of coroutines, whose machine is this program's."""
+    """A blob store with coroutines, in the memory of this program."""
 
     def __init__(self) -> None:
         self.there: dict[str, bytes] = {}
@@ -63,7 +63,9 @@ class Reverse:
 
 
 def copy(undone: list[Any] | None = None) -> sagas.Saga:
-    """Steps with large results, each of which reads the one before; and one that waits."""
+    """Return a saga with large results, each step of which reads the one before; and a
+    waiting one.
+    """
     saga = sagas.Saga("copy")
 
     @saga.step(undo=1, keep=9, backoff=QUICK)
@@ -83,13 +85,13 @@ def copy(undone: list[Any] | None = None) -> sagas.Saga:
     return saga
 
 
-def at(place: str, blobs: Any, *saga: sagas.Saga, **words: Any) -> sagas.Store:
-    words = {"node": "one", "blob_threshold": THRESHOLD, **words}
-    return sagas.open(place, saga, blobs=blobs, **words)
+def at(location: str, blobs: Any, *saga: sagas.Saga, **options: Any) -> sagas.Store:
+    options = {"node": "one", "blob_threshold": THRESHOLD, **options}
+    return sagas.open(location, saga, blobs=blobs, **options)
 
 
 async def texts(store: sagas.Store) -> list[str]:
-    """What the rows have, without the blob store."""
+    """Return the stored texts, without the blob store."""
     database: Any = store._access.coordinator.store
     inner = getattr(database, "_inner", database)
     query = "SELECT input FROM sagas UNION ALL SELECT value FROM attempts WHERE event = 'commit'"
@@ -97,9 +99,9 @@ async def texts(store: sagas.Store) -> list[str]:
 
 
 def values_in(folder: pathlib.Path) -> list[pathlib.Path]:
-    """The values of a folder, without the marks of the store."""
-    found = os.walk(folder)  # which passes over what is deleted meanwhile
-    paths = (pathlib.Path(place, name) for place, _, names in found for name in names)
+    """Return the values of a folder, without the marks of the store."""
+    listing = os.walk(folder)  # which skips blobs that are being deleted
+    paths = (pathlib.Path(directory, name) for directory, _, names in listing for name in names)
     whole = [path for path in paths if path.suffix != ".part"]
     return [path for path in whole if len(path.relative_to(folder).parts) == 3]
 
@@ -114,12 +116,12 @@ def blobs(request: pytest.FixtureRequest, tmp_path: pathlib.Path) -> Any:
     return sagas.PostgresBlobStore(request.getfixturevalue("url") if server else "")
 
 
-async def called(found: Any) -> Any:
-    return await found if asyncio.iscoroutine(found) else found
+async def called(result: Any) -> Any:
+    return await result if asyncio.iscoroutine(result) else result
 
 
-def test_a_blob_store_alone(blobs: Any) -> None:
-    """Put twice, got, listed and deleted; what is not there is a `KeyError`."""
+def test_a_blob_store_by_itself(blobs: Any) -> None:
+    """Values are put twice, read, listed and deleted; a missing one is a `KeyError`."""
 
     async def main() -> None:
         for _ in range(2):
@@ -139,11 +141,11 @@ def test_a_blob_store_alone(blobs: Any) -> None:
 
 
 def test_a_table_is_durable(url: str, monkeypatch: pytest.MonkeyPatch) -> None:
-    """Whatever the database's own setting says."""
+    """This holds whatever the database's own setting is."""
     made, whole = list[psycopg.Connection[Any]](), connections.connect_now
     with psycopg.connect(url, autocommit=True) as link:
         name = url.rpartition("/")[2]
-        link.execute(f"ALTER DATABASE {name} SET synchronous_commit = off")  # type: ignore[arg-type]
+        link.execute(f"ALTER DATABASE {name} SET synchronous_commit = off".encode())
     monkeypatch.setattr(connections, "connect_now", lambda *a: made.append(whole(*a)) or made[0])
     with contextlib.closing(sagas.PostgresBlobStore(url)) as blobs:
         blobs.put("a", b"one")
@@ -152,11 +154,14 @@ def test_a_table_is_durable(url: str, monkeypatch: pytest.MonkeyPatch) -> None:
 
 @pytest.mark.parametrize("codec", [None, Reverse()], ids=["plain", "codec"])
 def test_large_values_are_outside(
-    place: str, tmp_path: pathlib.Path, codec: Any, monkeypatch: pytest.MonkeyPatch
+    location: str, tmp_path: pathlib.Path, codec: Any, monkeypatch: pytest.MonkeyPatch
 ) -> None:
-    """Rows refer to them; functions, results, histories and other starts of the key have them, also
-    in the next program and in one without the blob store, which parks them. The compensation has
-    its step's, and retention takes all of them behind the rows."""
+    """Rows refer to them.
+
+    Functions, results, histories and other starts of the key have them, also in the next program. A
+    program without the blob store parks them. The compensation has its step's result, and retention
+    deletes all of them after the rows.
+    """
     undone, folder = list[Any](), tmp_path / "blobs"
     saga, blobs = copy(undone), sagas.FolderBlobStore(folder)
 
@@ -164,7 +169,7 @@ def test_large_values_are_outside(
         return values_in(folder)
 
     async def main() -> None:
-        async with at(place, blobs, saga, codec=codec) as store:
+        async with at(location, blobs, saga, codec=codec) as store:
             large = await store.start(saga, "large", LARGE)
             await (await store.start(saga, "small", SMALL)).complete("sign")
             assert (await store.wait("small", 60)).results["second"] == f"{SMALL}12"
@@ -174,15 +179,15 @@ def test_large_values_are_outside(
             with pytest.raises(sagas.KeyConflict):
                 await store.start(saga, "large", LARGE + "!")
             rows = await texts(store)
-            references = [found for text in rows if (found := Reference.of(text))]
+            references = [reference for text in rows if (reference := Reference.of(text))]
             assert len(references) == 2 and all(len(text) < THRESHOLD for text in rows)
             assert len(files()) == 2 and LARGE not in "".join(rows)
             data = blobs.get(references[0].key).decode()
             assert (LARGE in data) is (codec is None) and len(data) == references[0].size
-        async with at(place, None, saga, codec=codec) as store:
+        async with at(location, None, saga, codec=codec) as store:
             (one,) = await until(lambda: parked(store, "large"))
             assert "blob" in str(one.detail)
-        async with at(place, blobs, saga, codec=codec) as store:
+        async with at(location, blobs, saga, codec=codec) as store:
             await store.complete("large", "sign")
             end = await store.wait("large", 60)
             assert end.results["second"] == f"{LARGE}12" == (await large_again(store))
@@ -202,7 +207,7 @@ def test_large_values_are_outside(
             assert len(files()) == 6
         del large
         nothing = datetime.timedelta(0)
-        async with at(place, blobs, saga, codec=codec, retention=nothing) as store:
+        async with at(location, blobs, saga, codec=codec, retention=nothing) as store:
             await until(lambda: len(files()) == 1)
             assert await store.list() == []
 
@@ -214,15 +219,15 @@ def test_large_values_are_outside(
         return await store.attention()
 
     def prefix(store: sagas.Store) -> str:
-        found = store._access.coordinator.store.blobs
-        assert found is not None
-        return found.prefix
+        blob_store = store._access.coordinator.store.blobs
+        assert blob_store is not None
+        return blob_store.prefix
 
     run(main())
 
 
 def basket() -> sagas.Saga:
-    """Steps of large items, and one that waits before them."""
+    """Return a saga of large items, with a waiting step before them."""
     saga = sagas.Saga("basket")
     sign = saga.approval(name="sign", backoff=QUICK)(lambda task: None)
 
@@ -238,9 +243,12 @@ def basket() -> sagas.Saga:
 
 
 @pytest.mark.parametrize("codec", [None, Reverse()], ids=["plain", "codec"])
-def test_large_items_are_outside(place: str, tmp_path: pathlib.Path, codec: Any) -> None:
-    """They are kept outside of the database as inputs are, and read by later programs. Without the
-    blob store the attempts that need them are parked; retention takes them behind the rows."""
+def test_large_items_are_outside(location: str, tmp_path: pathlib.Path, codec: Any) -> None:
+    """They are kept outside of the database as inputs are, and read by later programs.
+
+    Without the blob store the attempts that need them are parked. Retention deletes them after the
+    rows.
+    """
     saga, folder = basket(), tmp_path / "blobs"
     blobs = sagas.FolderBlobStore(folder)
     given = {"parcels": {f"key {number}": "x" * THRESHOLD for number in range(3)}}
@@ -253,39 +261,39 @@ def test_large_items_are_outside(place: str, tmp_path: pathlib.Path, codec: Any)
         return [text for (text,) in await inner.read("SELECT shape FROM shapes")]
 
     async def main() -> None:
-        async with at(place, blobs, saga, codec=codec) as store:
+        async with at(location, blobs, saga, codec=codec) as store:
             await store.start(saga, "large", given)
             await store.start(saga, "small", {"parcels": {"a": "b"}})
-            found = await shapes(store)
-            assert sum(Reference.of(text) is not None for text in found) == 1 and files() == 2
-            assert max(map(len, found)) < THRESHOLD and "xxx" not in "".join(found)
-        async with at(place, None, saga, codec=codec) as store:
+            stored = await shapes(store)
+            assert sum(Reference.of(text) is not None for text in stored) == 1 and files() == 2
+            assert max(map(len, stored)) < THRESHOLD and "xxx" not in "".join(stored)
+        async with at(location, None, saga, codec=codec) as store:
             await store.complete("large", "sign")
             waits = await until(lambda: parked(store))
             assert {one.step for one in waits} == {"weigh-0", "weigh-1", "weigh-2"}
-        async with at(place, blobs, saga, codec=codec) as store:
+        async with at(location, blobs, saga, codec=codec) as store:
             end = await store.wait("large", 60)
             assert end.results["total"] == 3 * THRESHOLD
             assert end.each("weigh") == {f"key {n}": [f"key {n}", THRESHOLD] for n in range(3)}
             assert await store._access.coordinator.store.swept() == 0  # type: ignore[attr-defined]
             await store.complete("small", "sign")
             await store.wait("small", 60)
-        async with at(place, blobs, saga, codec=codec) as store:
+        async with at(location, blobs, saga, codec=codec) as store:
             assert (await store.wait("large")).each("weigh")["key 1"] == ["key 1", THRESHOLD]
         nothing = datetime.timedelta(0)
-        async with at(place, blobs, saga, codec=codec, retention=nothing):
+        async with at(location, blobs, saga, codec=codec, retention=nothing):
             await until(lambda: files() == 0)
 
     async def parked(store: sagas.Store) -> list[sagas.Attention]:
-        found = [one for one in await store.attention() if one.step != "sign"]
-        return found if len(found) == 3 else []
+        entries = [one for one in await store.attention() if one.step != "sign"]
+        return entries if len(entries) == 3 else []
 
     run(main())
 
 
 @pytest.mark.parametrize("codec", [None, Reverse()], ids=["plain", "codec"])
 def test_a_child_with_large_values_is_undone(
-    place: str, tmp_path: pathlib.Path, codec: Any
+    location: str, tmp_path: pathlib.Path, codec: Any
 ) -> None:
     """Its compensations get its input and its results, in the program and at a worker."""
     undone, leaf, trip = list[Any](), sagas.Saga("leaf"), sagas.Saga("trip")
@@ -300,7 +308,7 @@ def test_a_child_with_large_values_is_undone(
         raise sagas.Fail("sold out")
 
     async def main() -> None:
-        store = at(place, sagas.FolderBlobStore(tmp_path / "blobs"), trip, leaf, codec=codec)
+        store = at(location, sagas.FolderBlobStore(tmp_path / "blobs"), trip, leaf, codec=codec)
         store.leased = True
         async with store:
             begun = await store.start(trip, "k")
@@ -313,14 +321,16 @@ def test_a_child_with_large_values_is_undone(
     run(main())
 
 
-def test_it_is_away(place: str) -> None:
-    """A start says so, and writes nothing; a result waits until it is there again. What was put is
-    missing: the attempt is parked. An input that looks as a reference is data."""
+def test_an_unavailable_blob_store(location: str) -> None:
+    """A start raises an error, and writes nothing; a result waits until the blob store is available
+    again. If a value that was put is missing, the attempt is parked. An input that looks like a
+    reference is data.
+    """
     memory, saga = Memory(), copy()
     forged = {"$blob": "ab/1/c", "bytes": 1, "digest": "0" * 64}
 
     async def main() -> None:
-        async with at(place, memory, saga) as store:
+        async with at(location, memory, saga) as store:
             memory.fails = True
             with pytest.raises(sagas.StoreUnavailable) as error:
                 await store.start(saga, "k", LARGE)
@@ -336,7 +346,7 @@ def test_it_is_away(place: str) -> None:
             await until(lambda: [a for a in store.active_attempts("gone") if a.step == "sign"])
             assert gone.new
         memory.there.clear()
-        async with at(place, memory, saga) as store:
+        async with at(location, memory, saga) as store:
             await store.complete("gone", "sign")
             (one,) = await until(lambda: store.attention())
             assert (one.key, one.why) == ("gone", "cannot_decode")
@@ -345,7 +355,7 @@ def test_it_is_away(place: str) -> None:
 
 
 def test_a_client_reads_them(url: str) -> None:
-    """With the same blob store; without it, that is an error."""
+    """It needs the same blob store; without it, the read is an error."""
     memory, saga = Memory(), copy()
 
     async def main() -> None:
@@ -365,8 +375,10 @@ def test_a_client_reads_them(url: str) -> None:
 
 
 def test_a_service_has_them(tmp_path: pathlib.Path) -> None:
-    """By its options, with a codec of a module: a worker gets the whole input, and its result is
-    outside; a codec that is none is refused."""
+    """They come with its options, with a codec of a module.
+
+    A worker gets the whole input, and its result is stored outside. An invalid codec is refused.
+    """
     (tmp_path / "coded.py").write_text(
         "class Reverse:\n"
         "    def encode(self, data): return data[::-1]\n"
@@ -388,18 +400,18 @@ def test_a_service_has_them(tmp_path: pathlib.Path) -> None:
         assert len(kept) == 2 and not any(LARGE.encode() in data for data in kept)
     for wrong in (["--codec", "os:sep"], ["--codec", "os"], ["--blobs", "os:sep"]):
         command = [sys.executable, "-m", "sagas", "serve", "x.db", "--definitions", "definitions"]
-        found = subprocess.run(
+        done = subprocess.run(
             [*command, *wrong], env=serving.environment(), cwd=tmp_path, capture_output=True
         )
-        assert found.returncode == 2 and wrong[0].strip("-") in found.stderr.decode()
+        assert done.returncode == 2 and wrong[0].strip("-") in done.stderr.decode()
 
 
-def test_what_is_wrong_is_told(place: str) -> None:
-    for words in ({"blobs": object()}, {"blob_threshold": "1"}, {"blob_threshold": True}):
+def test_invalid_blob_options(location: str) -> None:
+    for options in ({"blobs": object()}, {"blob_threshold": "1"}, {"blob_threshold": True}):
         with pytest.raises(TypeError):
-            sagas.open(place, [copy()], **words)  # type: ignore[arg-type]
+            sagas.open(location, [copy()], **options)  # type: ignore[arg-type]
     with pytest.raises(ValueError):
-        sagas.open(place, [copy()], blob_threshold=1)
+        sagas.open(location, [copy()], blob_threshold=1)
     with pytest.raises(ValueError):
         sagas.FolderBlobStore(".").get("../x")
 
@@ -423,28 +435,36 @@ asyncio.run(main())
 """
 
 
-def test_what_was_acknowledged_is_there_after_a_kill(place: str, tmp_path: pathlib.Path) -> None:
-    """A program is killed amid its starts, three times: each saga that was told of is driven to its
-    end by the next one, with its values."""
+def test_acknowledged_starts_survive_a_kill(location: str, tmp_path: pathlib.Path) -> None:
+    """A program is killed during its starts, three times.
+
+    The next one runs each acknowledged saga to its end, with its values.
+    """
     here, folder, saga = pathlib.Path(__file__).parent, tmp_path / "blobs", copy()
     environment = os.environ | {
         "PYTHONPATH": f"{here.parent / 'src'}{os.pathsep}{here}",
         "SAGAS_PROGRAM": program(),
     }
-    told = list[str]()
+    acknowledged = list[str]()
     for kills in range(3):
-        words = [sys.executable, "-c", KILLED.replace('f"k', f'f"k{kills}-'), place, str(folder)]
-        with subprocess.Popen(words, env=environment, stdout=subprocess.PIPE, text=True) as child:
+        command = [
+            sys.executable,
+            "-c",
+            KILLED.replace('f"k', f'f"k{kills}-'),
+            location,
+            str(folder),
+        ]
+        with subprocess.Popen(command, env=environment, stdout=subprocess.PIPE, text=True) as child:
             assert child.stdout
             for _ in range(12 + 7 * kills):
-                told.append(child.stdout.readline().split()[0])
+                acknowledged.append(child.stdout.readline().split()[0])
             child.send_signal(signal.SIGKILL)
-            told += [line.split()[0] for line in child.stdout]
-    keys = sorted(set(told))
+            acknowledged += [line.split()[0] for line in child.stdout]
+    keys = sorted(set(acknowledged))
     assert len(keys) >= 20
 
     async def main() -> None:
-        async with at(place, sagas.FolderBlobStore(folder), saga) as store:
+        async with at(location, sagas.FolderBlobStore(folder), saga) as store:
             for key in keys:
                 await store.complete(key, "sign")
                 end = await store.wait(key, 120)

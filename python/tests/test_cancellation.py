@@ -1,4 +1,5 @@
-"""`task.cancelled`, `cancel_on_abort=`, `task.progress`, and where a plain function is that takes too long."""
+"""`task.cancelled`, `cancel_on_abort=`, `task.progress`, and the location of a slow plain function.
+"""
 
 from __future__ import annotations
 
@@ -26,10 +27,10 @@ import sagas.testing
 from sagas.definition.control import Control
 
 
-def pair(long: Any, fails: Any, **words: Any) -> sagas.Saga:
-    """A step that takes as long as it is wanted, and one beside it."""
+def pair(long: Any, fails: Any, **options: Any) -> sagas.Saga:
+    """Return a saga with a step that takes as long as the test wants, and a parallel one."""
     saga = sagas.Saga("pair")
-    saga.step(name="long", undo=0, keep=5, backoff=QUICK, **words)(long)
+    saga.step(name="long", undo=0, keep=5, backoff=QUICK, **options)(long)
     saga.step(name="other", undo=0)(fails)
     return saga
 
@@ -46,12 +47,12 @@ async def hear(task: Task) -> None:
 
 
 @pytest.mark.parametrize(
-    "place, function, why",
+    "location, function, why",
     pairs(PLACES, (hear, hear_plain), ("aborted", "failed")),
-    indirect=["place"],
+    indirect=["location"],
 )
-def test_a_function_hears_that_it_is_not_wanted(place: str, function: Any, why: str) -> None:
-    """It decides itself how it ends; the saga is planned as soon as it has."""
+def test_a_function_is_notified_of_its_cancellation(location: str, function: Any, why: str) -> None:
+    """The function decides how it ends; the saga is planned as soon as it has."""
     begun = asyncio.Event()
 
     async def fails(task: Task) -> None:
@@ -61,7 +62,7 @@ def test_a_function_hears_that_it_is_not_wanted(place: str, function: Any, why: 
 
     async def main() -> None:
         saga = pair(function, fails)
-        async with sagas.open(place, [saga]) as store:
+        async with sagas.open(location, [saga]) as store:
             started = await store.start(saga, "k")
             active = await until(
                 lambda: [one for one in store.active_attempts("k") if one.progress is not None]
@@ -76,8 +77,8 @@ def test_a_function_hears_that_it_is_not_wanted(place: str, function: Any, why: 
     run(main())
 
 
-def test_a_function_that_hears_of_the_end_of_the_store_goes_on_later(place: str) -> None:
-    """It says that nobody knows what it did, and is called again by the next program, with its key."""
+def test_a_function_cancelled_by_closing_continues_later(location: str) -> None:
+    """It reports an unknown outcome, and the next program calls it again with its key."""
     keys: list[str] = []
 
     async def long(task: Task) -> int:
@@ -89,10 +90,10 @@ def test_a_function_that_hears_of_the_end_of_the_store_goes_on_later(place: str)
 
     async def main() -> None:
         saga = simple(long)
-        async with sagas.open(place, [saga]) as store:
+        async with sagas.open(location, [saga]) as store:
             await store.start(saga, "k")
             await until(lambda: keys)
-        async with sagas.open(place, [saga]) as store:
+        async with sagas.open(location, [saga]) as store:
             assert (await store.wait("k")).results == {"a": 7}
 
     run(main())
@@ -100,25 +101,28 @@ def test_a_function_that_hears_of_the_end_of_the_store_goes_on_later(place: str)
 
 
 @pytest.mark.parametrize(
-    "place, says, timeout",
+    "location, says, timeout",
     pairs(PLACES, ("nothing", "fail", "result"), (None, 60)),
-    indirect=["place"],
+    indirect=["location"],
 )
 def test_a_function_that_is_cancelled_with_its_saga(
-    place: str, says: str, timeout: float | None
+    location: str, says: str, timeout: float | None
 ) -> None:
-    """What it raises then counts. Where it says nothing, nobody knows: it is called again, and not cancelled again."""
-    told: list[str] = []
+    """The exception that it raises then counts.
+
+    If it returns no outcome, that is unknown: it is called again, and not cancelled again.
+    """
+    calls: list[str] = []
 
     async def long(task: Task) -> str:
-        told.append(f"call {task.attempt_id[-1]} {task.cancelled.is_set()}")
-        if len(told) > 1:
+        calls.append(f"call {task.attempt_id[-1]} {task.cancelled.is_set()}")
+        if len(calls) > 1:
             await asyncio.sleep(0.02)
             return "again"
         try:
             await asyncio.sleep(60)
         except asyncio.CancelledError:
-            told.append("cancelled")
+            calls.append("cancelled")
             if says == "fail":
                 raise sagas.Fail("stopped") from None
             if says == "result":
@@ -131,48 +135,48 @@ def test_a_function_that_is_cancelled_with_its_saga(
 
     async def main() -> None:
         saga = pair(long, other, cancel_on_abort=True, timeout=timeout)
-        async with sagas.open(place, [saga]) as store:
+        async with sagas.open(location, [saga]) as store:
             started = await store.start(saga, "k")
-            await until(lambda: told)
+            await until(lambda: calls)
             assert await started.abort()
             end = await started.wait()
             assert end.states["long"] == ("failed" if says == "fail" else "undone"), end
 
     run(main())
     again = ["call 1 True"] if says == "nothing" else []
-    assert told == ["call 1 False", "cancelled", *again]
+    assert calls == ["call 1 False", "cancelled", *again]
 
 
-def test_what_cannot_be_cancelled_is_refused() -> None:
+def test_steps_that_cannot_be_cancelled_are_refused() -> None:
     """The error says what to do instead."""
     saga = sagas.Saga("s")
 
     async def later(task: Task) -> None:
         ...
 
-    for words, text in [
+    for options, text in [
         ({"cancel_on_abort": 1}, "must be True or False"),
         ({"cancel_on_abort": True, "transaction": True}, "a transaction cannot be cancelled"),
     ]:
         with pytest.raises(sagas.DefinitionError, match=text):
-            saga.step(**words)(later)  # type: ignore[call-overload]
+            saga.step(**options)(later)  # type: ignore[call-overload]
     with pytest.raises(
         sagas.DefinitionError, match="Declare it with async def, or check task.cancelled in it"
     ):
         saga.step(cancel_on_abort=True, name="b")(lambda task: None)
 
 
-def test_what_is_wrong_with_progress_is_told_to_the_function() -> None:
-    """A copy in another process tells nobody, and is never cancelled."""
+def test_invalid_progress_raises_in_the_function() -> None:
+    """A copy in another process reports to no store, and is never cancelled."""
     control = Control()
-    for words, error in [
+    for arguments, error in [
         ((2,), ValueError),
         ((True,), TypeError),
         (("1",), TypeError),
         ((0.5, 7), TypeError),
     ]:
         with pytest.raises(error):
-            control.set_progress(*words)  # type: ignore[arg-type]
+            control.set_progress(*arguments)  # type: ignore[arg-type]
     control.set_progress(0.25, "x" * 300)
     assert control.progress == (0.25, "x" * 200) and str(control.progress).startswith("25% xx")
     assert pickle.loads(pickle.dumps(control)).progress is None
@@ -185,8 +189,10 @@ def test_what_is_wrong_with_progress_is_told_to_the_function() -> None:
     assert "Await task.cancelled" in trial.errors["a"] and trial.calls[0].progress == (0.75, "half")
 
 
-def test_the_command_shows_progress(place: str, capsys: pytest.CaptureFixture[str]) -> None:
-    """Of a function that runs, within some seconds; of one that is over nothing."""
+def test_the_command_shows_progress(location: str, capsys: pytest.CaptureFixture[str]) -> None:
+    """It shows the progress of a running function, within some seconds, and nothing of a finished
+    one.
+    """
     goes_on = threading.Event()
 
     def long(task: Task) -> str:
@@ -196,8 +202,8 @@ def test_the_command_shows_progress(place: str, capsys: pytest.CaptureFixture[st
         return "done"
 
     async def main() -> None:
-        saga, shell = simple(long, undo=0), Shell(place, capsys)
-        async with sagas.open(place, [saga]) as store:
+        saga, shell = simple(long, undo=0), Shell(location, capsys)
+        async with sagas.open(location, [saga]) as store:
             await store.start(saga, "k")
             step = await until(
                 lambda: (one := shell.json("show", "k")["steps"][0])["progress"] and one
@@ -212,8 +218,8 @@ def test_the_command_shows_progress(place: str, capsys: pytest.CaptureFixture[st
 
 
 def test_a_plain_function_past_its_time_is_named_with_where_it_is(tmp_path: pathlib.Path) -> None:
-    """The innermost call first, out to the step's function, and nothing of the package."""
-    told: list[sagas.Event] = []
+    """The innermost call comes first, out to the step's function, and no line of the package."""
+    events: list[sagas.Event] = []
     goes_on = threading.Event()
 
     def deeper(count: int) -> None:
@@ -224,9 +230,9 @@ def test_a_plain_function_past_its_time_is_named_with_where_it_is(tmp_path: path
 
     async def main() -> None:
         saga = simple(long, timeout=0.05)
-        async with sagas.open(tmp_path / "store.db", [saga], on_event=told.append) as store:
+        async with sagas.open(tmp_path / "store.db", [saga], on_event=events.append) as store:
             started = await store.start(saga, "k")
-            (event,) = await until(lambda: [one for one in told if one.name == "step_overdue"])
+            (event,) = await until(lambda: [one for one in events if one.name == "step_overdue"])
             goes_on.set()
             await started.wait()
             frames = str(event.detail).split(" < ")
@@ -268,17 +274,19 @@ asyncio.run(main())
 
 
 def test_a_program_that_is_killed_while_a_function_is_cancelled(
-    place: str, tmp_path: pathlib.Path
+    location: str, tmp_path: pathlib.Path
 ) -> None:
-    """The abort is kept: the next program calls the same attempt again, and it hears from its beginning that it is cancelled."""
+    """The abort is stored: the next program calls the same attempt again, cancelled from its
+    beginning.
+    """
     here = pathlib.Path(__file__).parent
     path = f"{here.parent / 'src'}{os.pathsep}{here}"
     environment = os.environ | {"PYTHONPATH": path, "SAGAS_PROGRAM": program()}
     notes = tmp_path / "notes"
 
     def play(which: str) -> subprocess.Popen[bytes]:
-        words = [sys.executable, "-c", KILLED, place, str(tmp_path / "witness"), which]
-        return subprocess.Popen(words, env=environment)
+        command = [sys.executable, "-c", KILLED, location, str(tmp_path / "witness"), which]
+        return subprocess.Popen(command, env=environment)
 
     async def main() -> None:
         first = play("first")
@@ -290,21 +298,24 @@ def test_a_program_that_is_killed_while_a_function_is_cancelled(
 
     with witness_at(tmp_path / "witness", notes):
         run(main())
-    found = notes_of(notes)
-    keys = [note["key"] for note in found if note["what"] == "call"]
-    assert [note["what"] for note in found] == ["call", "cancelled", "call", "end"], json.dumps(
-        found
+    noted = notes_of(notes)
+    keys = [note["key"] for note in noted if note["what"] == "call"]
+    assert [note["what"] for note in noted] == ["call", "cancelled", "call", "end"], json.dumps(
+        noted
     )
     assert len({*keys}) == 1 and [
-        note["cancelled"] for note in found if note["what"] == "call"
+        note["cancelled"] for note in noted if note["what"] == "call"
     ] == [False, True]
-    assert found[-1]["aborted"] and found[-1]["states"] == {"long": "failed"}
+    assert noted[-1]["aborted"] and noted[-1]["states"] == {"long": "failed"}
 
 
-def test_a_worker_tells_its_progress_with_its_heartbeat(
+def test_a_worker_reports_progress_with_its_heartbeat(
     store: str | None, tmp_path: pathlib.Path
 ) -> None:
-    """The service, its dashboard and the command show it. What is no progress is refused, and keeps nothing."""
+    """The service, its dashboard and the command show it.
+
+    Invalid progress is refused, and stores nothing.
+    """
     one = 'format = 2\nname = "one"\n[[step]]\nname = "a"\nundo = "never"\n'
     goes_on = threading.Event()
     with served(tmp_path, {"one.toml": one}, store=store) as service, service.client() as client:
@@ -348,11 +359,12 @@ keep = 5
 """
 
 
-def test_a_worker_hears_that_its_task_is_not_wanted(
-    store: str | None, tmp_path: pathlib.Path
-) -> None:
-    """With its heartbeat, and with a task that is claimed then. An async function is cancelled once
-    where it asks for that; whoever lost its lease hears so, too."""
+def test_a_worker_is_notified_of_a_cancellation(store: str | None, tmp_path: pathlib.Path) -> None:
+    """The heartbeat reports it, and so does a later claim.
+
+    An async function is cancelled once if it asks for that; a worker that lost its lease is
+    notified, too.
+    """
     heard, calls = list[Any](), list[Any]()
     with served(tmp_path, {"two.toml": TWO}, store=store) as service, service.client() as client:
 
@@ -364,7 +376,7 @@ def test_a_worker_hears_that_its_task_is_not_wanted(
         (a,), (b,) = take(client, "two/a"), take(client, "two/b")
         assert a["cancelled"] is None and beat(a) is None
         assert report(client, b, "fail", error="no", final=True).status_code == 200
-        run(until(lambda: beat(a) == "failed"))  # the saga hears of it in the next look
+        run(until(lambda: beat(a) == "failed"))  # the saga gets it in the next look
         client.post("/v1/sagas/fails/abort", json={})
         assert beat(a) == "aborted"
         assert report(client, a, "unknown", error="gone").status_code == 200

@@ -1,4 +1,7 @@
-"""Steps on Celery's workers: what a step is there, what comes back, and what does not. Over Redis; RabbitMQ is in test_celery_kills.py."""
+"""Steps on Celery's workers: their declarations, their messages and their reports.
+
+Over Redis; RabbitMQ is in test_celery_kills.py.
+"""
 
 from __future__ import annotations
 
@@ -29,27 +32,27 @@ T = TypeVar("T")
 
 
 def run(main: Coroutine[Any, Any, T]) -> T:
-    """Runs a case, for three minutes at most: workers are slow to start where others are busy."""
+    """Run a case, for at most three minutes: workers start slowly on a busy machine."""
     return asyncio.run(asyncio.wait_for(main, 180))
 
 
 @pytest.fixture(scope="module")
 def broker(tmp_path_factory: pytest.TempPathFactory) -> Iterator[Broker]:
-    """A Redis of this process's own."""
+    """Return a Redis of this process's own."""
     with broker_at("redis", tmp_path_factory.mktemp("redis")) as running:
         yield running
 
 
 @pytest.fixture
 def shop(broker: Broker, tmp_path: pathlib.Path) -> Shop:
-    """A shop over a file."""
+    """Return a shop over a file."""
     return shop_in(broker, tmp_path)
 
 
 @pytest.fixture
-def either(broker: Broker, tmp_path: pathlib.Path, place: str) -> Shop:
-    """A shop over a file, and one over PostgreSQL."""
-    return shop_in(broker, tmp_path, place)
+def either(broker: Broker, tmp_path: pathlib.Path, location: str) -> Shop:
+    """Return a shop over a file, and one over PostgreSQL."""
+    return shop_in(broker, tmp_path, location)
 
 
 def order(log: str, number: int = 0, attempt: int = 1, lease: int = 5) -> Order:
@@ -64,7 +67,7 @@ def done(value: str) -> Outcome:
 
 
 def test_tasks_have_names_and_late_acknowledgement(shop: Shop) -> None:
-    """The names carry saga, version and step; options are Celery's and go through."""
+    """The names carry saga, version and step; Celery's own options pass through."""
     names = {name for name in shop.app.tasks if name.startswith("sagas.")}
     assert {
         "sagas.trip@2.flight.run",
@@ -80,20 +83,20 @@ def test_tasks_have_names_and_late_acknowledgement(shop: Shop) -> None:
             task.acks_late
             and task.reject_on_worker_lost
             and task.ignore_result
-            and task.queue == shop.words["queue"]
+            and task.queue == shop.settings["queue"]
         )
     long = shop.app.tasks["sagas.odd.long.run"]
     assert (long.soft_time_limit, long.time_limit, long.priority) == (1, 60, 3)
 
 
 def test_the_functions_are_still_functions(shop: Shop) -> None:
-    """In tests a step is called as it is, and whole sagas run in memory, without a broker."""
-    told = sagas.testing.run(shop.trip, Trip("Rome"))
-    assert told.phase == "completed" and told.results["tour"] == {"seat": "Rome"}
+    """A test calls a step directly, and whole sagas run in memory, without a broker."""
+    trial = sagas.testing.run(shop.trip, Trip("Rome"))
+    assert trial.phase == "completed" and trial.results["tour"] == {"seat": "Rome"}
 
 
-def test_what_cannot_be_declared(shop: Shop, tmp_path: pathlib.Path) -> None:
-    """No store, another store, two steps of one task, a step that is done elsewhere anyway."""
+def test_invalid_declarations(shop: Shop, tmp_path: pathlib.Path) -> None:
+    """No store, another store, two steps of one task, an external step."""
     path = str(tmp_path / "store.db")
 
     async def refused(app: Any, saga: sagas.Saga, error: type[Exception], text: str) -> None:
@@ -101,12 +104,12 @@ def test_what_cannot_be_declared(shop: Shop, tmp_path: pathlib.Path) -> None:
             async with sagas.open(path, [saga]):
                 pass
 
-    def saga(app: Any, **words: Any) -> sagas.Saga:
+    def saga(app: Any, **options: Any) -> sagas.Saga:
         one = sagas.Saga("one")
-        one.step(name="a", queue=sagas.celery.Queue(app, "q", **words))(lambda task: None)
+        one.step(name="a", queue=sagas.celery.Queue(app, "q", **options))(lambda task: None)
         return one
 
-    broker = shop.words["broker"]
+    broker = shop.settings["broker"]
     app = celery.Celery("no", broker=broker)
     run(refused(app, saga(app), sagas.DefinitionError, "sagas_store"))
     run(
@@ -129,11 +132,14 @@ def test_what_cannot_be_declared(shop: Shop, tmp_path: pathlib.Path) -> None:
     saga(app, store=path)
     run(refused(app, saga(app, store=path), sagas.DefinitionError, "another step has its task"))
     with pytest.raises(sagas.DefinitionError, match="external=True"):
-        sagas.Saga("two").step(external=True, name="a", queue=shop.queue)  # type: ignore[call-overload]
+        options: dict[str, Any] = {"external": True, "queue": shop.queue}
+        sagas.Saga("two").step(name="a", **options)
 
 
 def test_a_message_shows_its_attempt() -> None:
-    """Its id is the token, and its words say key and attempt, which flower and the broker's pages show; priority and routes are Celery's."""
+    """Its id is the token, and its arguments include key and attempt, which flower and the broker's
+    pages show. Priority and routes are Celery's.
+    """
     app = celery.Celery("routed", broker="memory://")
     app.conf.update(
         sagas_store="unused.db", task_routes={"sagas.slow.once.run": {"queue": "there"}}
@@ -153,7 +159,9 @@ def test_a_message_shows_its_attempt() -> None:
 
 
 def test_a_saga_on_workers(either: Shop, tmp_path: pathlib.Path) -> None:
-    """Inputs and results by type hints, both ways; async functions and plain ones; misses, failures, compensations; nobody knows."""
+    """It has inputs and results by type hints, both ways; async functions and plain ones; failed
+    attempts, failures, compensations; and unknown outcomes.
+    """
     worker = either.worker(tmp_path)
     try:
         run(_a_saga(either))
@@ -180,11 +188,11 @@ async def _a_saga(shop: Shop) -> None:
         timed = await store.start(shop.trip, "timed", Trip("Rome", "never"), deadline=3600)
         assert (await timed.wait(60)).phase == "recovered"
         (summary,) = [one for one in await store.list() if one.key == "timed"]
-        told = {(call["step"], call["undo"]): call["deadline"] for call in shop.calls("timed")}
-        assert len(told) == 5 and [*told.values()] == pytest.approx(
+        deadlines = {(call["step"], call["undo"]): call["deadline"] for call in shop.calls("timed")}
+        assert len(deadlines) == 5 and [*deadlines.values()] == pytest.approx(
             [summary.deadline] * 5, abs=1e-3
         )
-        assert all(said.startswith("yes") for said in (await store.audit()).values())
+        assert all(verdict.startswith("yes") for verdict in (await store.audit()).values())
     own = {call["pid"] for call in shop.calls("good") if call["step"] == "meal"}
     assert own.isdisjoint(call["pid"] for call in shop.calls() if call["step"] != "meal")
     tours = [call for call in shop.calls("full") if call["step"] == "tour"]
@@ -204,7 +212,10 @@ async def _a_saga(shop: Shop) -> None:
 
 
 def test_large_texts_are_fetched(either: Shop, tmp_path: pathlib.Path) -> None:
-    """A message carries no more than 64 KiB; the worker fetches the rest from the store. What is no JSON is kept as unstorable."""
+    """A message carries no more than 64 KiB; the worker fetches the rest from the store.
+
+    A result that is not JSON is stored as unstorable.
+    """
     sent: list[Order] = []
     send = either.queue.send
 
@@ -238,7 +249,7 @@ async def _large(shop: Shop, fail: bool) -> sagas.SagaResult:
 
 
 def test_a_soft_time_limit_is_unknown(shop: Shop, tmp_path: pathlib.Path) -> None:
-    """Whoever takes too long may have had his effect: a person says."""
+    """A call that takes too long may have had its effect: an operator reports the outcome."""
     worker = shop.worker(tmp_path)
     try:
         run(_soft(shop))
@@ -255,8 +266,8 @@ async def _soft(shop: Shop) -> None:
         assert (await going.wait()).results == {"long": "by hand"}
 
 
-def test_a_message_that_nobody_took_in_time(either: Shop, tmp_path: pathlib.Path) -> None:
-    """It is unknown, a person is asked, and the report that comes late after all is the answer."""
+def test_a_message_that_no_worker_took_in_time(either: Shop, tmp_path: pathlib.Path) -> None:
+    """It is unknown and needs an operator, and the late report is the answer."""
     run(_late(either, tmp_path))
 
 
@@ -274,7 +285,10 @@ async def _late(shop: Shop, tmp_path: pathlib.Path) -> None:
 
 
 def test_a_message_is_sent_again(either: Shop, tmp_path: pathlib.Path) -> None:
-    """The broker lost it: after the step's time it goes out again, with the same token. A message that comes behind is not called any more."""
+    """The broker lost it: after the step's time it is sent again, with the same token.
+
+    A later duplicate is not called any more.
+    """
     orders: list[Order] = []
     send = either.queue.send
 
@@ -306,7 +320,9 @@ async def _again(shop: Shop, orders: list[Order]) -> None:
 
 
 def test_a_worker_of_an_older_definition(shop: Shop, tmp_path: pathlib.Path) -> None:
-    """It drops the message of a step that it does not know; one that knows it gets it after the step's time, with the same token."""
+    """It drops the message of a step that it does not know; a worker that knows it gets it after
+    the step's time, with the same token.
+    """
     shop.slow.steps[0].run.max_unknown = None
     older = shop.worker(tmp_path, name="older", lacks="sagas.slow.once.run")
 
@@ -329,7 +345,7 @@ def test_a_worker_of_an_older_definition(shop: Shop, tmp_path: pathlib.Path) -> 
 
 
 def test_a_program_that_comes_back_finds_the_report(either: Shop, tmp_path: pathlib.Path) -> None:
-    """The worker reports while no program has the store; nothing is called again."""
+    """The worker reports while no program has the store; no function is called again."""
     worker = either.worker(tmp_path)
 
     async def sent() -> None:
@@ -363,7 +379,9 @@ def test_a_program_that_comes_back_finds_the_report(either: Shop, tmp_path: path
 def test_a_worker_that_cannot_report_lets_the_message_go_back(
     broker: Broker, tmp_path: pathlib.Path
 ) -> None:
-    """The store is locked for longer than the queue has patience; then the message comes again, and is done."""
+    """The store is locked for longer than the queue waits; then the message comes again, and is
+    done.
+    """
     shop = shop_in(broker, tmp_path, patience=0.2)
     shop.slow.steps[0].run.timeout = 120.0
     worker = shop.worker(tmp_path)
@@ -388,13 +406,12 @@ def test_a_worker_that_cannot_report_lets_the_message_go_back(
 
 
 def test_workers_with_another_file(shop: Shop, tmp_path: pathlib.Path) -> None:
-    """Over SQLite a worker that has another file under the name is found at `open`."""
+    """Over SQLite `open` finds a worker that has another file under the name."""
     worker = shop.worker(tmp_path, store=str(tmp_path / "elsewhere.db"), name="wrong")
 
     async def opened() -> None:
-        while (
-            True
-        ):  # a worker on a busy machine may not answer in time: then it is opened, and asked again
+        # a worker on a busy machine may not reply in time: then the store is opened again
+        while True:
             async with shop.open():
                 pass
 
@@ -406,7 +423,9 @@ def test_workers_with_another_file(shop: Shop, tmp_path: pathlib.Path) -> None:
 
 
 def test_a_function_that_is_a_transaction(broker: Broker, tmp_path: pathlib.Path, url: str) -> None:
-    """Each message comes three times; the function's row and its report are written once, together, and a failure leaves neither."""
+    """Each message comes three times; the function's row and its report are written once, together,
+    and a failure leaves neither.
+    """
     with psycopg.connect(url, autocommit=True) as link:
         link.execute("CREATE TABLE book(key text, step text, token text)")
     shop = shop_in(broker, tmp_path, url)
@@ -443,7 +462,7 @@ async def _booked(shop: Shop) -> None:
 
 
 def row(store: str, token: str) -> tuple[str, str]:
-    """A report, as the store has it."""
+    """Return a report, as the store has it."""
     query = "SELECT outcome, value FROM external_attempts WHERE attempt = "
     if store.startswith("postgresql:"):
         with psycopg.connect(store, options="-csearch_path=sagas") as link:
@@ -453,9 +472,12 @@ def row(store: str, token: str) -> tuple[str, str]:
 
 
 def offer(store: str, token: str) -> None:
-    """The row of an attempt that was sent under lease 5."""
+    """Insert the row of an attempt that was sent under lease 5."""
     values = "(?, 0, 5, 0, 'run', 1, '', 0.0, 5)"
-    query = f"INSERT INTO external_attempts(attempt, shard, id, step, action, number, task, offered_at, lease) VALUES {values}"
+    query = (
+        "INSERT INTO external_attempts(attempt, shard, id, step, action, number, task, offered_at,"
+        f" lease) VALUES {values}"
+    )
     if store.startswith("postgresql:"):
         with psycopg.connect(store, options="-csearch_path=sagas") as link:
             link.execute(query.replace("?", "%s"), (token,))  # type: ignore[arg-type]
@@ -464,13 +486,17 @@ def offer(store: str, token: str) -> None:
             db.execute(query, (token,))
 
 
-def test_equal_reports(either: Shop, place: str) -> None:
-    """The first stays; done takes the place of a failure, and of what nobody knew; failures count under the newest lease alone, and
-    nothing under one that was never issued; once the attempt is settled nothing is taken."""
-    run(_equal(either, place))
+def test_equal_reports(either: Shop, location: str) -> None:
+    """The first one stays.
+
+    Success replaces a failure and an unknown outcome. Failures count only under the newest lease,
+    and no report counts under a lease that was never issued. Once the attempt is finished no report
+    is taken.
+    """
+    run(_equal(either, location))
 
 
-async def _equal(shop: Shop, place: str) -> None:
+async def _equal(shop: Shop, location: str) -> None:
     orders: list[Order] = []
 
     async def held(order: Order) -> None:
@@ -478,19 +504,19 @@ async def _equal(shop: Shop, place: str) -> None:
 
     shop.queue.send = held  # type: ignore[method-assign]
     shop.slow.steps[0].run.timeout = 60.0
-    desk = open_worker_session(place)
+    desk = open_worker_session(location)
     async with shop.open(concurrency=1, shutdown_timeout=0) as store:
         going = await store.start(shop.slow, "k")
         await until(lambda: orders, 60)
         log = orders[0].log
 
         def reported(outcome: Outcome, attempt: int, lease: int = 5) -> tuple[str, str]:
-            told = order(log, 5, attempt, lease)
-            desk.report(told, outcome)
-            return row(place, told.token)
+            message = order(log, 5, attempt, lease)
+            desk.report(message, outcome)
+            return row(location, message.token)
 
         for attempt in (7, 8, 9, 10):
-            offer(place, order(log, 5, attempt).token)
+            offer(location, order(log, 5, attempt).token)
         for late in (done("a"), done("b"), failure("no"), unknown("x")):
             assert reported(late, 7) == ("succeeded", '"a"')
         assert (
@@ -511,18 +537,18 @@ async def _equal(shop: Shop, place: str) -> None:
             assert reported(late, 10, lease) == (None, None)
         assert reported(done("f"), 10, 4) == ("succeeded", '"f"')
         desk.report(order(log, 5, 11), done("g"))
-        assert row(place, order(log, 5, 11).token) is None
+        assert row(location, order(log, 5, 11).token) is None
         desk.report(orders[0], done("first"))
         assert (await going.wait()).results == {"once": "first"}
         desk.report(orders[0], done("second"))
-        assert desk.begin(orders[0]) is None and row(place, orders[0].token) == ("settled", None)
+        assert desk.begin(orders[0]) is None and row(location, orders[0].token) == ("settled", None)
         with pytest.raises(sagas.WrongStore, match="another store"):
             desk.begin(order("0" * 16))
     desk.close()
 
 
-def test_a_file_that_is_not_there(tmp_path: pathlib.Path) -> None:
-    """A worker makes no store."""
+def test_a_missing_file(tmp_path: pathlib.Path) -> None:
+    """A worker creates no store."""
     with pytest.raises(sagas.WrongStore, match="does not exist"):
         open_worker_session(str(tmp_path / "none.db")).begin(order("0" * 16))
     assert not (tmp_path / "none.db").exists()
@@ -573,7 +599,9 @@ def seat(name: str) -> dict[str, Any]:
 
 
 def test_steps_of_items(either: Shop, tmp_path: pathlib.Path) -> None:
-    """A worker is handed the item of its step, also in an included saga, and reads all results of a fan-out; one task name for all items."""
+    """A worker gets the item of its step, also in an included saga, and reads all results of a
+    fan-out; all items share one task name.
+    """
     worker = either.worker(tmp_path)
 
     async def main() -> None:
@@ -596,8 +624,8 @@ def test_steps_of_items(either: Shop, tmp_path: pathlib.Path) -> None:
             assert (await some.wait()).results["mail"] == ["ROME", "OSLO"]
             assert (await keyed.wait()).results["mail"] == ["ROME"]
             assert (await wrong.wait()).phase == "recovered"
-            told = await fair.wait()
-            assert [told.results[f"stall-{number}-mail"] for number in range(3)] == [
+            end = await fair.wait()
+            assert [end.results[f"stall-{number}-mail"] for number in range(3)] == [
                 ["BERN"],
                 [],
                 ["KIEL", "LINZ"],
@@ -616,7 +644,10 @@ def test_steps_of_items(either: Shop, tmp_path: pathlib.Path) -> None:
 
 
 def test_a_database_slower_than_a_back_off(url: str) -> None:
-    """An attempt is unknown, and its back-off is over, while a commit is on its way: what suspends it and what sends it again are two commits, and nothing is refused."""
+    """An attempt is unknown, and its back-off is over, while a commit is in progress.
+
+    Its suspension and its next message are two commits, and nothing is refused.
+    """
     app = celery.Celery("slow", broker="memory://")
     app.conf.sagas_store = url
     kind, side, events = sagas.Saga("kind"), sagas.Saga("side"), list[str]()
@@ -649,7 +680,7 @@ def test_a_database_slower_than_a_back_off(url: str) -> None:
                 await until(
                     lambda: "step_unknown" in events and attempt.state is AttemptState.RUNNING
                 )
-                await asyncio.sleep(0.1)  # time for what the node does of it
+                await asyncio.sleep(0.1)  # time for the node's reaction to it
                 await link.rollback()
                 await starting
                 await until(lambda: _greater(link, leases, before))

@@ -1,7 +1,6 @@
-"""Strikes at random moments, over Redis and RabbitMQ, SQLite and PostgreSQL, in pairs.
+"""Random strikes over Redis and RabbitMQ, SQLite and PostgreSQL, in pairs.
 
-All sagas come to their end, and the judge finds nothing.
-`tests/celery_kills.py --rounds N` makes as many rounds as are wanted.
+All sagas end, and the verifier finds no fault. `tests/celery_kills.py --rounds N` makes N rounds.
 """
 
 from __future__ import annotations
@@ -16,7 +15,7 @@ from server import Server
 
 SAGAS = 24
 STRIKES = 3
-"""In a round: each start of a worker takes its time."""
+"""Sagas of a round: each start of a worker takes its time."""
 SERVED = ("worker", "owner", "store", "all")
 """Kinds that are struck over PostgreSQL if Redis is the broker, and over SQLite if RabbitMQ is. The
 others are struck the other way round. So each kind meets each broker and each database, and each
@@ -26,7 +25,7 @@ broker meets each database.
 
 @pytest.fixture(scope="module")
 def redis(tmp_path_factory: pytest.TempPathFactory) -> Iterator[Broker]:
-    """A Redis of this process's own."""
+    """Return a Redis of this process's own."""
     with broker_at("redis", tmp_path_factory.mktemp("redis")) as running:
         yield running
 
@@ -34,21 +33,24 @@ def redis(tmp_path_factory: pytest.TempPathFactory) -> Iterator[Broker]:
 def struck(
     kind: str, number: int, broker: Broker, server: Server | None, strikes: int = STRIKES
 ) -> None:
-    """A round in which nothing is found."""
+    """Check that a round has no fault."""
     seed = number + [*KINDS, NODES].index(kind)
     one = play(kind, seed, broker, SAGAS, server=server, quiet=strikes)
-    assert not one.found, f"{kind}: {one.folder}: {one.found[:5]}"
+    assert not one.problems, f"{kind}: {one.folder}: {one.problems[:5]}"
 
 
 @pytest.mark.parametrize("kind", [kind for kind in KINDS if kind not in SERVED])
 def test_over_redis(redis: Broker, kind: str) -> None:
-    """Workers, the broker and older workers are struck; messages are doubled, and come late."""
+    """Workers, the broker and older workers are struck; messages are duplicated or delayed."""
     struck(kind, 1000, redis, None)
 
 
 @pytest.mark.parametrize("kind", [*SERVED, NODES])
 def test_over_redis_and_postgresql(redis: Broker, postgresql: Server, kind: str) -> None:
-    """Reports by `NOTIFY`, and what is there when nobody was told; two nodes, of which one takes over what the other had sent out."""
+    """Reports come by `NOTIFY`, or are found if the notification was lost.
+
+    There are two nodes; one takes over the messages that the other one had sent.
+    """
     struck(kind, 3000, redis, postgresql)
 
 

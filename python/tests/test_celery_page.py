@@ -1,4 +1,7 @@
-"""The guide to Celery is run: its code saved, its commands given, their outputs compared; and the example."""
+"""The guide to Celery, executed: its code is saved, its commands run and their outputs compared.
+
+The example runs, too.
+"""
 
 from __future__ import annotations
 
@@ -21,13 +24,16 @@ READY = {"redis-server": "Ready to accept", "celery": r" ready\."}
 def blocks(language: str, page: str) -> list[str]:
     return [
         text
-        for told, text in re.findall(r"^```(\w*)\n(.*?)^```$", page, re.S | re.M)
-        if told == language
+        for block_language, text in re.findall(r"^```(\w*)\n(.*?)^```$", page, re.S | re.M)
+        if block_language == language
     ]
 
 
 def test_the_page(tmp_path: pathlib.Path) -> None:
-    """A broker, a worker, a trip that goes well and one of which the car is given back; on a port of its own."""
+    """It needs a broker and a worker.
+
+    One trip completes, and of another one the car is returned. The broker has its own port.
+    """
     page = PAGE.replace("6379", str(free_port()))
     shop, book = blocks("python", page)[:2]
     (tmp_path / "shop.py").write_text(shop)
@@ -43,16 +49,16 @@ def test_the_page(tmp_path: pathlib.Path) -> None:
     try:
         for command, _, wanted in commands[1:]:
             if command.endswith(" &"):
-                words = command.removesuffix(" &").split()
+                arguments = command.removesuffix(" &").split()
                 running.append(
                     Program(
-                        [*words, *(["-l", "INFO"] if words[0] == "celery" else [])],
+                        [*arguments, *(["-l", "INFO"] if arguments[0] == "celery" else [])],
                         tmp_path,
                         environment,
-                        f"{words[0]}.log",
+                        f"{arguments[0]}.log",
                     )
                 )
-                running[-1].wait_for(READY[words[0]])
+                running[-1].wait_for(READY[arguments[0]])
             else:
                 done = subprocess.run(
                     ["bash", "-c", command],
@@ -71,10 +77,12 @@ def test_the_page(tmp_path: pathlib.Path) -> None:
 
 
 def environment_in(folder: pathlib.Path) -> dict[str, str]:
-    """Commands `python` and `celery` that are this Python's."""
+    """Return an environment with commands `python` and `celery` of this Python."""
     (folder / "bin").mkdir()
-    for name, words in (("python", ""), ("celery", "-m celery")):
-        (folder / "bin" / name).write_text(f'#!/bin/sh\nexec {sys.executable} {words} "$@"\n')
+    for name, module_arguments in (("python", ""), ("celery", "-m celery")):
+        (folder / "bin" / name).write_text(
+            f'#!/bin/sh\nexec {sys.executable} {module_arguments} "$@"\n'
+        )
         (folder / "bin" / name).chmod(0o755)
     return os.environ | {
         "PATH": f"{folder / 'bin'}:{os.environ['PATH']}",
@@ -84,7 +92,7 @@ def environment_in(folder: pathlib.Path) -> dict[str, str]:
 
 
 def test_the_example() -> None:
-    """One command: broker, worker, saga, a failure, and what was undone."""
+    """One command shows broker, worker, saga, a failure and its compensations."""
     path = "examples/celery/run.py"
     assert f"PYTHONPATH=python/src python3 {path}" in (TOP / path).read_text()
     environment = os.environ | {"PYTHONPATH": "python/src"}
@@ -98,20 +106,20 @@ def test_the_example() -> None:
         check=False,
     )
     assert done.returncode == 0, done.stderr
-    said = done.stdout.splitlines()
-    first, second = said.index("trip order-1: completed"), said.index(
+    lines = done.stdout.splitlines()
+    first, second = lines.index("trip order-1: completed"), lines.index(
         "trip order-2: recovered, plan of cost 15"
     )
-    assert said[first + 1 : second] == [
+    assert lines[first + 1 : second] == [
         "  committed flight",
         "  committed car",
         "  committed tour",
         "all went well",
     ]
-    assert said[second + 1 : second + 4] == [
+    assert lines[second + 1 : second + 4] == [
         "  committed flight",
         "  undone    car",
         "  failed    tour: RuntimeError: the tour is full",
     ]
-    worker = said[said.index("what the worker did:") + 1 :]
+    worker = lines[lines.index("what the worker did:") + 1 :]
     assert worker.count("  a car for seat 12A") == 2 and worker.count("  car 7 is given back") == 1

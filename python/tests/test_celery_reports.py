@@ -1,4 +1,5 @@
-"""A worker's *done* is not overwritten by an operator who says meanwhile that the step failed."""
+"""A worker's *done* is not overwritten by an operator who reports at the same time that it failed.
+"""
 
 from __future__ import annotations
 
@@ -15,7 +16,7 @@ import celery
 import psycopg
 import pytest
 from brokers import Broker, broker_at
-from cases import QUICK, Task, asked_of, ended, run, simple, until
+from cases import QUICK, Task, attempts_to_report, ended, run, simple, until
 from celery.exceptions import Reject, SoftTimeLimitExceeded
 from psycopg.rows import dict_row
 from test_definition_sets import rows
@@ -34,19 +35,21 @@ from sagas.storage.postgresql import worker_session
 
 @pytest.fixture(scope="module")
 def broker(tmp_path_factory: pytest.TempPathFactory) -> Iterator[Broker]:
-    """A Redis of this process's own."""
+    """Return a Redis of this process's own."""
     with broker_at("redis", tmp_path_factory.mktemp("redis")) as running:
         yield running
 
 
 class Late:
-    """A step whose message is lost, so that a person has to say how it ended; and its worker, which
-    has the message all the same."""
+    """A step whose message is lost, so that an operator has to report its outcome.
 
-    def __init__(self, broker: Broker, place: str) -> None:
-        self.place, self.orders = place, list[Order]()
+    Its worker has the message anyway.
+    """
+
+    def __init__(self, broker: Broker, location: str) -> None:
+        self.location, self.orders = location, list[Order]()
         app = celery.Celery("late", broker=broker.url)
-        app.conf.sagas_store = place
+        app.conf.sagas_store = location
         queue = sagas.celery.Queue(app, "late", timeout=0.5)
         queue.send = self._lose  # type: ignore[method-assign]
         self.saga = sagas.Saga("late")
@@ -60,48 +63,48 @@ class Late:
 
     @contextlib.asynccontextmanager
     async def held(self) -> AsyncIterator[sagas.Store]:
-        """The store, with the step held for a person."""
-        async with sagas.open(self.place, [self.saga]) as store:
+        """Run the store, with the step held for an operator."""
+        async with sagas.open(self.location, [self.saga]) as store:
             await store.start(self.saga, "k")
-            await until(lambda: asked_of(store), 30)
+            await until(lambda: attempts_to_report(store), 30)
             external = store._coordinator.external
             await until(lambda: not (external._is_looking or external._looks_again))
             yield store
 
     @property
     def words(self) -> dict[str, Any]:
-        """What its worker's transaction reports."""
+        """Return the report of its worker's transaction."""
         order = self.orders[0]
         return {"attempt": order.token, "lease": order.lease, "value": '"by the worker"'}
 
 
 @pytest.fixture
-def late(broker: Broker, place: str, monkeypatch: pytest.MonkeyPatch) -> Late:
-    """Over both databases; the program hears of no report by itself."""
+def late(broker: Broker, location: str, monkeypatch: pytest.MonkeyPatch) -> Late:
+    """Return a late report over each database; the program is not notified of reports."""
     monkeypatch.setattr("sagas.runtime.external_queue.LOOK", 3600.0)
     monkeypatch.setattr("sagas.runtime.external_queue.LOOK_AT_FILE", 3600.0)
-    monkeypatch.setattr("sagas.storage.postgresql.worker_session.NOTIFY_REPORTED", "SELECT 1")
-    return Late(broker, place)
+    monkeypatch.setattr("sagas.storage.postgresql.worker_session.TELL", "SELECT 1")
+    return Late(broker, location)
 
 
 @pytest.mark.parametrize("by", ["program", "command"])
 def test_done_was_reported_before(late: Late, by: str, capsys: pytest.CaptureFixture[str]) -> None:
-    """The operator speaks before the program has heard of the report, which counts all the same."""
+    """The operator reports before the program has read the worker's report, which counts anyway."""
 
     async def main() -> None:
         async with late.held() as store:
-            open_worker_session(late.place).report(
+            open_worker_session(late.location).report(
                 late.orders[0], Outcome(outcomes.SUCCEEDED, '"by the worker"')
             )
             if by == "program":
                 with pytest.raises(sagas.StepNotWaiting, match="its worker has reported"):
                     await store.fail("k", "once", "I gave up")
             else:
-                words = [late.place, "fail", "k", "once", "I gave up"]
-                assert await asyncio.to_thread(store_command.main, words) == 1
-                said = capsys.readouterr().err  # or the program has heard of the report by then
-                words = "its worker has reported success", "k has ended", "a different outcome"
-                assert any(word in said for word in words)
+                arguments = [late.location, "fail", "k", "once", "I gave up"]
+                assert await asyncio.to_thread(store_command.main, arguments) == 1
+                errors = capsys.readouterr().err  # or the program has read the report by then
+                arguments = "its worker has reported success", "k has ended", "a different outcome"
+                assert any(word in errors for word in arguments)
             end = await store.wait("k", 60)
             assert end.ok and end.results == {"once": "by the worker"}
 
@@ -109,12 +112,12 @@ def test_done_was_reported_before(late: Late, by: str, capsys: pytest.CaptureFix
 
 
 def test_a_failure_that_was_reported_before(late: Late) -> None:
-    """What the operator says counts: nothing was done."""
+    """The operator's report counts: the step had no effect."""
 
     async def main() -> None:
         async with late.held() as store:
             report = Outcome(outcomes.FAILED, '{"error": "no", "final": false, "called": true}')
-            open_worker_session(late.place).report(late.orders[0], report)
+            open_worker_session(late.location).report(late.orders[0], report)
             await store.complete("k", "once", "by hand")
             assert (await store.wait("k", 60)).results == {"once": "by hand"}
 
@@ -123,30 +126,32 @@ def test_a_failure_that_was_reported_before(late: Late) -> None:
 
 @pytest.fixture
 def inside(broker: Broker, url: str, monkeypatch: pytest.MonkeyPatch) -> Late:
-    """Over PostgreSQL."""
+    """Return a late report over PostgreSQL."""
     monkeypatch.setattr("sagas.runtime.external_queue.LOOK", 3600.0)
     return Late(broker, url)
 
 
 @pytest.mark.parametrize("commits", [True, False])
 def test_its_transaction_is_open(inside: Late, commits: bool) -> None:
-    """The operator's word waits for the worker's transaction, and counts if that is rolled back."""
+    """The operator's report waits for the worker's transaction, and counts if that is
+    rolled back.
+    """
 
     async def main() -> None:
-        link = await psycopg.AsyncConnection.connect(inside.place)
+        link = await psycopg.AsyncConnection.connect(inside.location)
         async with inside.held() as store, link:
             await link.execute("CREATE TABLE public.book(key text)")
             await link.commit()
             await link.execute("INSERT INTO public.book VALUES ('k')")
             assert await (await link.execute(worker_session.RECORD, inside.words)).fetchall()
-            said = asyncio.create_task(store.fail("k", "once", "I gave up"))
-            await until(lambda: blocked(inside.place) or said.done(), 30)
+            failing = asyncio.create_task(store.fail("k", "once", "I gave up"))
+            await until(lambda: blocked(inside.location) or failing.done(), 30)
             await (link.commit() if commits else link.rollback())
             if commits:
                 with pytest.raises(sagas.StepNotWaiting, match="its worker has reported"):
-                    await said
+                    await failing
             else:
-                await said
+                await failing
             end = await store.wait("k", 60)
             rows = await (await link.execute("SELECT key FROM public.book")).fetchall()
             assert end.ok is commits and rows == [("k",)] * commits
@@ -155,10 +160,10 @@ def test_its_transaction_is_open(inside: Late, commits: bool) -> None:
 
 
 def test_the_operator_was_first(inside: Late) -> None:
-    """What the worker's transaction did is rolled back."""
+    """The worker's transaction is rolled back."""
 
     async def main() -> None:
-        link = await psycopg.AsyncConnection.connect(inside.place)
+        link = await psycopg.AsyncConnection.connect(inside.location)
         async with inside.held() as store, link:
             await store.fail("k", "once", "I gave up")
             assert not (await store.wait("k", 60)).ok
@@ -169,21 +174,21 @@ def test_the_operator_was_first(inside: Late) -> None:
 
 
 def blocked(url: str) -> bool:
-    """Whether somebody waits for a lock."""
+    """Return whether a statement waits for a lock."""
     with psycopg.connect(url) as link:
         return link.execute("SELECT 1 FROM pg_locks WHERE NOT granted").fetchone() is not None
 
 
 def test_a_program_that_comes_back_takes_a_report(late: Late) -> None:
-    """One that came while no program had the store, of a step that waits for a person."""
+    """The report came while no program had the store, of a step that needs an operator."""
 
     async def main() -> None:
         async with late.held():
             pass
-        open_worker_session(late.place).report(
+        open_worker_session(late.location).report(
             late.orders[0], Outcome(outcomes.SUCCEEDED, '"by the worker"')
         )
-        async with sagas.open(late.place, [late.saga]) as store:
+        async with sagas.open(late.location, [late.saga]) as store:
             assert (await store.wait("k", 60)).results == {"once": "by the worker"}
 
     run(main())
@@ -192,19 +197,21 @@ def test_a_program_that_comes_back_takes_a_report(late: Late) -> None:
 def test_a_start_that_is_not_kept(
     broker: Broker, tmp_path: pathlib.Path, caplog: pytest.LogCaptureFixture
 ) -> None:
-    """The disk is full as its saga is to be opened: nothing was ordered, so nothing is forgotten of
-    it, and its log is taken up again as ever."""
+    """The disk is full as its saga is to be opened.
+
+    No message was sent, so none is withdrawn, and its log is recovered as usual.
+    """
     late, before = Late(broker, str(tmp_path / "store.db")), simple(lambda task: 1)
 
     async def main() -> None:
-        async with sagas.open(late.place, [before, late.saga]) as store:
+        async with sagas.open(late.location, [before, late.saga]) as store:
             await ended(store, before, "before")  # there is an engine
             with full():
                 with pytest.raises(sagas.StoreUnavailable):
                     await store.start(late.saga, "k")
             await until(lambda: started(store, late.saga))
             await until(lambda: late.orders)
-            await until(lambda: asked_of(store), 30)
+            await until(lambda: attempts_to_report(store), 30)
             await store.complete("k", "once", "by hand")
             assert (await store.wait("k", 60)).ok
 
@@ -213,7 +220,7 @@ def test_a_start_that_is_not_kept(
 
 
 async def started(store: sagas.Store, kind: sagas.Saga) -> bool:
-    """Whether it could be started by now."""
+    """Return whether it could be started by now."""
     try:
         await store.start(kind, "k")
     except sagas.StoreUnavailable:
@@ -230,27 +237,31 @@ def test_a_message_that_comes_after_its_saga_was_deleted(late: Late) -> None:
         async with late.held() as store:
             await store.complete("k", "once", "by hand")
             assert (await store.wait("k", 60)).ok
-        async with sagas.open(late.place, [late.saga, more]) as store:  # whose shard is another
+        async with sagas.open(
+            late.location, [late.saga, more]
+        ) as store:  # another one has its shard
             await ended(store, more, "more")
-            await until(lambda: rows(late.place, closed), 30)
+            await until(lambda: rows(late.location, closed), 30)
 
     run(main())
-    assert retention.prune(late.place, -3600.0).sagas == 1
+    assert retention.prune(late.location, -3600.0).sagas == 1
     with pytest.raises(sagas.WrongStore, match="saga 'k' .* late: the saga was deleted"):
-        open_worker_session(late.place).begin(late.orders[0])
+        open_worker_session(late.location).begin(late.orders[0])
 
 
 class Here:
-    """A step whose messages come to a worker in this process, in a thread of its own."""
+    """A step whose messages come to a worker in this process, in its own thread."""
 
-    def __init__(self, broker: Broker, place: str, function: Callable[[Task], Any], **words: Any):
-        self.place, self.orders = place, list[Order]()
+    def __init__(
+        self, broker: Broker, location: str, function: Callable[[Task], Any], **options: Any
+    ):
+        self.location, self.orders = location, list[Order]()
         app = celery.Celery("here", broker=broker.url)
-        app.conf.sagas_store = place
+        app.conf.sagas_store = location
         self.queue = sagas.celery.Queue(app, "here", patience=30)
         self.queue.send = self._send  # type: ignore[method-assign]
         self.saga = sagas.Saga("here")
-        self.saga.step(name="once", queue=self.queue, **words)(function)
+        self.saga.step(name="once", queue=self.queue, **options)(function)
         self.task = app.tasks["sagas.here.once.run"]
         self.thread = ThreadPoolExecutor(1)
         self.is_there = True
@@ -261,10 +272,10 @@ class Here:
             await asyncio.wrap_future(self.thread.submit(self.task, order.written()))
 
     def ordered(self) -> dict[str, Any]:
-        """A message that no worker takes while the store is open."""
+        """Return a message that no worker takes while the store is open."""
 
         async def main() -> None:
-            async with sagas.open(self.place, [self.saga], shutdown_timeout=0) as store:
+            async with sagas.open(self.location, [self.saga], shutdown_timeout=0) as store:
                 await store.start(self.saga, "k")
                 await until(lambda: self.orders, 30)
 
@@ -277,12 +288,12 @@ SETTINGS = "SELECT current_setting('search_path'), current_setting('lock_timeout
 
 
 def test_a_function_leaves_no_settings(broker: Broker, url: str) -> None:
-    """What one sets on its connection is not there for the next one of its worker."""
+    """A setting of its connection is reset for the next function of its worker."""
     seen: list[Any] = []
 
     def once(task: Task) -> None:
         if task.key == "0":
-            return  # without a statement there is nothing but its report
+            return  # without a statement only its report is left
         seen.append(task.connection.execute(SETTINGS).fetchone())
         if task.key == "1":
             task.connection.execute("DEALLOCATE ALL")
@@ -303,7 +314,9 @@ def test_a_function_leaves_no_settings(broker: Broker, url: str) -> None:
 
 @pytest.mark.parametrize("in_loop", [False, True])
 def test_a_function_commits_nothing_by_itself(broker: Broker, url: str, in_loop: bool) -> None:
-    """As in a program: psycopg's calls and statements for it raise, and it is no success."""
+    """As in a program: psycopg's calls and statements for it raise, and the attempt does not
+    succeed.
+    """
     seen: list[str] = []
 
     def once(task: Task) -> None:
@@ -331,14 +344,16 @@ def test_a_function_commits_nothing_by_itself(broker: Broker, url: str, in_loop:
 
 
 class Soft:
-    """In place of the pause of a worker that cannot reach the store: Celery raises its soft limit,
-    and the store is back."""
+    """A replacement for the pause of a worker that cannot reach the store.
 
-    def __init__(self, place: str) -> None:
-        self.link = sqlite3.connect(place, isolation_level=None)
+    Celery raises its soft limit, and the store is available again.
+    """
+
+    def __init__(self, location: str) -> None:
+        self.link = sqlite3.connect(location, isolation_level=None)
 
     def lock(self, whom: str) -> None:
-        """For those who write, or also for those who read."""
+        """Lock the store for writers, or also for readers."""
         self.link.execute(f"PRAGMA locking_mode = {'EXCLUSIVE' if whom == 'all' else 'NORMAL'}")
         self.link.execute("BEGIN EXCLUSIVE")
 
@@ -351,7 +366,7 @@ class Soft:
 def test_a_soft_time_limit_while_the_store_is_away(
     broker: Broker, tmp_path: pathlib.Path, monkeypatch: pytest.MonkeyPatch, locked: str
 ) -> None:
-    """What a function returned is reported all the same; one that was not called yet goes back."""
+    """A returned result is reported anyway; a message whose function was not called goes back."""
     path, calls = str(tmp_path / "store.db"), list[str]()
 
     def once(task: Task) -> str:

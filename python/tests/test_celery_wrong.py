@@ -1,4 +1,7 @@
-"""Wrong workers, each found by name: by the judge of the kill tests, or by a look at the broker. Nothing in it is left to chance."""
+"""Mutants of workers, each found by name: by the verifier, or by a look at the broker.
+
+Nothing in these tests is random.
+"""
 
 from __future__ import annotations
 
@@ -27,30 +30,33 @@ SAGAS = 16
 
 @pytest.fixture(scope="module")
 def broker(tmp_path_factory: pytest.TempPathFactory) -> Iterator[Broker]:
-    """A Redis of this process's own."""
+    """Return a Redis of this process's own."""
     with broker_at("redis", tmp_path_factory.mktemp("redis")) as running:
         yield running
 
 
 def test_there_are_enough() -> None:
-    """At least eight."""
+    """At least eight are needed."""
     assert len(NAMES) >= 8
 
 
 @pytest.mark.parametrize("name", [None, *(name for name in NAMES if OF[name].STRIKES == "run")])
 def test_in_a_run(broker: Broker, name: str | None) -> None:
-    """Sagas that nothing strikes; with a right worker nothing is found."""
+    """Sagas run without strikes; with a right worker there is no fault."""
     one = play("none", 1, broker, SAGAS, quiet=0, most=60, wrong=name or "")
     if one.folder is not None:
         shutil.rmtree(one.folder)
-    assert (OF[name].FINDS in one.verdict.names) if name else not one.found, one.found[:5]
+    assert (OF[name].FINDS in one.verdict.names) if name else not one.problems, one.problems[:5]
 
 
 def messages(broker: Broker, shop: Shop) -> int:
-    """The shop's messages that the broker has at this moment, those with a worker too that it has not acknowledged.
+    """Return the shop's messages that the broker has now.
 
-    One that is on its way from a queue to a worker is nowhere, for a moment."""
-    queue = str(shop.words["queue"])
+    They include those that a worker has not acknowledged.
+
+    A message in transit from a queue to a worker is in neither place, for a moment.
+    """
+    queue = str(shop.settings["queue"])
     with redis.Redis(
         unix_socket_path=str(broker.folder / "socket")
     ) as link, link.pipeline() as both:
@@ -69,23 +75,25 @@ def worker(shop: Shop, folder: pathlib.Path, name: str | None) -> Iterator[Progr
 
 @pytest.mark.parametrize("name", [None, *(name for name in NAMES if OF[name].STRIKES == "call")])
 def test_while_the_function_runs(broker: Broker, tmp_path: pathlib.Path, name: str | None) -> None:
-    """The broker still has the message, so that it is another worker's where this one is lost; and Celery's own tools show the attempt by its token."""
+    """The broker still has the message, so that another worker gets it if this one is lost.
+
+    Celery's own tools show the attempt by its token.
+    """
     shop = shop_in(broker, tmp_path)
-    found: set[str] = set()
+    faults: set[str] = set()
 
     async def look() -> None:
         async with shop.open() as store:
             going = await store.start(shop.held, "k")
             await until(lambda: shop.calls("k"), 60)
-            if name:  # the acknowledgement is on its way
+            if name:  # the acknowledgement is in transit
                 await until(lambda: not messages(broker, shop), 30)
             if not messages(broker, shop):
-                found.add("acknowledged-early")
+                faults.add("acknowledged-early")
             if not name:
-                told = await until(
-                    lambda: shop.app.control.inspect().active(), 60
-                )  # asks each second, until a worker answers
-                assert [(task["id"], task["name"]) for task in sum(told.values(), [])] == [
+                # repeats it each second, until a worker answers
+                running_tasks = await until(lambda: shop.app.control.inspect().active(), 60)
+                assert [(task["id"], task["name"]) for task in sum(running_tasks.values(), [])] == [
                     (shop.calls("k")[0]["token"], "sagas.held.once.run")
                 ]
             shop.release()
@@ -93,14 +101,17 @@ def test_while_the_function_runs(broker: Broker, tmp_path: pathlib.Path, name: s
 
     with worker(shop, tmp_path, name):
         run(look())
-    assert found == ({OF[name].FINDS} if name else set())
+    assert faults == ({OF[name].FINDS} if name else set())
 
 
 @pytest.mark.parametrize("name", [name for name in NAMES if OF[name].STRIKES == "store"])
 def test_when_the_store_cannot_be_written(
     broker: Broker, tmp_path: pathlib.Path, name: str
 ) -> None:
-    """For longer than the queue has patience: the broker has the message no more. With a right worker it has (test_celery.py)."""
+    """The store is locked for longer than the queue waits: the broker has the message no more.
+
+    With a right worker it has (test_celery.py).
+    """
     shop = shop_in(broker, tmp_path, patience=0.2)
 
     async def look(started: Program) -> None:

@@ -1,5 +1,7 @@
-"""Inputs and results whose types have changed under open sagas: what a program cannot read it does
-not do, and nothing fails because of that."""
+"""Inputs and results whose types have changed under open sagas.
+
+A program does not execute what it cannot read, and no step fails because of that.
+"""
 
 from __future__ import annotations
 
@@ -23,14 +25,14 @@ from sagas.definition.task import TaskSnapshot
 
 @dataclasses.dataclass
 class Old:
-    """An order as it was."""
+    """An order of the earlier release."""
 
     amount: int
 
 
 @dataclasses.dataclass
 class Wants:
-    """As a program wants it that does not know of old ones."""
+    """The order of a program that does not know earlier orders."""
 
     amount: int
     address: str
@@ -38,27 +40,29 @@ class Wants:
 
 @dataclasses.dataclass
 class Mended:
-    """As it should have been added."""
+    """The order with the field added as it should be."""
 
     amount: int
     address: str = "unknown"
 
 
 class Color(enum.Enum):
-    """As results were."""
+    """A result of the earlier release."""
 
     RED = "red"
 
 
 class Fewer(enum.Enum):
-    """One is gone."""
+    """A result without one field."""
 
     BLUE = "blue"
 
 
 class Shop:
-    """charge, an approval, ship: with what ship, and the refund, read their input as. What each
-    call did is kept."""
+    """A saga of charge, an approval, and ship; with the types that ship and the refund read.
+
+    The class keeps what each call did.
+    """
 
     def __init__(
         self, ship_as: Any, refund_as: Any = None, gives: Any = Color, fails: bool = False
@@ -98,9 +102,9 @@ class Shop:
         return ship
 
 
-async def opened_at(place: str, shop: Shop, *keys: str) -> None:
-    """Sagas that wait to be approved, as a program leaves them that closes."""
-    async with sagas.open(place, [shop.saga]) as store:
+async def opened_at(location: str, shop: Shop, *keys: str) -> None:
+    """Leave sagas that wait for an approval, as a program does that closes."""
+    async with sagas.open(location, [shop.saga]) as store:
         for key in keys:
             await store.start(shop.saga, key, {"amount": 314159})
         await until(
@@ -112,11 +116,11 @@ async def opened_at(place: str, shop: Shop, *keys: str) -> None:
 
 
 async def parked(store: sagas.Store, key: str = "k") -> list[sagas.Attention]:
-    """What needs a person, once the saga waits for another program."""
+    """Return what needs an operator, once the saga waits for another program."""
     await until(lambda: any(one.waits == "cannot_decode" for one in store.active_attempts(key)))
-    while not (found := await store.attention()):  # its row is on its way
+    while not (entries := await store.attention()):  # its row is being written
         await asyncio.sleep(0.005)
-    return found
+    return entries
 
 
 @pytest.mark.parametrize(
@@ -137,18 +141,19 @@ async def parked(store: sagas.Store, key: str = "k") -> list[sagas.Attention]:
     ],
 )
 def test_a_type_that_changed_parks_the_attempt(
-    place: str, change: dict[str, Any], why: str, caplog: pytest.LogCaptureFixture
+    location: str, change: dict[str, Any], why: str, caplog: pytest.LogCaptureFixture
 ) -> None:
-    """It waits, is shown, and goes on in a program that can read it: nothing fails, nothing is
-    compensated, no try is used up."""
+    """It waits, is listed, and continues in a program that can read it: no step fails, none is
+    compensated, no try is used up.
+    """
     new, mended = Shop(**change), Shop(Mended)
-    told: list[sagas.Event] = []
+    events: list[sagas.Event] = []
 
     async def main() -> None:
-        await opened_at(place, Shop(Old), "k")
-        async with sagas.open(place, [new.saga], on_event=told.append) as store:
-            told_of = "this program cannot read 1 open saga"
-            assert told_of in caplog.text and "314159" not in caplog.text
+        await opened_at(location, Shop(Old), "k")
+        async with sagas.open(location, [new.saga], on_event=events.append) as store:
+            warning = "this program cannot read 1 open saga"
+            assert warning in caplog.text and "314159" not in caplog.text
             await store.complete("k", "ok")
             (one,) = await parked(store)
             assert (one.key, one.why, one.step, one.undo, one.detail) == (
@@ -163,9 +168,9 @@ def test_a_type_that_changed_parks_the_attempt(
                 TimeoutError, match="ship waits for a program that can read its stored values"
             ):
                 await store.wait("k", timeout=0.05)
-        async with sagas.open(place, [new.saga]) as store:  # it is so again
+        async with sagas.open(location, [new.saga]) as store:  # it is so again
             assert len(await parked(store)) == 1 and new.calls == []
-        async with sagas.open(place, [mended.saga]) as store:
+        async with sagas.open(location, [mended.saga]) as store:
             assert (
                 (await store.wait("k")).ok
                 and mended.calls == ["ship 314159"]
@@ -174,23 +179,27 @@ def test_a_type_that_changed_parks_the_attempt(
 
     with caplog.at_level(logging.WARNING):
         run(main())
-    assert [one.detail for one in told if one.name == "step_cannot_decode"] == [why]
-    assert not [one for one in told if one.name in ("step_retrying", "step_failed", "plan_adopted")]
+    assert [one.detail for one in events if one.name == "step_cannot_decode"] == [why]
+    assert not [
+        one for one in events if one.name in ("step_retrying", "step_failed", "plan_adopted")
+    ]
 
 
-def test_a_compensation_that_cannot_read_waits(place: str) -> None:
-    """As an action: it has not failed, and the saga ends undone in a program that can read it."""
+def test_a_compensation_that_cannot_read_waits(location: str) -> None:
+    """It waits as an action does: it has not failed, and the saga ends undone in a program that can
+    read it.
+    """
     new, mended = Shop(Old, refund_as=Wants, fails=True), Shop(Old, refund_as=Mended)
 
     async def main() -> None:
-        await opened_at(place, Shop(Old), "k")
-        async with sagas.open(place, [new.saga]) as store:
+        await opened_at(location, Shop(Old), "k")
+        async with sagas.open(location, [new.saga]) as store:
             await store.complete("k", "ok")
             (one,) = await parked(store)
             assert (one.step, one.undo, one.why) == ("charge", True, "cannot_decode")
             assert "the compensation of step 'charge'" in str(one.detail)
             assert new.calls == ["ship 314159", "ship 314159"]
-        async with sagas.open(place, [mended.saga]) as store:
+        async with sagas.open(location, [mended.saga]) as store:
             end = await store.wait("k")
             assert end.states == {"charge": "undone", "ok": "undone", "ship": "failed"}
             assert mended.calls == ["refund 314159"]
@@ -198,16 +207,18 @@ def test_a_compensation_that_cannot_read_waits(place: str) -> None:
     run(main())
 
 
-def test_a_person_may_say_how_it_ended(place: str) -> None:
-    """Where no program will read it any more: `finish`, and the saga goes on by that."""
+def test_a_person_may_say_how_it_ended(location: str) -> None:
+    """If no program will read it any more, `finish` reports its outcome, and the saga continues
+    with that.
+    """
     new = Shop(Wants, refund_as=Old)
 
     async def main() -> None:
-        await opened_at(place, Shop(Old), "k")
-        async with sagas.open(place, [new.saga]) as store:
+        await opened_at(location, Shop(Old), "k")
+        async with sagas.open(location, [new.saga]) as store:
             await store.complete("k", "ok")
             await parked(store)
-            # does not wait for what is parked: nothing begins any more
+            # does not wait for what is parked: nothing starts any more
             assert await store.abort("k")
             await store.fail("k", "ship", "it was never shipped")
             end = await store.wait("k")
@@ -220,7 +231,7 @@ def test_a_person_may_say_how_it_ended(place: str) -> None:
 
 
 def waits(hint: Any, calls: list[str]) -> sagas.Saga:
-    """A wait that says when it is called for its time, and when its function is."""
+    """Return a wait that notes when its time is computed, and when its function is called."""
     saga = sagas.Saga("waits")
 
     def pause(task: Task) -> None:
@@ -236,17 +247,16 @@ def waits(hint: Any, calls: list[str]) -> sagas.Saga:
     return saga
 
 
-def test_a_wait_that_is_over_is_over(place: str) -> None:
-    """A wait whose function cannot read its input is not waited for once more by the next
-    program."""
+def test_a_wait_that_is_over_is_over(location: str) -> None:
+    """A wait whose function cannot read its input is not waited for again by the next program."""
     calls: list[str] = []
     strict, mended = waits(Wants, calls), waits(Mended, calls)
 
     async def main() -> None:
-        async with sagas.open(place, [strict]) as store:
+        async with sagas.open(location, [strict]) as store:
             await store.start(strict, "k", {"amount": 1})
             await parked(store)
-        async with sagas.open(place, [mended]) as store:
+        async with sagas.open(location, [mended]) as store:
             assert (await store.wait("k")).ok
 
     run(main())
@@ -254,8 +264,10 @@ def test_a_wait_that_is_over_is_over(place: str) -> None:
 
 
 def test_another_node_has_it(url: str) -> None:
-    """A log of which this node cannot read something goes to another one that comes, once; where no
-    other can, it is driven here but for that."""
+    """A log with an unreadable value goes once to another node that opens.
+
+    If no other node can read it, this node runs all but that attempt.
+    """
     old, new = Shop(Old), Shop(Wants)
 
     async def main() -> None:
@@ -272,8 +284,8 @@ def test_another_node_has_it(url: str) -> None:
     run(main())
 
 
-def test_two_nodes_of_which_none_can(url: str) -> None:
-    """Each spares it for the other, and one has it in the end: what can be read of it goes on."""
+def test_two_nodes_that_cannot_read_a_value(url: str) -> None:
+    """Each leaves it for the other, and one has it in the end: the readable sagas continue."""
     one, two = Shop(Wants), Shop(Wants)
 
     async def main() -> None:
@@ -282,11 +294,11 @@ def test_two_nodes_of_which_none_can(url: str) -> None:
             url, [two.saga], node="two"
         ):
             await asyncio.wait_for(here.complete("k", "ok"), 60)
-            found: list[sagas.Attention] = []
-            while not found:
-                found = await here.attention()
+            entries: list[sagas.Attention] = []
+            while not entries:
+                entries = await here.attention()
                 await asyncio.sleep(0.05)
-            assert found[0].why == "cannot_decode"
+            assert entries[0].why == "cannot_decode"
             await here.abort("fresh")  # which is undone, since its refund reads nothing
             assert (await here.wait("fresh", timeout=60)).aborted
 
@@ -294,8 +306,9 @@ def test_two_nodes_of_which_none_can(url: str) -> None:
 
 
 def test_a_worker_of_celery_that_cannot_read_its_order() -> None:
-    """It is one of those who do not know, so that it is ordered again, and perhaps of another
-    worker; no try is used up."""
+    """The outcome is unknown there, so that it is sent again, perhaps to another worker; no try is
+    used up.
+    """
     worker = pytest.importorskip("sagas.celery.worker")
 
     def reads(task: sagas.Task[Wants]) -> None:
@@ -306,12 +319,12 @@ def test_a_worker_of_celery_that_cannot_read_its_order() -> None:
         "shop", "k", "ship", False, 1, "log-0", '{"amount":314159}', {}, None, hint
     )
     outcome = worker._call(reads, Manner(reads), sagas.Task(about))
-    said = "saga 'shop', step 'ship': input: missing 'address', which Wants requires"
-    assert (outcome.kind, outcome.value) == ("unknown", said)
+    detail = "saga 'shop', step 'ship': input: missing 'address', which Wants requires"
+    assert (outcome.kind, outcome.value) == ("unknown", detail)
 
 
 def test_a_worker_of_celery_that_reads_the_result_of_a_child() -> None:
-    """What the function of a child step says of its result is the child's input."""
+    """The return type of a child step's function is the type of the child's input."""
     worker = pytest.importorskip("sagas.celery.worker")
     app = pytest.importorskip("celery").Celery("app")
     queue = pytest.importorskip("sagas.celery").Queue(app, "q", store="nowhere.db")
@@ -335,8 +348,9 @@ def test_a_worker_of_celery_that_reads_the_result_of_a_child() -> None:
 
 
 def steps(*names: str, calls: list[str], version: int = 1) -> sagas.Saga:
-    """An approval, and behind it steps in a row, each of which notes that it was called, and by
-    which version."""
+    """Return a saga: an approval, and then steps in a row, each of which notes that it was called,
+    and by which version.
+    """
     saga = sagas.Saga("steps", version=version)
     last = saga.approval(name="ok")(lambda task: None)
     for name in names:
@@ -348,22 +362,23 @@ def steps(*names: str, calls: list[str], version: int = 1) -> sagas.Saga:
     return saga
 
 
-async def left_open(place: str, saga: sagas.Saga) -> None:
-    """A saga that waits to be approved, as a program leaves it."""
-    async with sagas.open(place, [saga]) as store:
+async def left_open(location: str, saga: sagas.Saga) -> None:
+    """Leave a saga that waits for an approval, as a program does."""
+    async with sagas.open(location, [saga]) as store:
         await store.start(saga, "old")
         await until(lambda: any(one.waits == "approval" for one in store.active_attempts("old")))
 
 
-def test_a_step_that_was_added(place: str) -> None:
-    """A saga that is open goes on by the definition that it was begun with, and today's functions;
-    a new one has the step."""
+def test_a_step_that_was_added(location: str) -> None:
+    """An open saga continues by its original definition, and with the current functions; a new one
+    has the step.
+    """
     calls: list[str] = []
     before, after = steps("a", calls=calls), steps("a", "b", calls=calls)
 
     async def main() -> None:
-        await left_open(place, before)
-        async with sagas.open(place, [after]) as store:
+        await left_open(location, before)
+        async with sagas.open(location, [after]) as store:
             await store.complete("old", "ok")
             assert (await store.wait("old", timeout=60)).states == {
                 "ok": "committed",
@@ -380,38 +395,40 @@ def test_a_step_that_was_added(place: str) -> None:
     assert calls == ["a v1", "a v1", "b v1"]
 
 
-def test_a_step_that_is_gone_or_renamed(place: str) -> None:
-    """A file is not opened, and the step is named; over PostgreSQL the log is left, until a node
-    has the step again."""
+def test_a_step_that_is_gone_or_renamed(location: str) -> None:
+    """A file is not opened, and the error names the step; over PostgreSQL the log is left, until a
+    node has the step again.
+    """
     calls: list[str] = []
     before, after = steps("a", "b", calls=calls), steps("a", "c", calls=calls)
 
     async def main() -> None:
-        await left_open(place, before)
-        if place.startswith("postgresql"):
-            async with sagas.open(place, [after]) as store:
+        await left_open(location, before)
+        if location.startswith("postgresql"):
+            async with sagas.open(location, [after]) as store:
                 with pytest.raises(TimeoutError):
                     await store.wait("old", timeout=0.2)
         else:
             with pytest.raises(sagas.MissingStep, match="step 'b' has no function"):
-                async with sagas.open(place, [after]):
+                async with sagas.open(location, [after]):
                     pass
-        async with sagas.open(place, [before]) as store:
+        async with sagas.open(location, [before]) as store:
             await store.complete("old", "ok")
             assert (await store.wait("old", timeout=60)).ok
 
     run(main())
 
 
-def test_both_versions(place: str) -> None:
-    """Sagas of the older version go on by its functions, and those that are started by the newer
-    one's."""
+def test_both_versions(location: str) -> None:
+    """Sagas of the older version continue with its functions, and new ones with those of the newer
+    one.
+    """
     calls: list[str] = []
     one, two = steps("a", calls=calls), steps("b", calls=calls, version=2)
 
     async def main() -> None:
-        await left_open(place, one)
-        async with sagas.open(place, [one, two]) as store:
+        await left_open(location, one)
+        async with sagas.open(location, [one, two]) as store:
             await store.complete("old", "ok")
             assert (await store.wait("old", timeout=60)).ok
             run = await store.start(two, "new")
@@ -425,8 +442,8 @@ def test_both_versions(place: str) -> None:
     assert calls == ["a v1", "b v2"]
 
 
-def test_a_field_that_is_gone_and_a_result_that_has_more(place: str) -> None:
-    """What a type does not name is not read; a field with a default is as by its default."""
+def test_a_field_that_is_gone_and_a_result_that_has_more(location: str) -> None:
+    """A field that a type does not name is not read; a missing field has its default."""
 
     @dataclasses.dataclass
     class Less:
@@ -437,8 +454,8 @@ def test_a_field_that_is_gone_and_a_result_that_has_more(place: str) -> None:
     new.saga.steps[2].run.function.__annotations__["task"] = sagas.Task[Less]
 
     async def main() -> None:
-        await opened_at(place, Shop(Old), "k")
-        async with sagas.open(place, [new.saga]) as store:
+        await opened_at(location, Shop(Old), "k")
+        async with sagas.open(location, [new.saga]) as store:
             await store.complete("k", "ok")
             assert (await store.wait("k", timeout=60)).ok and new.calls == ["ship none"]
 

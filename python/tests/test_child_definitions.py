@@ -1,4 +1,4 @@
-"""Children are undone by the definitions that they ran with, whatever the program declares today."""
+"""Children are undone by the definitions that they ran with, whatever the program declares now."""
 
 from __future__ import annotations
 
@@ -24,13 +24,15 @@ from sagas.server import json_views
 
 
 class World:
-    """A parent with a child, declared anew for each program, and what was done."""
+    """A parent with a child, declared again for each program, and the calls of their functions."""
 
     def __init__(self) -> None:
         self.done = list[str]()
 
     def child(self, *steps: str, version: int = 1, **costs: int) -> sagas.Saga:
-        """One of steps in this order, each of which needs the one before; `x-`: without a compensation."""
+        """Return a child with steps in this order, each of which needs the one before; `x-` has no
+        compensation.
+        """
         saga, before = sagas.Saga("child", version=version), list[Any]()
         for name in steps:
             undo = {"undo": 0} if name.endswith("-") else {}
@@ -41,12 +43,12 @@ class World:
         return saga
 
     def do(self, task: Task) -> str:
-        """What each step does."""
+        """The action of each step."""
         self.done.append(task.step)
         return f"done {task.step}"
 
     def undo(self, task: Task) -> None:
-        """What each compensation does."""
+        """The compensation of each step."""
         assert (
             task.result == f"done {task.step}"
             and task.key.endswith("/:stay")
@@ -55,23 +57,23 @@ class World:
         self.done.append(f"undo {task.step} {' '.join(task.results)}".strip())
 
     def parent(self, child: sagas.Saga, **options: Any) -> list[sagas.Saga]:
-        """One whose child completes, and which a person lets fail."""
+        """Return a parent whose child completes, and which an operator lets fail."""
         parent = sagas.Saga("parent")
         stay = parent.child(child, name="stay", input=lambda task: None, **options)
         signed = parent.approval(name="sign", needs=[stay])(lambda task: None)
         parent.step(name="end", needs=[signed])(lambda task: None)
         return [parent, child]
 
-    async def started(self, place: str, known: list[sagas.Saga], key: str = "t") -> None:
-        """One is started, by a program that ends once the child has completed."""
-        async with sagas.open(place, known) as store:
+    async def started(self, location: str, known: list[sagas.Saga], key: str = "t") -> None:
+        """Start one in a program that ends once the child has completed."""
+        async with sagas.open(location, known) as store:
             await store.start(known[0], key)
             await until(
                 lambda: [one for one in store.active_attempts(key) if one.waits == "approval"]
             )
 
     async def failed(self, store: sagas.Store, key: str = "t") -> dict[str, str]:
-        """The states of its steps once it has ended."""
+        """Return the states of its steps once it has ended."""
         await store.fail(key, "sign", "no")
         return (await store.wait(key, 60)).states
 
@@ -81,25 +83,34 @@ ONES_UNDONE = ["undo y x", "undo x"]
 
 
 @pytest.mark.parametrize("steps, lacks", [(("x2", "y"), "x"), (("x", "y-"), "y")])
-def test_a_compensation_that_is_gone(place: str, steps: tuple[str, ...], lacks: str) -> None:
-    """Its step was renamed or removed, or it alone: no program without it opens the file, and over PostgreSQL no node without it has the shard."""
+def test_a_removed_compensation(location: str, steps: tuple[str, ...], lacks: str) -> None:
+    """Its step was renamed or removed, or only the compensation was.
+
+    No program without it opens the file, and over PostgreSQL no node without it has the shard.
+    """
     world = World()
     old, new = world.parent(world.child("x", "y")), world.parent(world.child(*steps))
-    why = f"saga 'parent' (version 1) has open sagas that may undo a child of saga 'child' (version 1), but step '{lacks}' has no compensation in this program"
+    why = (
+        "saga 'parent' (version 1) has open sagas that may undo a child of saga 'child' (version"
+        f" 1), but step '{lacks}' has no compensation in this program"
+    )
 
     async def main() -> None:
-        await world.started(place, old)
+        await world.started(location, old)
         async with contextlib.AsyncExitStack() as stack:
-            if place.startswith("postgresql"):
-                lacking = await stack.enter_async_context(sagas.open(place, new, node="new"))
-                assert len(lacking._coordinator.store.lease.left) == 1 and not lacking.active_attempts("t")  # type: ignore[attr-defined]
+            if location.startswith("postgresql"):
+                lacking = await stack.enter_async_context(sagas.open(location, new, node="new"))
+                left = lacking._coordinator.store.lease.left  # type: ignore[attr-defined]
+                assert len(left) == 1 and not lacking.active_attempts("t")
             else:
                 with pytest.raises(sagas.MissingStep) as error:
-                    await stack.enter_async_context(sagas.open(place, new))
+                    await stack.enter_async_context(sagas.open(location, new))
                 assert why in str(error.value)
-            async with sagas.open(place, old, node="old") as store:
+            async with sagas.open(location, old, node="old") as store:
                 assert await world.failed(store) == UNDONE
-        async with sagas.open(place, new, node="new") as store:  # nothing is to be undone any more
+        async with sagas.open(
+            location, new, node="new"
+        ) as store:  # nothing is to be undone any more
             assert await store.count() == 3 and await store.attention() == []
 
     run(main())
@@ -107,14 +118,16 @@ def test_a_compensation_that_is_gone(place: str, steps: tuple[str, ...], lacks: 
 
 
 @pytest.mark.parametrize("steps", [("x", "y", "z"), ("y", "x"), ("z", "y", "x")])
-def test_other_steps_and_another_order(place: str, steps: tuple[str, ...]) -> None:
-    """What never ran is not undone; the rest in the order in which it ran, with the results that it had."""
+def test_other_steps_and_another_order(location: str, steps: tuple[str, ...]) -> None:
+    """A step that never ran is not undone; the others are, in the order in which they ran, with
+    their results.
+    """
     world = World()
     old, new = world.parent(world.child("x", "y")), world.parent(world.child(*steps))
 
     async def main() -> None:
-        await world.started(place, old)
-        async with sagas.open(place, new) as store:
+        await world.started(location, old)
+        async with sagas.open(location, new) as store:
             assert await world.failed(store) == UNDONE
             end = await store.wait("t/:stay:undo", 60)
             assert end.states == {"y": "committed", "x": "committed"}
@@ -123,8 +136,10 @@ def test_other_steps_and_another_order(place: str, steps: tuple[str, ...]) -> No
     assert world.done == ["x", "y", *ONES_UNDONE]
 
 
-def test_the_program_changes_while_a_child_is_undone(place: str) -> None:
-    """What undoes it goes on by its own definition. It needs what that has."""
+def test_the_program_changes_while_a_child_is_undone(location: str) -> None:
+    """The saga that undoes it continues by its own definition, and needs the functions of that
+    definition.
+    """
     world, broken = World(), [True]
 
     def undo(task: Task) -> None:
@@ -138,21 +153,21 @@ def test_the_program_changes_while_a_child_is_undone(place: str) -> None:
     )
 
     async def main() -> None:
-        await world.started(place, old)
-        async with sagas.open(place, new) as store:
+        await world.started(location, old)
+        async with sagas.open(location, new) as store:
             await store.fail("t", "sign", "no")
             await until(
                 lambda: [
                     one for one in store.active_attempts("t/:stay:undo") if one.waits == "exhausted"
                 ]
             )
-        if not place.startswith("postgresql"):
+        if not location.startswith("postgresql"):
             with pytest.raises(
                 sagas.MissingStep, match="but step 'x' has no compensation in this program"
             ):
-                await sagas.open(place, less).__aenter__()
+                await sagas.open(location, less).__aenter__()
         broken[0] = False
-        async with sagas.open(place, new) as store:
+        async with sagas.open(location, new) as store:
             await store.retry("t/:stay:undo", "x")
             assert (await store.wait("t", 60)).states == UNDONE
 
@@ -160,13 +175,15 @@ def test_the_program_changes_while_a_child_is_undone(place: str) -> None:
     assert world.done == ["x", "y", *ONES_UNDONE]
 
 
-def test_who_may_undo_a_child(tmp_path: pathlib.Path) -> None:
-    """A parent that never undoes it, or by its own function, needs none of its compensations; nor does one whose version the program has twice."""
-    place, new = str(tmp_path / "store.db"), World()
+def test_functions_that_undo_a_child(tmp_path: pathlib.Path) -> None:
+    """A parent that never undoes it, or does so by its own function, needs none of its
+    compensations. Nor does one whose version the program has twice.
+    """
+    location, new = str(tmp_path / "store.db"), World()
 
     async def main() -> None:
         for number, options in enumerate(({"undo": sagas.NEVER}, {}, {"undo": 3})):
-            world, at = World(), f"{place}.{number}"
+            world, at = World(), f"{location}.{number}"
             own, now = world.parent(world.child("x"), **options), new.parent(
                 new.child("x2"), **options
             )
@@ -185,9 +202,8 @@ def test_who_may_undo_a_child(tmp_path: pathlib.Path) -> None:
                 with pytest.raises(sagas.MissingStep):
                     await sagas.open(at, now).__aenter__()
                 second = new.child("x2", version=2)
-                async with sagas.open(
-                    at, [*new.parent(second), own[1]]
-                ) as store:  # the parent starts version 2 from now on
+                # the parent starts version 2 from now on
+                async with sagas.open(at, [*new.parent(second), own[1]]) as store:
                     assert (await new.failed(store))["stay"] == "undone"
                 assert world.done == ["x", "undo x"]
 
@@ -195,7 +211,7 @@ def test_who_may_undo_a_child(tmp_path: pathlib.Path) -> None:
 
 
 def family(world: World, leaf: str) -> list[sagas.Saga]:
-    """A parent whose child has a child of one step."""
+    """Return a parent whose child has a child of one step."""
     below = sagas.Saga("below")
     below.step(lambda task: world.done.append(task.key), name=leaf, keep=9).compensation(
         lambda task: world.done.append(f"undo {task.key}")
@@ -205,16 +221,19 @@ def family(world: World, leaf: str) -> list[sagas.Saga]:
     return [*world.parent(child), below]
 
 
-def test_a_child_of_a_child(place: str, capsys: pytest.CaptureFixture[str]) -> None:
-    """It is looked for at the opening, too, and undone by its own definition. Operators see how many there are."""
-    world, shell = World(), Shell(place, capsys)
+def test_a_child_of_a_child(location: str, capsys: pytest.CaptureFixture[str]) -> None:
+    """The opening checks it, too, and it is undone by its own definition.
+
+    Operators see how many there are.
+    """
+    world, shell = World(), Shell(location, capsys)
     old, new, more = family(world, "x"), family(world, "x2"), family(world, "x")
     more[2].step(lambda task: None, name="z", keep=1).compensation(
         lambda task: world.done.append("undo z")
     )
 
     async def main() -> None:
-        await world.started(place, old)
+        await world.started(location, old)
         counts = [
             row.split() for row in (await asyncio.to_thread(shell, "definitions")).splitlines()
         ]
@@ -224,13 +243,16 @@ def test_a_child_of_a_child(place: str, capsys: pytest.CaptureFixture[str]) -> N
             ["child", "1", "0", "1", "1"],
             ["parent", "1", "1", "0", "1"],
         ]
-        if not place.startswith("postgresql"):
+        if not location.startswith("postgresql"):
             with pytest.raises(
                 sagas.MissingStep,
-                match="open sagas may undo a child of saga 'below' .version 1., but step 'x' has no comp",
+                match=(
+                    "open sagas may undo a child of saga 'below' .version 1., but step 'x' has no"
+                    " comp"
+                ),
             ):
-                await sagas.open(place, new).__aenter__()
-        async with sagas.open(place, more) as store:
+                await sagas.open(location, new).__aenter__()
+        async with sagas.open(location, more) as store:
             assert await world.failed(store) == UNDONE
             assert sum(one.undoable for one in await store.definitions()) == 0
 
@@ -238,15 +260,17 @@ def test_a_child_of_a_child(place: str, capsys: pytest.CaptureFixture[str]) -> N
     assert world.done == ["t/:stay/:below", "undo t/:stay/:below"]
 
 
-def test_the_definitions_of_an_open_store_are_those_of_another(place: str) -> None:
-    """Without what undoes their children, which the other store makes itself."""
+def test_the_definitions_of_an_open_store_are_those_of_another(location: str) -> None:
+    """They exclude the sagas that undo their children, which the other store makes itself."""
     known = family(World(), "x")
-    store = sagas.open(place, known)
+    store = sagas.open(location, known)
     assert store.sagas == known and len(DefinitionRegistry(store.sagas).sagas) == 5
 
 
 def test_a_node_that_cannot_undo_a_child_leaves_it(url: str) -> None:
-    """The child was done by another node after this one has taken the parent: it waits for a program that can, and that node gets it."""
+    """Another node did the child after this one took over the parent: the undo waits for a program
+    that can do it, and that node gets it.
+    """
     world, gate = World(), asyncio.Event()
     old, new = world.child("x"), world.child("x2")
 
@@ -262,8 +286,8 @@ def test_a_node_that_cannot_undo_a_child_leaves_it(url: str) -> None:
         return [saga, child]
 
     async def main() -> None:
-        known, told = parent(new), list[sagas.Event]()
-        async with sagas.open(url, known, node="new", on_event=told.append) as one:
+        known, events = parent(new), list[sagas.Event]()
+        async with sagas.open(url, known, node="new", on_event=events.append) as one:
             started = await one.start(known[0], "t")
             (listed,) = await one.list()
             async with sagas.open(url, parent(old), node="old") as two:
@@ -283,7 +307,7 @@ def test_a_node_that_cannot_undo_a_child_leaves_it(url: str) -> None:
             )
             async with sagas.open(url, parent(old), node="old"):
                 assert (await started.wait(60)).states["stay"] == "undone"
-        assert [one.name for one in told if one.name == "step_cannot_decode"]
+        assert [one.name for one in events if one.name == "step_cannot_decode"]
 
     run(main())
     assert world.done == ["x", "undo x"]
@@ -292,8 +316,10 @@ def test_a_node_that_cannot_undo_a_child_leaves_it(url: str) -> None:
 # -- what a definition says
 
 
-def test_a_compensation_is_in_the_definition(place: str) -> None:
-    """So its removal is seen also where a step has nothing to undo now; a definition of an older release does not say it."""
+def test_a_compensation_is_in_the_definition(location: str) -> None:
+    """So its removal is noticed even if a step has nothing to undo now; a definition of an older
+    release does not have it.
+    """
     had, has = World().child("x"), World().child("x-")
     assert (
         "\n# compensated\n" in had.toml()
@@ -324,29 +350,34 @@ def test_a_compensation_is_in_the_definition(place: str) -> None:
     saga.steps[0].compensation(lambda task: None)
 
     async def main() -> None:
-        async with sagas.open(place, [saga]) as store:
+        async with sagas.open(location, [saga]) as store:
             await store.start(saga, "t")
             await until(
                 lambda: [one for one in store.active_attempts("t") if one.waits == "approval"]
             )
-        if not place.startswith("postgresql"):
+        if not location.startswith("postgresql"):
             with pytest.raises(
                 sagas.MissingStep,
                 match="saga 'plain' .version 1. has open sagas, but step 'x' has no compensation",
             ):
-                await sagas.open(place, [plain]).__aenter__()
+                await sagas.open(location, [plain]).__aenter__()
 
     run(main())
 
 
 def test_definitions_that_undo_children() -> None:
-    """Their text says which child they undo, and what each compensation may read; one of an older release has neither."""
+    """Their text names the child that they undo, and the results that each compensation may read; a
+    text of an older release has neither.
+    """
     world = World()
     child = world.child("x", "y", "z-", version=3)
     saga = undo_sagas.undo_saga(child)
-    assert saga and saga.toml() == (
-        '# version 3\n# undoes child\nformat = 2\nname = "child-undo"\n\n[[step]]\nname = "y"\n# sees x\nundo = "never"\nskip = 9\n'
-        '\n[[step]]\nname = "x"\n# sees\nneeds = ["y"]\nundo = "never"\nskip = 9\n'
+    assert (
+        saga
+        and saga.toml()
+        == '# version 3\n# undoes child\nformat = 2\nname = "child-undo"\n\n[[step]]\nname = "y"\n#'
+        ' sees x\nundo = "never"\nskip = 9\n\n[[step]]\nname = "x"\n# sees\nneeds = ["y"]\nundo'
+        ' = "never"\nskip = 9\n'
     )
     steps = undo_text.read(saga.toml())
     assert (
@@ -379,8 +410,8 @@ def test_definitions_that_undo_children() -> None:
     ]
 
 
-def test_a_child_of_which_nothing_can_be_undone(caplog: pytest.LogCaptureFixture) -> None:
-    """A number as `undo` is then not meant."""
+def test_a_child_without_compensations(caplog: pytest.LogCaptureFixture) -> None:
+    """A number as `undo` is then probably a mistake."""
     child = World().child("x")
     child.step(name="held", needs=["x"])(lambda task: None)
     (warning,) = World().parent(child, undo=1, keep=9)[0].warnings()
@@ -399,24 +430,24 @@ def test_a_child_of_which_nothing_can_be_undone(caplog: pytest.LogCaptureFixture
 
 
 def leaf() -> list[sagas.Saga]:
-    """A parent whose child is done by workers, and undone by them."""
+    """Return a parent whose child is done and undone by workers."""
     child = sagas.Saga("leaf")
     plan = child.step(lambda task: {"rooms": 2}, name="plan", undo=0)
     child.step(external=True, name="room", needs=[plan], keep=9, undo=0).compensation(external=True)
     return World().parent(child)
 
 
-def opened(place: str, node: str, **words: Any) -> sagas.Store:
-    """A store that serves workers."""
+def opened(location: str, node: str, **options: Any) -> sagas.Store:
+    """Open a store that serves workers."""
     store = sagas.open(
-        place, leaf(), node=node if place.startswith("postgresql") else None, **words
+        location, leaf(), node=node if location.startswith("postgresql") else None, **options
     )
     store.leased = True
     return store
 
 
 class Backwards:
-    """A codec that nobody needs a key for."""
+    """A codec without a key."""
 
     def encode(self, data: bytes) -> bytes:
         return data[::-1]
@@ -426,18 +457,20 @@ class Backwards:
 
 
 def test_workers_undo_a_child(
-    place: str, capsys: pytest.CaptureFixture[str], monkeypatch: pytest.MonkeyPatch
+    location: str, capsys: pytest.CaptureFixture[str], monkeypatch: pytest.MonkeyPatch
 ) -> None:
-    """The worker of the child's step is handed its compensation, as of the child, also by another node; until one claims it, that is listed."""
+    """The worker of the child's step gets its compensation, as of the child, also by another node;
+    until a worker claims it, it is listed.
+    """
     monkeypatch.setattr(backlog, "UNCLAIMED", -1.0)
-    shell, codec = Shell(place, capsys), Backwards()
+    shell, codec = Shell(location, capsys), Backwards()
 
     async def main() -> None:
         async with contextlib.AsyncExitStack() as stack:
-            one = await stack.enter_async_context(opened(place, "one", codec=codec))
+            one = await stack.enter_async_context(opened(location, "one", codec=codec))
             other = (
-                await stack.enter_async_context(opened(place, "other", codec=codec))
-                if place.startswith("postgresql")
+                await stack.enter_async_context(opened(location, "other", codec=codec))
+                if location.startswith("postgresql")
                 else one
             )
             started = await one.start(one.sagas[0], "t")
@@ -457,30 +490,39 @@ def test_workers_undo_a_child(
                 and "child" in listed["t"]
             )
             (undo,) = await other.workers.claim([("leaf", "room", "undo")], wait=60, lease=60)
-            found = undo.task
-            assert (found.saga, found.key, found.step, found.is_compensation, found.attempt) == (
+            leased = undo.task
+            assert (
+                leased.saga,
+                leased.key,
+                leased.step,
+                leased.is_compensation,
+                leased.attempt,
+            ) == (
                 "leaf",
                 "t/:stay",
                 "room",
                 True,
                 1,
             )
-            assert (found.result, found.results, found.input) == (
+            assert (leased.result, leased.results, leased.input) == (
                 "R-7",
                 {"plan": {"rooms": 2}},
                 None,
             )
-            assert found.original_idempotency_key == task.task.idempotency_key
-            assert found.idempotency_key == task.task.idempotency_key.replace("-run", "-undo")
-            told = worker_task.task_of(
-                json_views.task(undo, one.now()), Context()
-            )  # as a `Worker` gets it
-            assert worker_task.word_of(told) == "leaf/room/undo" and (told.result, told.key) == (
-                found.result,
-                found.key,
+            assert leased.original_idempotency_key == task.task.idempotency_key
+            assert leased.idempotency_key == task.task.idempotency_key.replace("-run", "-undo")
+            # as a `Worker` gets it
+            received = worker_task.task_of(json_views.task(undo, one.now()), Context())
+            assert worker_task.word_of(received) == "leaf/room/undo" and (
+                received.result,
+                received.key,
+            ) == (
+                leased.result,
+                leased.key,
             )
             assert (
-                told.idempotency_key == found.idempotency_key and told.attempt_id != undo.attempt_id
+                received.idempotency_key == leased.idempotency_key
+                and received.attempt_id != undo.attempt_id
             )
             await other.workers.report(undo.attempt_id, undo.lease, result=None)
             assert (await started.wait(60)).states == UNDONE
@@ -490,19 +532,22 @@ def test_workers_undo_a_child(
 
 
 def test_a_task_that_an_older_release_offered(tmp_path: pathlib.Path) -> None:
-    """It was offered under a name that no worker asks for: it is offered again."""
-    place = str(tmp_path / "store.db")
+    """It was offered under a name that no worker claims: it is offered again."""
+    location = str(tmp_path / "store.db")
 
     async def main() -> None:
-        async with opened(place, "") as store:
+        async with opened(location, "") as store:
             await store.start(store.sagas[0], "t")
             (task,) = await store.workers.claim([("leaf", "room", "run")], wait=60, lease=60)
             await store.workers.report(task.attempt_id, task.lease, result="R-7")
             await until(lambda: [a for a in store.active_attempts("t") if a.waits == "approval"])
             await store.fail("t", "sign", "no")
             await until(store.workers.queues)
-            store._coordinator.store._writer._db.execute("UPDATE external_attempts SET task = 'leaf-undo/room/run' WHERE outcome IS NULL")  # type: ignore[attr-defined]
-        async with opened(place, "") as store:
+            database = store._coordinator.store._writer._db  # type: ignore[attr-defined]
+            database.execute(
+                "UPDATE external_attempts SET task = 'leaf-undo/room/run' WHERE outcome IS NULL"
+            )
+        async with opened(location, "") as store:
             (undo,) = await store.workers.claim([("leaf", "room", "undo")], wait=60, lease=60)
             await store.workers.report(undo.attempt_id, undo.lease, result=None)
             assert (await store.wait("t", 60)).states == UNDONE
@@ -512,8 +557,10 @@ def test_a_task_that_an_older_release_offered(tmp_path: pathlib.Path) -> None:
 
 @pytest.mark.parametrize("is_aborted", [False, True])
 def test_children_of_an_earlier_release(tmp_path: pathlib.Path, is_aborted: bool) -> None:
-    """A child that is under way, with its own child, and a saga that undoes one: they keep their keys, and no other is started."""
-    place, calls = str(tmp_path / "store.db"), list[str]()
+    """A child in progress, with its own child, and a saga that undoes one keep their keys, and no
+    other is started.
+    """
+    location, calls = str(tmp_path / "store.db"), list[str]()
     leaf, middle, top = sagas.Saga("leaf"), sagas.Saga("middle"), sagas.Saga("top")
     room = leaf.step(name="room", keep=9)(lambda task: calls.append("room"))
     room.compensation(on_exhausted="ask", external=True)
@@ -524,7 +571,7 @@ def test_children_of_an_earlier_release(tmp_path: pathlib.Path, is_aborted: bool
     known = [top, middle, leaf]
 
     async def main() -> None:
-        async with sagas.open(place, known) as store:
+        async with sagas.open(location, known) as store:
             await store.start(top, "t")
             await store.start(middle, "u")
             for key in ("u/:stay", "t/:trip/:stay"):
@@ -538,10 +585,10 @@ def test_children_of_an_earlier_release(tmp_path: pathlib.Path, is_aborted: bool
             )
             await store.fail("u", end.name, "no")
             await until(lambda: store.active_attempts("u/:stay:undo"))
-        with contextlib.closing(sqlite3.connect(place)) as link, link:
+        with contextlib.closing(sqlite3.connect(location)) as link, link:
             link.execute("UPDATE sagas SET key = replace(key, '/:', '/')")
             link.execute("UPDATE attempts SET value = replace(value, '/:', '/')")
-        store = sagas.open(place, known)
+        store = sagas.open(location, known)
         store.leased = True
         async with store:
             if is_aborted:
@@ -571,8 +618,8 @@ def test_children_of_an_earlier_release(tmp_path: pathlib.Path, is_aborted: bool
 # -- many children, and children that do not complete
 
 
-def test_children_of_items(place: str) -> None:
-    """Each item has a child of its own, which is undone with its own key and input."""
+def test_children_of_items(location: str) -> None:
+    """Each item has its own child, which is undone with its own key and input."""
     world, group, top = World(), sagas.Saga("group"), sagas.Saga("top")
     child = sagas.Saga("child")
     child.step(lambda task: task.input, name="x", keep=9).compensation(
@@ -590,7 +637,7 @@ def test_children_of_items(place: str) -> None:
         raise sagas.Fail("no")
 
     async def main() -> None:
-        async with sagas.open(place, [top, group, child]) as store:
+        async with sagas.open(location, [top, group, child]) as store:
             states = (await (await store.start(top, "t", {"items": [5, 7]})).wait(60)).states
             assert states == {"trip-0-stay": "undone", "trip-1-stay": "undone", "end": "failed"}
 
@@ -598,7 +645,7 @@ def test_children_of_items(place: str) -> None:
     assert sorted(world.done) == ["t/:trip-0-stay 5", "t/:trip-1-stay 7"]
 
 
-def test_a_child_with_items(place: str) -> None:
+def test_a_child_with_items(location: str) -> None:
     """No saga undoes it, so the parent's own function does."""
     world, child = World(), sagas.Saga("child")
     child.step(lambda task: task.item, name="x", for_each="items", undo=0)
@@ -606,22 +653,24 @@ def test_a_child_with_items(place: str) -> None:
         sagas.DefinitionError,
         match="its steps come from its input, so its costs as a child are not known",
     ):
-        sagas.open(place, world.parent(child))
+        sagas.open(location, world.parent(child))
     known = world.parent(child, keep=9, undo=1)
     known[0].steps[0].run.function = lambda task: {"items": [5, 7]}
     known[0].steps[0].compensation(lambda task: world.done.append(task.result["results"]))
 
     async def main() -> None:
-        await world.started(place, known)
-        async with sagas.open(place, known) as store:
+        await world.started(location, known)
+        async with sagas.open(location, known) as store:
             assert await world.failed(store) == UNDONE
 
     run(main())
     assert world.done == [{"x-0": 5, "x-1": 7}]
 
 
-def test_the_second_child_is_undone(place: str) -> None:
-    """Of children of which only the last one completed that one is undone, by its own definition; one that is stuck is resolved before."""
+def test_the_second_child_is_undone(location: str) -> None:
+    """If only the last one completed, that one is undone, by its own definition; a stuck one is
+    resolved before.
+    """
     world = World()
 
     def known(*steps: str) -> list[sagas.Saga]:
@@ -635,11 +684,11 @@ def test_the_second_child_is_undone(place: str) -> None:
         child.steps[0].run.function = lambda task: do(task)
         return world.parent(child, on_exhausted="ask", keep=9, undo=0)
 
-    world.undo = lambda task: world.done.append(f"undo {task.step} of {task.key}")  # type: ignore[method-assign]
+    setattr(world, "undo", lambda task: world.done.append(f"undo {task.step} of {task.key}"))
     old, new = known("x"), known("x", "z")
 
     async def main() -> None:
-        async with sagas.open(place, old) as store:
+        async with sagas.open(location, old) as store:
             await store.start(old[0], "t")
             await until(lambda: store.get("t/:stay"))
             assert (await store.wait("t/:stay", 60)).phase == "stuck" and len(
@@ -653,10 +702,10 @@ def test_the_second_child_is_undone(place: str) -> None:
             await until(
                 lambda: [one for one in store.active_attempts("t") if one.waits == "approval"]
             )
-        if not place.startswith("postgresql"):
+        if not location.startswith("postgresql"):
             with pytest.raises(sagas.MissingStep, match="step 'x' has no compensation"):
-                await sagas.open(place, known("x2")).__aenter__()
-        async with sagas.open(place, new) as store:
+                await sagas.open(location, known("x2")).__aenter__()
+        async with sagas.open(location, new) as store:
             assert await world.failed(store) == UNDONE
 
     run(main())

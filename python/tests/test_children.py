@@ -1,4 +1,6 @@
-"""Child sagas: started once each, aborted with their parents, and undone by their own compensations."""
+"""Child sagas: started once each, aborted with their parents, and undone by their own
+compensations.
+"""
 
 from __future__ import annotations
 
@@ -27,7 +29,7 @@ from sagas.storage.filters import NOTHING, Filter, Scope
 
 
 class Trip:
-    """A trip with a hotel, and what was done."""
+    """A trip with a hotel, and the calls of its functions."""
 
     def __init__(self) -> None:
         self.done = list[str]()
@@ -68,17 +70,17 @@ class Trip:
 
         @trip.step(needs=[stay])
         def tour(task: Task) -> Any:
-            told = task.result_of(stay)
+            result = task.result_of(stay)
             if task.input["days"] > 5:
                 raise sagas.Fail("sold out")
-            return told
+            return result
 
-    def open(self, place: str, **words: Any) -> sagas.Store:
-        return sagas.open(place, [self.trip, self.hotel], **words)
+    def open(self, location: str, **options: Any) -> sagas.Store:
+        return sagas.open(location, [self.trip, self.hotel], **options)
 
 
 class Backwards:
-    """A codec that nobody needs a key for."""
+    """A codec without a key."""
 
     def encode(self, data: bytes) -> bytes:
         return data[::-1]
@@ -90,32 +92,35 @@ class Backwards:
 CODEC, APP = Backwards(), ("--app", "test_children:CODEC")
 
 
-def test_a_child_completes(place: str) -> None:
+def test_a_child_completes(location: str) -> None:
     """Its results are the step's result."""
     world = Trip()
 
     async def main() -> None:
-        async with world.open(place) as store:
+        async with world.open(location) as store:
             end = await (await store.start(world.trip, "t", {"days": 4})).wait(60)
             assert end.ok
-            told = {
+            child_results = {
                 "key": "t/:stay",
                 "phase": "completed",
                 "results": {"room": {"nights": 3}, "breakfast": 3},
             }
-            assert end.results == {"flight": 4, "stay": told, "tour": told}
+            assert end.results == {"flight": 4, "stay": child_results, "tour": child_results}
             assert (await store.wait("t/:stay", 60)).ok
 
     run(main())
     assert world.done == ["room t/:stay"]
 
 
-def test_a_completed_child_is_undone(place: str, capsys: pytest.CaptureFixture[str]) -> None:
-    """By its own compensations, in their order, also with a codec. The command and the API show who started whom."""
-    world, shell = Trip(), Shell(place, capsys)
+def test_a_completed_child_is_undone(location: str, capsys: pytest.CaptureFixture[str]) -> None:
+    """Its own compensations undo it, in their order, also with a codec.
+
+    The command and the API show the parent and the child.
+    """
+    world, shell = Trip(), Shell(location, capsys)
 
     async def main() -> None:
-        async with world.open(place, codec=Backwards()) as store:
+        async with world.open(location, codec=Backwards()) as store:
             end = await (await store.start(world.trip, "t", {"days": 6})).wait(60)
             assert end.states == {"flight": "undone", "stay": "undone", "tour": "failed"}
             assert (await store.wait("t/:stay:undo", 60)).ok
@@ -129,20 +134,22 @@ def test_a_completed_child_is_undone(place: str, capsys: pytest.CaptureFixture[s
         "\nparent   t\n" in shell("show", "t/:stay:undo", *APP)
         and shell.json("show", "t/:stay", *APP)["parent"] == "t"
     )
-    with Snapshot(place) as store:
+    with Snapshot(location) as store:
         for keys, count in ({"t"}, 3), ({"t*"}, 3), ({"t/*"}, 0), ({"T*", "s"}, 0), ({"x", "t"}, 3):
             scope = Scope(keys=frozenset(keys))
             assert store.ask(lists.count(Filter(scope=scope))) == count
             held = [key for key in ("t", "t/:stay", "t/:stay:undo") if scope.has_key(key)]
             assert len(held) == count
         views = [store.saga(key) for key in ("t", "t/:stay")]
-    told = [json_views.saga(view) for view in views]
-    assert [(one["step"], one["definition"]) for one in told[0]["children"]] == [
+    answers = [json_views.saga(view) for view in views]
+    assert [(one["step"], one["definition"]) for one in answers[0]["children"]] == [
         ("stay", "hotel"),
         ("stay:undo", "hotel-undo"),
     ]
     assert (
-        told[0]["parent"] is None and told[1]["parent"]["key"] == "t" and told[1]["children"] == []
+        answers[0]["parent"] is None
+        and answers[1]["parent"]["key"] == "t"
+        and answers[1]["children"] == []
     )
     seen = families.seen_by(views[0], Scope(frozenset({"hotel"})))
     assert [one.key for one in seen.children] == ["t/:stay", "t/:stay:undo"]
@@ -152,12 +159,12 @@ def test_a_completed_child_is_undone(place: str, capsys: pytest.CaptureFixture[s
     )
 
 
-def test_a_child_fails(place: str) -> None:
-    """So the step fails, and says why."""
+def test_a_child_fails(location: str) -> None:
+    """Then the step fails, with the reason."""
     world = Trip()
 
     async def main() -> None:
-        async with world.open(place) as store:
+        async with world.open(location) as store:
             end = await (await store.start(world.trip, "t", {"days": 10})).wait(60)
             assert end.states == {"flight": "undone", "stay": "failed", "tour": "waiting"}
             assert "'t/:stay' has not completed: recovered" in end.errors["stay"]
@@ -167,7 +174,7 @@ def test_a_child_fails(place: str) -> None:
 
 
 class Slow:
-    """A child that waits for a person, beside a step that may fail, and below a grandchild."""
+    """A child that waits for an operator, next to a step that may fail, and below a grandchild."""
 
     def __init__(self, **costs: int) -> None:
         self.done = list[str]()
@@ -195,9 +202,9 @@ class Slow:
         self.top.step(external=True, name="beside")
         self.all = [self.top, self.child, self.sub]
 
-    async def started(self, store: sagas.Store, **words: Any) -> sagas.Run:
-        """One whose child waits for its approval."""
-        found = await store.start(self.top, "t", **words)
+    async def started(self, store: sagas.Store, **options: Any) -> sagas.Run:
+        """Start one whose child waits for its approval."""
+        run = await store.start(self.top, "t", **options)
 
         async def asks() -> bool:
             return bool(
@@ -209,15 +216,15 @@ class Slow:
             "stay waits for the end of its child saga",
             "beside waits for an external worker",
         ]
-        return found
+        return run
 
 
-def test_an_abort_goes_down(place: str, capsys: pytest.CaptureFixture[str]) -> None:
-    """The child is aborted, and undoes what its own child did, before the parent ends."""
-    world, shell = Slow(), Shell(place, capsys)
+def test_an_abort_goes_down(location: str, capsys: pytest.CaptureFixture[str]) -> None:
+    """The child is aborted, and undoes its own child, before the parent ends."""
+    world, shell = Slow(), Shell(location, capsys)
 
     async def main() -> None:
-        async with sagas.open(place, world.all, concurrency=1) as store:
+        async with sagas.open(location, world.all, concurrency=1) as store:
             top = await world.started(store, labels={"customer": "7"}, deadline=3600)
             waits = {
                 line.split()[0]: line
@@ -239,12 +246,12 @@ def test_an_abort_goes_down(place: str, capsys: pytest.CaptureFixture[str]) -> N
 
 
 @pytest.mark.parametrize("stays", [True, False])
-def test_a_plan_that_drops_the_child(place: str, stays: bool) -> None:
-    """If a step fails, the child goes on where the plan would keep it; else it is aborted."""
+def test_a_plan_that_drops_the_child(location: str, stays: bool) -> None:
+    """If a step fails, the child continues if the plan would keep it; else it is aborted."""
     world = Slow(undo=3, keep=0) if stays else Slow()
 
     async def main() -> None:
-        async with sagas.open(place, world.all) as store:
+        async with sagas.open(location, world.all) as store:
             top = await world.started(store)
             await store.fail("t", "beside", "sold out")
             if stays:
@@ -257,8 +264,8 @@ def test_a_plan_that_drops_the_child(place: str, stays: bool) -> None:
     assert len(world.done) != stays
 
 
-def test_another_child_behind_one_that_failed(place: str) -> None:
-    """If a person wants that; its key says so. A child that is stuck is resolved first."""
+def test_another_child_after_a_failed_one(location: str) -> None:
+    """An operator may request that; its key shows it. A stuck child is resolved first."""
     failing, calls = sagas.Saga("failing"), list[str]()
 
     @failing.step(skip=sagas.NEVER)
@@ -271,8 +278,8 @@ def test_another_child_behind_one_that_failed(place: str) -> None:
     top.child(failing, input=lambda task: None, on_exhausted="ask", keep=9)
 
     async def main() -> None:
-        async with sagas.open(place, [top, failing]) as store:
-            found = await store.start(top, "t")
+        async with sagas.open(location, [top, failing]) as store:
+            started = await store.start(top, "t")
             for key in ("t/:failing", "t/:failing/2"):
                 assert (await until(lambda: store.get(key))) and (
                     await store.wait(key, 60)
@@ -282,7 +289,7 @@ def test_another_child_behind_one_that_failed(place: str) -> None:
                     lambda: [one for one in store.active_attempts("t") if one.waits == "exhausted"]
                 )
                 await store.retry("t", "failing")
-            end = await found.wait(60)
+            end = await started.wait(60)
             assert end.ok and end.results["failing"]["key"] == "t/:failing/3"
 
     run(main())
@@ -290,7 +297,7 @@ def test_another_child_behind_one_that_failed(place: str) -> None:
 
 
 def test_definitions_that_cannot_be() -> None:
-    """Each says what to do."""
+    """Each error says what to do."""
     hotel, trip = sagas.Saga("hotel"), sagas.Saga("trip")
     hotel.step(name="room")(lambda task: None)
     trip.child(hotel, input=lambda task: None)
@@ -314,13 +321,16 @@ def test_definitions_that_cannot_be() -> None:
             ...
 
     with pytest.raises(sagas.DefinitionError, match="on_exhausted='retry'"):
-        trip.child(sagas.Saga("other"), name="c", input=lambda task: None, on_exhausted="retry")  # type: ignore[call-overload]
+        wrong: dict[str, Any] = {"on_exhausted": "retry"}
+        trip.child(sagas.Saga("other"), name="c", input=lambda task: None, **wrong)
     with pytest.raises(sagas.DefinitionError, match="expected a sagas.Saga"):
         trip.child("hotel", input=lambda task: None)  # type: ignore[call-overload]
 
 
-def test_keys_and_inputs_that_cannot_be(place: str) -> None:
-    """A key that leaves no room for a child's is refused at the start; the others fail the step."""
+def test_keys_and_inputs_that_cannot_be(location: str) -> None:
+    """A key that is too long for a child's key is refused at the start; the others fail
+    the step.
+    """
     world = Trip()
 
     @world.trip.child(world.hotel, keep=0)
@@ -328,7 +338,7 @@ def test_keys_and_inputs_that_cannot_be(place: str) -> None:
         return {2: object(), 3: {"nights": 1}}[task.input["days"]]
 
     async def main() -> None:
-        async with world.open(place) as store:
+        async with world.open(location) as store:
             with pytest.raises(sagas.InvalidKey, match="must have at most 497 characters"):
                 await store.start(world.trip, "x" * 502, {"days": 3})
             for taken in ("t/:stay", "/:", "t/:stay:undo", "t/:whatever"):
@@ -352,7 +362,7 @@ def test_keys_and_inputs_that_cannot_be(place: str) -> None:
 
 
 def test_in_a_simulation() -> None:
-    """Children are run as well; what happens to their steps is said by the path."""
+    """Children are run as well; a path names their steps."""
     world = Trip()
     ok = sagas.testing.run(world.trip, {"days": 4})
     assert ok.ok and ok.results["tour"] == {
@@ -400,7 +410,9 @@ def until_survived(
     open_store: Callable[[Callable[[sagas.Event], None]], sagas.Store],
     work: Callable[[sagas.Store], Coroutine[Any, Any, None]],
 ) -> int:
-    """Runs a program that is killed at its first event, then at its fourth, and so on, until it survives; how often it was killed."""
+    """Run a program that is killed at its first event, then at its fourth, and so on, until it
+    survives; return how often it was killed.
+    """
     for count in itertools.count(1, 3):
         child = os.fork()
         if child == 0:
@@ -423,28 +435,30 @@ def until_survived(
 
 
 @pytest.mark.parametrize("way", ["undone", "aborted"])
-def test_kills_at_any_event(place: str, tmp_path: pathlib.Path, way: str) -> None:
-    """Each child is started once, and none is open behind its parent, however often the program dies."""
+def test_kills_at_any_event(location: str, tmp_path: pathlib.Path, way: str) -> None:
+    """Each child is started once, and none stays open after its parent, however often the program
+    dies.
+    """
     file, world, slow = tmp_path / "done", Trip(), Slow()
 
     def note(step: sagas.Step[Any]) -> None:
-        """Its calls tell their keys outside."""
+        """Its calls report their keys to the test."""
         function = step.run.function
         assert function
 
-        def told(task: Task) -> Any:
+        def noted_call(task: Task) -> Any:
             with file.open("a") as out:
                 out.write(f"{task.key} {task.step} {task.idempotency_key}\n")
             return function(task)
 
-        step.run.function = told
+        step.run.function = noted_call
 
     note(world.hotel.steps[0])
     note(slow.sub.steps[0])
 
     def open_store(die: Callable[[sagas.Event], None]) -> sagas.Store:
         return sagas.open(
-            place, [world.trip, world.hotel, *slow.all], node="one", lease=2, on_event=die
+            location, [world.trip, world.hotel, *slow.all], node="one", lease=2, on_event=die
         )
 
     async def undone(store: sagas.Store) -> None:
@@ -452,14 +466,14 @@ def test_kills_at_any_event(place: str, tmp_path: pathlib.Path, way: str) -> Non
         assert end.states == {"flight": "undone", "stay": "undone", "tour": "failed"}
 
     async def aborted(store: sagas.Store) -> None:
-        found = await store.start(slow.top, "t")
+        run = await store.start(slow.top, "t")
         asks = asyncio.ensure_future(
             until(
                 lambda: [one for one in store.active_attempts("t/:stay") if one.waits == "approval"]
             )
         )
         await asyncio.wait(
-            [asks, ending := asyncio.ensure_future(found.wait(60))],
+            [asks, ending := asyncio.ensure_future(run.wait(60))],
             return_when=asyncio.FIRST_COMPLETED,
         )
         asks.cancel()
@@ -489,7 +503,9 @@ def test_kills_at_any_event(place: str, tmp_path: pathlib.Path, way: str) -> Non
 
 
 def test_a_child_of_another_node(url: str) -> None:
-    """A slow node has started the child meanwhile: it is that child, and an abort reaches it there."""
+    """A slow node has started the child in the meantime: it is that child, and an abort reaches it
+    there.
+    """
     child, top, gate = sagas.Saga("child"), sagas.Saga("top"), asyncio.Event()
     child.approval(name="sign")(lambda task: None)
 
@@ -521,13 +537,13 @@ def test_a_child_of_another_node(url: str) -> None:
     run(main())
 
 
-def test_children_stay_with_their_parents(place: str, monkeypatch: pytest.MonkeyPatch) -> None:
-    """What is over is not deleted as long as its parent is open."""
+def test_children_stay_with_their_parents(location: str, monkeypatch: pytest.MonkeyPatch) -> None:
+    """A finished child is not deleted as long as its parent is open."""
     monkeypatch.setattr("sagas.definition.shelf.SHARD_CAPACITY", 1)
     world = Slow(keep=0, undo=3)
 
     async def closed(store: sagas.Store, count: int) -> None:
-        """So many shards are closed."""
+        """Wait until this many shards are closed."""
 
         async def are() -> bool:
             return (
@@ -538,16 +554,16 @@ def test_children_stay_with_their_parents(place: str, monkeypatch: pytest.Monkey
         await until(are)
 
     async def main() -> None:
-        async with sagas.open(place, world.all) as store:
+        async with sagas.open(location, world.all) as store:
             await world.started(store)
             await store.complete("t/:stay", "sign")
             await store.wait("t/:stay", 60)
             await closed(store, 2)
-        assert retention.prune(place, -3600.0).sagas == 0
-        async with sagas.open(place, world.all) as store:
+        assert retention.prune(location, -3600.0).sagas == 0
+        async with sagas.open(location, world.all) as store:
             await store.complete("t", "beside")
             assert (await store.wait("t", 60)).ok
             await closed(store, 3)
-        assert retention.prune(place, -3600.0).sagas == 3
+        assert retention.prune(location, -3600.0).sagas == 3
 
     run(main())

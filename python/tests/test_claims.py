@@ -28,30 +28,30 @@ from sagas.storage.lots import Batcher
 WORD = [("far", "a", "run")]
 
 
-def opened(place: str, saga: sagas.Saga) -> sagas.Store:
-    """A store that serves workers."""
-    store = sagas.open(place, [saga])
+def opened(location: str, saga: sagas.Saga) -> sagas.Store:
+    """Open a store that serves workers."""
+    store = sagas.open(location, [saga])
     store.leased = True
     return store
 
 
 def far() -> sagas.Saga:
-    """One step, which workers do."""
+    """Return a saga of one step, which workers do."""
     saga = sagas.Saga("far")
     saga.step(name="a", external=True, undo=0)
     return saga
 
 
 class Table:
-    """Answers a lot when it is told to, and keeps what it was asked."""
+    """A table that returns a batch when the test says so, and keeps its requests."""
 
     def __init__(self) -> None:
-        self.asked: list[list[str]] = []
+        self.requests: list[list[str]] = []
         self.dropped: list[tuple[str, str]] = []
         self.may = asyncio.Event()
         self.fault: Exception | None = None
         self.then: Callable[[], object] = lambda: None
-        self.lots: Batcher[str, str] = Batcher(self.ask, 4, self.drop, self.group)
+        self.grouped: Batcher[str, str] = Batcher(self.ask, 4, self.drop, self.group)
 
     def drop(self, what: str, answer: str) -> None:
         self.dropped.append((what, answer))
@@ -60,7 +60,7 @@ class Table:
         return what[0] if what[0].isupper() else None
 
     async def ask(self, some: Sequence[str]) -> list[str]:
-        self.asked.append([*some])
+        self.requests.append([*some])
         await self.may.wait()
         self.then()
         if self.fault:
@@ -68,30 +68,33 @@ class Table:
         return [what * 2 for what in some]
 
 
-def test_a_lot_has_one_group_at_most() -> None:
-    """What comes while the first is asked waits. Each lot has what has waited longest."""
+def test_a_batch_has_one_group_at_most() -> None:
+    """Requests that come while the first batch is in progress wait.
+
+    Each batch has those that have waited longest.
+    """
 
     async def main() -> None:
         table = Table()
-        first = asyncio.create_task(table.lots.ask("A0"))
+        first = asyncio.create_task(table.grouped.ask("A0"))
         await asyncio.sleep(0.01)
         rest = [
-            asyncio.create_task(table.lots.ask(what))
+            asyncio.create_task(table.grouped.ask(what))
             for what in ("A1", "B1", "x", "A2", "B2", "y", "z")
         ]
         await asyncio.sleep(0.01)
-        assert table.asked == [["A0"]]
+        assert table.requests == [["A0"]]
         table.may.set()
         assert await first == "A0A0"
         assert await asyncio.gather(*rest) == ["A1A1", "B1B1", "xx", "A2A2", "B2B2", "yy", "zz"]
-        assert table.asked[1:] == [["A1", "x", "A2", "y"], ["B1", "B2", "z"]]
+        assert table.requests[1:] == [["A1", "x", "A2", "y"], ["B1", "B2", "z"]]
         assert not table.dropped
 
     run(main())
 
 
-def test_a_lot_that_fails() -> None:
-    """Its callers hear of it, and the next lot is asked."""
+def test_a_batch_that_fails() -> None:
+    """Its callers get the error, and the next batch is asked."""
 
     async def main() -> None:
         table = Table()
@@ -99,19 +102,19 @@ def test_a_lot_that_fails() -> None:
         table.may.set()
         for _ in range(2):
             with pytest.raises(StoreUnavailable):
-                await table.lots.ask("x")
+                await table.grouped.ask("x")
         table.fault = None
-        assert await table.lots.ask("y") == "yy"
+        assert await table.grouped.ask("y") == "yy"
 
     run(main())
 
 
 def test_callers_that_are_cancelled() -> None:
-    """Their answers are dropped: also that of a caller who was told, and has not gone on yet."""
+    """Their replies are dropped, also if the caller has its reply and has not continued yet."""
 
     async def main() -> None:
         table = Table()
-        some = [asyncio.create_task(table.lots.ask(what)) for what in ("x", "y", "z")]
+        some = [asyncio.create_task(table.grouped.ask(what)) for what in ("x", "y", "z")]
         await asyncio.sleep(0.01)
         some[0].cancel()
         table.then = lambda: asyncio.get_running_loop().call_soon(some[1].cancel)
@@ -125,30 +128,30 @@ def test_callers_that_are_cancelled() -> None:
     run(main())
 
 
-def test_what_is_cancelled_before_it_is_asked() -> None:
-    """It is not asked: a claim would take from the others what is given back at once."""
+def test_a_cancelled_request_is_not_asked() -> None:
+    """It is not asked: a claim would take tasks from others, and release them at once."""
 
     async def main() -> None:
         table = Table()
-        some = [asyncio.create_task(table.lots.ask(what)) for what in ("A0", "B1", "B2", "C3")]
+        some = [asyncio.create_task(table.grouped.ask(what)) for what in ("A0", "B1", "B2", "C3")]
         await asyncio.sleep(0.01)
         some[1].cancel()
         some[3].cancel()
         table.may.set()
         assert await some[0] == "A0A0" and await some[2] == "B2B2"
         await asyncio.sleep(0.01)
-        assert table.asked == [["A0"], ["B2"]] and not table.dropped
-        assert await table.lots.ask("x") == "xx"
+        assert table.requests == [["A0"], ["B2"]] and not table.dropped
+        assert await table.grouped.ask("x") == "xx"
 
     run(main())
 
 
-def test_a_claim_that_is_cancelled_is_given_back(place: str) -> None:
-    """Wherever it was: the task can be claimed at once, though its lease would be long."""
+def test_a_claim_that_is_cancelled_is_given_back(location: str) -> None:
+    """Wherever it was, the task can be claimed at once, despite its long lease."""
     saga = far()
 
     async def main() -> None:
-        async with opened(place, saga) as store:
+        async with opened(location, saga) as store:
             await store.start(saga, "k")
             for turns in range(25):
                 claiming = asyncio.create_task(store.workers.claim(WORD, wait=0, lease=600))
@@ -165,20 +168,20 @@ def test_a_claim_that_is_cancelled_is_given_back(place: str) -> None:
     run(main())
 
 
-def test_many_at_once(place: str) -> None:
+def test_many_at_once(location: str) -> None:
     """Each task is claimed once, and one of two reports of a task does not count."""
     saga = far()
 
     async def main() -> None:
-        async with opened(place, saga) as store:
+        async with opened(location, saga) as store:
             for number in range(12):
                 await store.start(saga, f"k{number}")
             wanted = [
                 store.workers.claim(WORD, limit=limit, wait=30, lease=600) for limit in (1, 3, 2)
             ]
-            found = await asyncio.gather(*wanted)
-            assert [len(tasks) for tasks in found] == [1, 3, 2]
-            tasks = [task for some in found for task in some]
+            batches = await asyncio.gather(*wanted)
+            assert [len(tasks) for tasks in batches] == [1, 3, 2]
+            tasks = [task for some in batches for task in some]
             reports = [
                 store.workers.report(task.attempt_id, task.lease, number)
                 for number, task in enumerate(tasks)
@@ -193,26 +196,27 @@ def test_many_at_once(place: str) -> None:
     run(main())
 
 
-def test_a_wrong_claim_fails_no_other(place: str) -> None:
-    """Half of a pair of characters in a worker's name or in its report, or a limit below 0: claims
-    and reports beside it are kept.
+def test_an_invalid_claim_fails_no_other(location: str) -> None:
+    """It has half of a surrogate pair in a worker's name or in its report, or a limit below 0.
+
+    Concurrent claims and reports are kept.
     """
     saga = far()
 
     async def main() -> None:
-        async with opened(place, saga) as store:
+        async with opened(location, saga) as store:
             for number in range(4):
                 await store.start(saga, f"k{number}")
             task, torn = await store.workers.claim(WORD, limit=2, wait=30, lease=600)
             unknown = {"unknown": "no such file: /in/\udcff.pdf"}
-            one, none, other, kept, told = await asyncio.gather(
+            one, none, other, kept, reported = await asyncio.gather(
                 store.workers.claim(WORD, wait=30, lease=600),
                 store.workers.claim(WORD, limit=-1, lease=600),
                 store.workers.claim(WORD, wait=30, lease=600, worker="w\ud800"),
                 store.workers.report(task.attempt_id, task.lease, 5),
                 store.workers.report(torn.attempt_id, torn.lease, **unknown),
             )
-            assert kept and told and not none
+            assert kept and reported and not none
             assert len({task.attempt_id, one[0].attempt_id, other[0].attempt_id}) == 3
             assert not await store.workers.report(torn.attempt_id, torn.lease, **unknown)
 
@@ -221,21 +225,23 @@ def test_a_wrong_claim_fails_no_other(place: str) -> None:
 
 @pytest.mark.parametrize("fault", [StoreUnavailable("away"), ValueError("odd"), None])
 def test_tasks_that_cannot_be_read_are_given_back(
-    place: str, fault: Exception | None, monkeypatch: pytest.MonkeyPatch
+    location: str, fault: Exception | None, monkeypatch: pytest.MonkeyPatch
 ) -> None:
-    """Also where their claim is cancelled meanwhile. What this node cannot hand out at all keeps
-    its lease: it would block what has waited less long.
+    """This holds also if their claim is cancelled in the meantime.
+
+    A task that this node cannot offer to any worker keeps its lease: it would block tasks that have
+    waited less long.
     """
     saga = far()
 
     async def main() -> None:
-        async with opened(place, saga) as store:
+        async with opened(location, saga) as store:
             for number in range(3):
                 await store.start(saga, f"k{number}")
             external, reading = store._coordinator.external, asyncio.Event()
             whole, count = external._leased, 0
 
-            async def leased(*words: Any) -> Any:
+            async def leased(*arguments: Any) -> Any:
                 nonlocal count
                 count += 1
                 if count == 2:
@@ -243,7 +249,7 @@ def test_tasks_that_cannot_be_read_are_given_back(
                     if fault:
                         raise fault
                     await asyncio.Event().wait()
-                return await whole(*words)
+                return await whole(*arguments)
 
             monkeypatch.setattr(external, "_leased", leased)
             await asyncio.sleep(0.2)  # all are offered
@@ -252,21 +258,21 @@ def test_tasks_that_cannot_be_read_are_given_back(
             claiming.cancel() if fault is None else None
             with pytest.raises(type(fault) if fault else asyncio.CancelledError):
                 await claiming
-            found: list[Any] = []
+            claimed: list[Any] = []
             async with asyncio.timeout(20):
-                while len(found) < (2 if isinstance(fault, ValueError) else 3):
-                    found += await store.workers.claim(WORD, limit=3, wait=1, lease=600)
+                while len(claimed) < (2 if isinstance(fault, ValueError) else 3):
+                    claimed += await store.workers.claim(WORD, limit=3, wait=1, lease=600)
             assert not await store.workers.claim(WORD, lease=600)
 
     run(main())
 
 
-def test_what_is_reported_is_not_claimed(place: str) -> None:
-    """The lease is over, and its worker reports *done* when another one claims: in any order."""
+def test_a_reported_task_is_not_claimed(location: str) -> None:
+    """The lease is over, and its worker reports *done* while another one claims, in any order."""
     saga = far()
 
     async def main() -> None:
-        async with opened(place, saga) as store:
+        async with opened(location, saga) as store:
             for number in range(6):
                 started = await store.start(saga, f"k{number}")
                 (task,) = await store.workers.claim(WORD, wait=30, lease=0.01)
@@ -276,8 +282,8 @@ def test_what_is_reported_is_not_claimed(place: str) -> None:
                     store.workers.report(task.attempt_id, task.lease, number),
                 ]
                 turn = 1 if number % 2 else -1
-                found, kept = (await asyncio.gather(*both[::turn]))[::turn]
-                assert (found, kept) == ([], True)
+                claimed, kept = (await asyncio.gather(*both[::turn]))[::turn]
+                assert (claimed, kept) == ([], True)
                 assert (await started.wait(60)).results == {"a": number}
 
     run(main())
@@ -287,10 +293,10 @@ ONE = 'format = 2\nname = "one"\n[[step]]\nname = "a"\nundo = "never"\n'
 
 
 def test_a_client_that_goes_with_its_report_keeps_no_lease(
-    tmp_path: pathlib.Path, place: str
+    tmp_path: pathlib.Path, location: str
 ) -> None:
-    """What was claimed for it can be claimed at once."""
-    with served(tmp_path, {"one.toml": ONE}, store=place) as service, service.client() as client:
+    """A task that was claimed for it can be claimed at once."""
+    with served(tmp_path, {"one.toml": ONE}, store=location) as service, service.client() as client:
         for number in range(40):
             start(client, "one", f"k{number}")
         host, port = service.address.split(":")
@@ -304,14 +310,14 @@ def test_a_client_that_goes_with_its_report_keeps_no_lease(
             )
             with socket.create_connection((host, int(port))) as link:
                 link.sendall(head.encode() + body)
-        found: list[object] = []
+        claimed: list[object] = []
         while some := take(client, "one/a", most=100, wait=2):
-            found += some
-        assert len(found) == 20
+            claimed += some
+        assert len(claimed) == 20
 
 
 class Claims:
-    """A service whose claims and reports come out as the case says."""
+    """A service whose claims and reports end as the case says."""
 
     def __init__(self, *outcomes: list[str] | BaseException) -> None:
         self.outcomes, self.given_back, self.is_stopping = [*outcomes], list[str](), False
@@ -324,7 +330,7 @@ class Claims:
     def saw(self, *_: object) -> None:
         ...
 
-    def words(self) -> set[str]:
+    def task_names(self) -> set[str]:
         return set()
 
     async def claim(self, *_: object, **__: object) -> list[str]:
@@ -338,7 +344,7 @@ class Claims:
 
 
 @pytest.mark.parametrize(
-    ("second", "of_report", "found", "back"),
+    ("second", "of_report", "expected_tasks", "back"),
     [
         (["t2"], None, ["t1", "t2"], []),
         (Closed("closed"), None, ["t1"], []),
@@ -347,14 +353,14 @@ class Claims:
         (["t2"], asyncio.CancelledError(), None, ["t1"]),
     ],
 )
-def test_what_was_claimed_and_is_not_answered(
+def test_a_claim_without_a_response_is_released(
     second: list[str] | BaseException,
     of_report: BaseException | None,
-    found: list[str] | None,
+    expected_tasks: list[str] | None,
     back: list[str],
     monkeypatch: pytest.MonkeyPatch,
 ) -> None:
-    """It is given back, whether the report or the claim behind it raises."""
+    """It is released, whether the report or the later claim raises."""
     monkeypatch.setattr(task_claims.json_views, "task", lambda one, now: one)
 
     async def main() -> None:
@@ -363,16 +369,16 @@ def test_what_was_claimed_and_is_not_answered(
         scope = {GONE: service.gone, FOLLOWED: followed, SERVICE: service}
         request: Any = types.SimpleNamespace(scope=scope)
         who: Any = types.SimpleNamespace(name="w", digest="w")
-        call: Any = types.SimpleNamespace(service=service, who=who, request=request)
+        call: Any = types.SimpleNamespace(service=service, principal=who, request=request)
         body = {"steps": ["far/a"], "limit": 3, "wait": 0.0, "lease": 9.0, "worker": ""}
-        told: Any = None
+        reply: Any = None
         with contextlib.suppress(Problem, ValueError, asyncio.CancelledError):
             async with task_claims.NextClaim(call, body) as claim:
                 claim.stored()
                 await asyncio.sleep(0.01)
                 if of_report:
                     raise of_report
-                told = await claim.answer()
-        assert (told and told.tasks, service.given_back) == (found, back)
+                reply = await claim.answer()
+        assert (reply and reply.tasks, service.given_back) == (expected_tasks, back)
 
     run(main())

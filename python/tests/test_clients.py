@@ -1,4 +1,4 @@
-"""Clients: they start sagas that nodes take, in a transaction of their own or in the caller's."""
+"""Clients: they start sagas that nodes take, in their own transaction or in the caller's."""
 
 from __future__ import annotations
 
@@ -24,7 +24,9 @@ from sagas.storage.postgresql import notifications
 
 
 def shop() -> sagas.Saga:
-    """A step, an approval where the input asks for one, and a step that may fail."""
+    """Return a saga with a step, an approval if the input requests one, and a step that
+    may fail.
+    """
     shop = sagas.Saga("shop")
 
     @shop.step
@@ -45,7 +47,7 @@ def shop() -> sagas.Saga:
 
 
 def inbox(url: str) -> int:
-    """How many starts no log has yet."""
+    """Return how many starts no log has yet."""
     with psycopg.connect(url) as link:
         row = link.execute("SELECT count(*) FROM sagas.pending_starts").fetchone()
         assert row
@@ -58,21 +60,22 @@ SELECT count(*) FROM pg_stat_activity WHERE wait_event_type = 'Lock' AND applica
 
 
 async def connected(url: str, client: sagas.Client, kind: sagas.Saga, count: int) -> None:
-    """Starts so many sagas at once that the client has as many connections."""
-    with psycopg.connect(url) as link, psycopg.connect(url, autocommit=True) as eye:
+    """Start `count` sagas at once, so that the client has that many connections."""
+    with psycopg.connect(url) as link, psycopg.connect(url, autocommit=True) as observer:
         link.execute("LOCK TABLE sagas.pending_starts")
         some = [
             asyncio.create_task(client.start(kind, f"first-{number}")) for number in range(count)
         ]
-        while eye.execute(LOCKED).fetchone() != (count,):
+        while observer.execute(LOCKED).fetchone() != (count,):
             await asyncio.sleep(0.05)
         link.commit()
         assert [(await one).new for one in some] == [True] * count
 
 
-def test_a_start_behind_the_server_s_restart(postgresql: Server, url: str) -> None:
-    """Connections that have ended meanwhile are tried past, however many the client has: the start
-    is made, and once."""
+def test_a_start_after_a_restart_of_the_server(postgresql: Server, url: str) -> None:
+    """The client skips connections that have ended in the meantime, however many it has: the start
+    is made, and once.
+    """
     kind = shop()
 
     async def main() -> None:
@@ -100,7 +103,10 @@ def test_a_start_behind_the_server_s_restart(postgresql: Server, url: str) -> No
 
 
 def test_a_client_starts_and_waits(url: str) -> None:
-    """Many starts by two clients, some of the same keys: nodes take them, each once; ends, lists and conflicts are as at a node."""
+    """Two clients make many starts, some of the same keys: nodes take each of them once.
+
+    Ends, lists and conflicts are as at a node.
+    """
     kind = shop()
 
     async def main() -> None:
@@ -142,8 +148,8 @@ def test_a_client_starts_and_waits(url: str) -> None:
     assert len(records.read(url).sagas) == 41 and inbox(url) == 0
 
 
-def test_what_a_client_is_not_made_with() -> None:
-    """Told before it connects."""
+def test_invalid_arguments_of_a_client() -> None:
+    """The error comes before it connects."""
     for url in (None, 5, "store.db"):
         with pytest.raises(sagas.InvalidStore, match="not a URL of a PostgreSQL database"):
             sagas.Client(url)  # type: ignore[arg-type]
@@ -152,7 +158,9 @@ def test_what_a_client_is_not_made_with() -> None:
 
 
 def test_a_start_waits_for_a_node(url: str, capsys: pytest.CaptureFixture[str]) -> None:
-    """It is kept while no node is there, and the operators' command shows it; the first that comes takes it. One that lacks the saga leaves it."""
+    """It is kept while there is no node, and the operators' command shows it; the first node takes
+    it. A node without the saga leaves it.
+    """
     kind, other = shop(), sagas.Saga("other")
 
     @other.step
@@ -168,8 +176,10 @@ def test_a_start_waits_for_a_node(url: str, capsys: pytest.CaptureFixture[str]) 
                 assert (await (await client.start(other, "x")).wait()).ok
                 assert inbox(url) == 1 and (await store.start(other, "y")) is not None
                 assert await asyncio.to_thread(store_command.main, [url, "nodes"]) == 0
-                said = capsys.readouterr().out
-                assert "No node has accepted these starts:" in said and "shop (version 1)" in said
+                output = capsys.readouterr().out
+                assert (
+                    "No node has accepted these starts:" in output and "shop (version 1)" in output
+                )
                 assert await asyncio.to_thread(store_command.main, [url, "show", "k"]) == 1
                 assert (
                     "k has not started: it waits for a node that has shop (version 1)"
@@ -181,8 +191,11 @@ def test_a_start_waits_for_a_node(url: str, capsys: pytest.CaptureFixture[str]) 
     run(main())
 
 
-def test_a_start_whose_caller_is_cancelled_takes_no_connection_away(url: str) -> None:
-    """It waits for the client's only connection, and its caller has no time: those that come later have the connection, and it may be a start itself."""
+def test_a_cancelled_start_returns_its_connection(url: str) -> None:
+    """It waits for the client's only connection, and its caller has no time.
+
+    Later callers get the connection, and one of them may be a start.
+    """
     kind = simple(lambda task: 1)
 
     async def main() -> None:
@@ -206,31 +219,35 @@ def test_a_start_whose_caller_is_cancelled_takes_no_connection_away(url: str) ->
 
 
 def waits_for_a_lock(url: str) -> list[Any]:
-    """The server's processes that wait for a lock in this database."""
+    """Return the server's processes that wait for a lock in this database."""
     with psycopg.connect(url) as link:
         return link.execute(
-            "SELECT 1 FROM pg_stat_activity WHERE datname = current_database() AND wait_event_type = 'Lock'"
+            "SELECT 1 FROM pg_stat_activity WHERE datname = current_database() AND wait_event_type"
+            " = 'Lock'"
         ).fetchall()
 
 
 def test_a_start_that_no_node_has_taken_is_withdrawn(
     url: str, capsys: pytest.CaptureFixture[str]
 ) -> None:
-    """`waiting` lists it, and `abort` takes it back. One that a node has just taken is aborted by that, once it has begun."""
+    """`pending` lists it, and `abort` withdraws it.
+
+    One that a node has just taken is aborted once it has started.
+    """
     kind, other = sagas.Saga("signed"), shop()
 
     @kind.approval
     def sign(task: Task) -> None:
         ...
 
-    async def asked(*words: str) -> str:
-        assert await asyncio.to_thread(store_command.main, [url, *words]) == 0
+    async def run_command(*arguments: str) -> str:
+        assert await asyncio.to_thread(store_command.main, [url, *arguments]) == 0
         return capsys.readouterr().out
 
     async def main() -> None:
         async with sagas.open(url, [other]), sagas.Client(url) as client:
             started = await client.start(kind, "t1")
-            (one,) = json.loads(await asked("pending", "--json"))
+            (one,) = json.loads(await run_command("pending", "--json"))
             assert (
                 one["key"],
                 one["kind"],
@@ -239,12 +256,12 @@ def test_a_start_that_no_node_has_taken_is_withdrawn(
                 one["version"],
                 one["step"],
             ) == ("t1", "start", "node", "signed", 1, None)
-            assert "a node with signed version 1" in await asked("pending")
+            assert "a node with signed version 1" in await run_command("pending")
             assert (
-                await asked("abort", "t1")
+                await run_command("abort", "t1")
                 == "t1: start withdrawn; no node had accepted it, and nothing has started\n"
             )
-            assert inbox(url) == 0 and json.loads(await asked("pending", "--json")) == []
+            assert inbox(url) == 0 and json.loads(await run_command("pending", "--json")) == []
             with pytest.raises(sagas.NoSuchSaga):
                 await started.wait()
             assert (
@@ -256,8 +273,8 @@ def test_a_start_that_no_node_has_taken_is_withdrawn(
                 link.execute(
                     "UPDATE sagas.pending_starts SET node = (SELECT node FROM sagas.nodes)"
                 )
-            assert json.loads(await asked("pending", "--json")) == []
-            abort = asyncio.create_task(asked("abort", "t2", "--timeout", "60"))
+            assert json.loads(await run_command("pending", "--json")) == []
+            abort = asyncio.create_task(run_command("abort", "t2", "--timeout", "60"))
             await until(lambda: requests(url))
             assert not abort.done() and inbox(url) == 1
             async with sagas.open(url, [kind]) as store:
@@ -269,7 +286,7 @@ def test_a_start_that_no_node_has_taken_is_withdrawn(
 
 
 def requests(url: str) -> int:
-    """How many requests nobody has answered."""
+    """Return how many requests have no reply."""
     with psycopg.connect(url) as link:
         text = "SELECT count(*) FROM sagas.operator_commands WHERE answer IS NULL"
         of_sagas = link.execute(text).fetchone()
@@ -280,7 +297,7 @@ def requests(url: str) -> int:
 
 
 def fast(called: list[str]) -> sagas.Saga:
-    """One step, which tells its key."""
+    """Return a saga of one step, which notes its key."""
     fast = sagas.Saga("fast")
 
     @fast.step
@@ -319,7 +336,7 @@ def test_an_abort_before_a_node_comes_wins(url: str) -> None:
 
 
 def test_a_node_withdraws_a_start_of_a_saga_that_it_lacks(url: str) -> None:
-    """`Store.abort` of a client's start that no node has taken, as `Client.abort`."""
+    """`Store.abort` of a client's start that no node has taken works as `Client.abort`."""
     kind, other = shop(), sagas.Saga("other")
 
     @other.step
@@ -333,8 +350,11 @@ def test_a_node_withdraws_a_start_of_a_saga_that_it_lacks(url: str) -> None:
             store.abort("k")
 
 
-def test_an_abort_whose_start_goes_away_hears_of_it(url: str) -> None:
-    """A node has taken the start, so the abort waits; it returns where the start is let go, and withdraws it where the node gives it back."""
+def test_an_abort_of_a_start_that_is_removed(url: str) -> None:
+    """A node has taken the start, so the abort waits.
+
+    It returns when the start is deleted, and withdraws it when the node releases it.
+    """
     kind = shop()
     made(url, kind)
 
@@ -363,8 +383,10 @@ def test_an_abort_whose_start_goes_away_hears_of_it(url: str) -> None:
     run(main())
 
 
-def test_a_finish_of_a_start_that_is_withdrawn_hears_of_it(url: str) -> None:
-    """It waits for a node; the abort of another client takes the start away, and the request with it."""
+def test_a_finish_of_a_withdrawn_start_raises(url: str) -> None:
+    """It waits for a node; the abort of another client removes the start, and the request
+    with it.
+    """
     kind = shop()
     made(url, kind)
 
@@ -382,7 +404,10 @@ def test_a_finish_of_a_start_that_is_withdrawn_hears_of_it(url: str) -> None:
 
 
 def test_an_abort_and_a_node_at_once(url: str) -> None:
-    """Whoever has the start first, what the abort answers is so. True: nothing was called and the key is free, or the end says so. False: it is over."""
+    """Whichever has the start first, the reply to the abort is true.
+
+    True: nothing was called and the key is free, or the end says so. False: the saga is over.
+    """
     called: list[str] = []
     kind = fast(called)
     made(url, kind)
@@ -399,13 +424,13 @@ def test_an_abort_and_a_node_at_once(url: str) -> None:
         return "aborted" if done else "over"
 
     async def started(client: sagas.Client, name: str) -> list[sagas.ClientRun]:
-        return [await client.start(kind, f"{name}-{place}") for place in range(10)]
+        return [await client.start(kind, f"{name}-{number}") for number in range(10)]
 
     async def answers(runs: list[sagas.ClientRun], step: float) -> list[str]:
-        return await asyncio.gather(*(one(run, step * place) for place, run in enumerate(runs)))
+        return await asyncio.gather(*(one(run, step * number) for number, run in enumerate(runs)))
 
     async def main() -> None:
-        found: set[str] = set()
+        outcomes: set[str] = set()
         async with sagas.Client(url, connections=8) as client:
             for turn in range(5):
                 before = asyncio.create_task(
@@ -413,14 +438,14 @@ def test_an_abort_and_a_node_at_once(url: str) -> None:
                 )
                 async with sagas.open(url, [kind], node="a"), sagas.open(url, [kind], node="b"):
                     async with asyncio.timeout(60):
-                        found.update(await before)
+                        outcomes.update(await before)
                         for part in range(3):
-                            found.update(
+                            outcomes.update(
                                 await answers(
                                     await started(client, f"beside{turn}-{part}"), 0.0002 * turn
                                 )
                             )
-            assert "withdrawn" in found and inbox(url) == requests(url) == 0
+            assert "withdrawn" in outcomes and inbox(url) == requests(url) == 0
             for key in {*called}:
                 assert called.count(key) == 1 and await client.get(key) is not None
 
@@ -428,12 +453,17 @@ def test_an_abort_and_a_node_at_once(url: str) -> None:
 
 
 def test_a_start_is_in_the_inbox_or_in_a_log(url: str) -> None:
-    """In one of them at each moment, and never in both; one that a node took which is gone is another's."""
+    """It is in one of them at each moment, and never in both; a start that a dead node took goes to
+    another one.
+    """
     kind = shop()
 
     def places() -> list[int]:
         with psycopg.connect(url) as link:
-            text = "SELECT count(*) FROM (SELECT key FROM sagas.pending_starts UNION ALL SELECT key FROM sagas.sagas) one GROUP BY key"
+            text = (
+                "SELECT count(*) FROM (SELECT key FROM sagas.pending_starts UNION ALL SELECT key"
+                " FROM sagas.sagas) one GROUP BY key"
+            )
             return [count for (count,) in link.execute(text).fetchall()]
 
     async def main() -> None:
@@ -463,7 +493,7 @@ def test_a_start_is_in_the_inbox_or_in_a_log(url: str) -> None:
 
 
 def made(url: str, kind: sagas.Saga) -> None:
-    """A node makes the tables, and leaves."""
+    """Let a node make the tables."""
 
     async def main() -> None:
         async with sagas.open(url, [kind]):
@@ -472,8 +502,8 @@ def made(url: str, kind: sagas.Saga) -> None:
     run(main())
 
 
-def test_a_start_that_somebody_is_at_holds_up_no_other(url: str) -> None:
-    """Its row is locked: a node takes those before and behind it, and it later."""
+def test_a_locked_start_delays_no_other(url: str) -> None:
+    """Its row is locked: a node takes the starts before and after it, and takes it later."""
     kind = shop()
     made(url, kind)
 
@@ -498,7 +528,7 @@ def test_a_start_that_somebody_is_at_holds_up_no_other(url: str) -> None:
 
 
 def test_a_client_drives_nothing(url: str) -> None:
-    """It has no child, no lease and no log."""
+    """It has no engine, no lease and no log."""
     kind = shop()
     made(url, kind)
     others = set(children(os.getpid()))  # servers that other tests use
@@ -515,7 +545,7 @@ def test_a_client_drives_nothing(url: str) -> None:
 
 
 def test_abort_and_finish_by_a_client(url: str) -> None:
-    """Both wait until the node that has the saga has said so."""
+    """Both wait until the node that has the saga has replied."""
     saga = sagas.Saga("signed")
 
     @saga.approval()
@@ -539,7 +569,7 @@ def test_abort_and_finish_by_a_client(url: str) -> None:
 
 @pytest.mark.parametrize("commits", [True, False])
 def test_a_start_in_the_callers_transaction(url: str, commits: bool) -> None:
-    """The saga is there exactly if the caller's transaction commits."""
+    """The saga exists exactly if the caller's transaction commits."""
     kind = shop()
 
     async def main() -> None:
@@ -566,8 +596,11 @@ def test_a_start_in_the_callers_transaction(url: str, commits: bool) -> None:
 @pytest.mark.parametrize("plain", [False, True], ids=["async", "plain"])
 @pytest.mark.parametrize("how", ["begun", "idle", "autocommit"])
 def test_a_start_that_fails_in_the_callers_transaction(url: str, how: str, plain: bool) -> None:
-    """Its row is written, and the look for the key fails: nothing of it is left, and what the
-    caller wrote in the transaction stays, before the start and after it."""
+    """Its row is written, and the look for the key fails.
+
+    Nothing of the start is left, and the caller's own writes in the transaction stay, before the
+    start and after it.
+    """
     kind = shop()
     made(url, kind)
     late = {"options": "-c lock_timeout=500ms", "autocommit": how == "autocommit"}
@@ -606,7 +639,7 @@ def test_a_start_that_fails_in_the_callers_transaction(url: str, how: str, plain
 
 
 def test_a_client_without_async(url: str) -> None:
-    """`SyncClient`, and a start in the transaction of a plain connection."""
+    """`SyncClient` works, and so does a start in the transaction of a plain connection."""
     kind = shop()
     with sagas.open_sync(url, [kind]), sagas.SyncClient(url) as client:
         assert client.start(kind, "k").wait(200).ok
@@ -621,9 +654,15 @@ def test_a_client_without_async(url: str) -> None:
 
 
 def test_a_client_in_a_forked_child(url: str) -> None:
-    """With async and without it says at once that it is another process's, and its closing there does nothing to that one's."""
+    """With async and without it, it raises at once that it is another process's.
+
+    Closing it there does not affect that one.
+    """
     kind = shop()
-    text = "the client was opened in another process, before a fork. Create and open one in this process"
+    text = (
+        "the client was opened in another process, before a fork. Create and open one in this"
+        " process"
+    )
     with sagas.open_sync(url, [kind]), sagas.SyncClient(url) as client:
         calls: list[Any] = [
             lambda: client.start(kind, "c"),
@@ -632,8 +671,8 @@ def test_a_client_in_a_forked_child(url: str) -> None:
             client.__enter__,
         ]
         for call in calls:
-            said = in_child(call)
-            assert said.startswith("Closed: ") and text in said
+            result = in_child(call)
+            assert result.startswith("Closed: ") and text in result
         assert in_child(client.close) == "None"
         inner = client._inner
         calls = [
@@ -649,7 +688,7 @@ def test_a_client_in_a_forked_child(url: str) -> None:
 
 
 def test_a_client_that_is_entered_twice(url: str) -> None:
-    """The second entry is an error that says so, and the first goes on."""
+    """The second entry is an error that says so, and the first one continues."""
     kind = shop()
 
     async def main() -> None:
@@ -672,12 +711,14 @@ def test_a_client_that_is_entered_twice(url: str) -> None:
 def test_closing_ends_the_waits_of_other_threads(
     url: str, is_client: bool, monkeypatch: pytest.MonkeyPatch
 ) -> None:
-    """The saga is nobody's here: those that wait for it hear at once that it is closed."""
+    """The saga is driven elsewhere: threads that wait for it get the error at once that the client
+    is closed.
+    """
     entered, whole = threading.Semaphore(0), notifications.Notifications.wait
 
-    async def entering(*words: Any) -> None:
+    async def entering(*arguments: Any) -> None:
         entered.release()
-        await whole(*words)
+        await whole(*arguments)
 
     monkeypatch.setattr(notifications.Notifications, "wait", entering)
     kind, other = shop(), sagas.Saga("other")
@@ -706,11 +747,14 @@ def test_closing_ends_the_waits_of_other_threads(
 
 
 def test_a_client_by_the_other_kind_of_with() -> None:
-    """`with` and `async with` each say what is meant."""
+    """`with` and `async with` each say which one is meant."""
     url = "postgresql://a@127.0.0.1/b"
     with pytest.raises(
         TypeError,
-        match=r"^a sagas.Client needs `async with`. Without async, use `with sagas\.SyncClient\(\.\.\.\)`$",
+        match=(
+            r"^a sagas.Client needs `async with`. Without async, use `with"
+            r" sagas\.SyncClient\(\.\.\.\)`$"
+        ),
     ):
         with sagas.Client(url):  # type: ignore[attr-defined]
             pass
@@ -743,16 +787,18 @@ def test_a_connection_of_the_other_kind(url: str) -> None:
     assert inbox(url) == 0
 
 
-def test_what_a_clients_run_tells(url: str) -> None:
-    """Whether this start began it, its events and its plan, as at a node; before a node has it there are none."""
+def test_the_attributes_of_a_clients_run(url: str) -> None:
+    """It returns whether this start began the saga, its events and its plan, as at a node; before a
+    node has it there are none.
+    """
     kind = shop()
     made(url, kind)
 
     async def main() -> None:
         async with sagas.Client(url) as client:
             run = await client.start(kind, "bad", "fails")
-            again, found = await client.start(kind, "bad", "fails"), await client.get("bad")
-            assert run.new and not again.new and found and not found.new
+            again, known = await client.start(kind, "bad", "fails"), await client.get("bad")
+            assert run.new and not again.new and known and not known.new
             assert await run.log() == [] and await run.plan() is None
             with pytest.raises(
                 TimeoutError, match="'bad' is still open after 0.01 s: no node has started it yet"
@@ -778,7 +824,7 @@ def test_what_a_clients_run_tells(url: str) -> None:
 
 
 def test_a_client_waits_too_long(url: str) -> None:
-    """It hears what the saga waits for."""
+    """The error says what the saga waits for."""
     saga = sagas.Saga("signed")
 
     @saga.approval()
@@ -795,7 +841,9 @@ def test_a_client_waits_too_long(url: str) -> None:
 
 
 def test_a_start_that_loses_its_race_with_a_node(url: str) -> None:
-    """A node begins a key while a client's start of it, with another input, is not yet committed: the node's stands, and the client hears of it."""
+    """A node starts a key while a client's start of it, with another input, is not yet committed:
+    the node's counts, and the client gets the conflict.
+    """
     kind = shop()
 
     async def main() -> None:
@@ -826,15 +874,15 @@ CREATE TRIGGER stays_once BEFORE DELETE ON sagas.pending_starts
 
 
 @pytest.mark.parametrize("is_seen", [True, False], ids=["seen", "met"])
-def test_a_start_whose_key_has_a_saga_goes_away(
+def test_a_start_of_a_taken_key_is_removed(
     url: str, monkeypatch: pytest.MonkeyPatch, is_seen: bool
 ) -> None:
-    """The commit that takes it out fails: it is taken out by the next one, and never begun."""
-    kind, told = shop(), list[str]()
+    """The commit that removes it fails: the next one removes it, and it is never opened."""
+    kind, event_names = shop(), list[str]()
 
     async def main() -> None:
         async with sagas.open(
-            url, [kind], on_event=lambda event: told.append(event.name)
+            url, [kind], on_event=lambda event: event_names.append(event.name)
         ) as store, sagas.Client(url) as client:
             with psycopg.connect(url) as stranger:
                 stranger.execute(STAYS)
@@ -856,14 +904,16 @@ def test_a_start_whose_key_has_a_saga_goes_away(
             assert (await late.wait()).ok and len(records.read(url).sagas) == 1
 
     run(main())
-    assert told.count("commit_failed") == 1
+    assert event_names.count("commit_failed") == 1
 
 
 @pytest.mark.parametrize("where", ["starts", "find", "new_shard"])
 def test_a_start_that_fails_at_first_is_taken_again(
     url: str, where: str, monkeypatch: pytest.MonkeyPatch
 ) -> None:
-    """The answer to its taking is lost, or the node cannot open it then: the node, which has it, takes it up again by itself."""
+    """The reply to its taking is lost, or the node cannot open it then: the node, which has it,
+    retries by itself.
+    """
     kind = shop()
 
     async def main() -> None:
@@ -877,11 +927,11 @@ def test_a_start_that_fails_at_first_is_taken_again(
                 left -= 1
                 return left == 0
 
-            async def later(*words: Any) -> Any:
-                told = await right(*words)
-                if told != [] and failed():
+            async def later(*arguments: Any) -> Any:
+                taken = await right(*arguments)
+                if taken != [] and failed():
                     raise sagas.StoreUnavailable("lost")
-                return told
+                return taken
 
             def now() -> Any:
                 if failed():
@@ -895,8 +945,12 @@ def test_a_start_that_fails_at_first_is_taken_again(
     run(main())
 
 
-def test_a_race_for_one_key_fails_no_other_start(url: str, monkeypatch: pytest.MonkeyPatch) -> None:
-    """Two nodes begin one key at once: who loses finds the other's, and what it began in the same commit is begun again; nobody hears of it."""
+def test_a_race_for_a_key_fails_no_other_start(url: str, monkeypatch: pytest.MonkeyPatch) -> None:
+    """Two nodes start one key at once.
+
+    The loser finds the other's saga, and starts the other sagas of the same commit again; no caller
+    notices it.
+    """
     kind = shop()
 
     async def main() -> None:
@@ -921,20 +975,20 @@ def test_a_race_for_one_key_fails_no_other_start(url: str, monkeypatch: pytest.M
 
 
 @pytest.mark.parametrize("plain", [False, True])
-def test_faults_of_the_given_connection_are_told_as_its_own(
-    url: str, postgresql: Server, plain: bool
-) -> None:
-    """Closed, in a failed transaction, to a database without the tables, or to that of another store: nothing is written, and each text says what to do."""
+def test_errors_of_a_given_connection(url: str, postgresql: Server, plain: bool) -> None:
+    """The connection is closed, in a failed transaction, to a database without the tables, or to
+    that of another store. Nothing is written, and each text says what to do.
+    """
     kind, bare, other = shop(), postgresql.create(), postgresql.create()
-    for place in (url, other):
-        made(place, kind)
+    for location in (url, other):
+        made(location, kind)
 
     def tried(to: str, spoil: str) -> str:
         with sagas.SyncClient(url) as client, psycopg.connect(to) as link:
             spoilt(link, spoil)
-            with pytest.raises(sagas.StoreUnavailable) as told:
+            with pytest.raises(sagas.StoreUnavailable) as error:
                 client.start(kind, "k", connection=link)
-            return str(told.value)
+            return str(error.value)
 
     async def tried_async(to: str, spoil: str) -> str:
         async with sagas.Client(url) as client, await psycopg.AsyncConnection.connect(to) as link:
@@ -943,16 +997,19 @@ def test_faults_of_the_given_connection_are_told_as_its_own(
             elif spoil:
                 with contextlib.suppress(psycopg.Error):
                     await link.execute(spoil)
-            with pytest.raises(sagas.StoreUnavailable) as told:
+            with pytest.raises(sagas.StoreUnavailable) as error:
                 await client.start(kind, "k", connection=link)
-            return str(told.value)
+            return str(error.value)
 
     texts = {
         (url, "close"): "the given connection is closed. Nothing was written. Give an open one",
         (
             url,
             "SELECT 1 / 0",
-        ): "in which a statement failed. Nothing was written. Roll it back, and start the saga in the next one",
+        ): (
+            "in which a statement failed. Nothing was written. Roll it back, and start the saga in"
+            " the next one"
+        ),
         (
             url,
             "SET TRANSACTION READ ONLY",
@@ -963,12 +1020,12 @@ def test_faults_of_the_given_connection_are_told_as_its_own(
     for (to, spoil), text in texts.items():
         assert text in (tried(to, spoil) if plain else run(tried_async(to, spoil)))
     assert inbox(url) == inbox(other) == 0
-    for place in (bare, other):
-        postgresql.drop(place)
+    for location in (bare, other):
+        postgresql.drop(location)
 
 
 def spoilt(link: psycopg.Connection[Any], how: str) -> None:
-    """Closes it, or does something in its transaction, which may fail."""
+    """Close it, or do something in its transaction, which may fail."""
     if how == "close":
         link.close()
     elif how:
@@ -977,7 +1034,9 @@ def spoilt(link: psycopg.Connection[Any], how: str) -> None:
 
 
 def test_a_given_connection_with_rows_of_its_own_kind(url: str) -> None:
-    """Dicts, by cursors of another class: a start reads its own rows all the same, also where the key is there."""
+    """Rows are dicts, by cursors of another class: a start reads its own rows anyway, also if the
+    key exists.
+    """
     kind = shop()
     made(url, kind)
 
@@ -1005,7 +1064,9 @@ def test_a_given_connection_with_rows_of_its_own_kind(url: str) -> None:
 
 
 def test_a_store_and_a_client_wait_by_key_for_some_time(url: str) -> None:
-    """`wait(key, timeout=)` as of a run; a store that lacks the version of a client's start says so too."""
+    """`wait(key, timeout=)` works as that of a run; a store without the version of a client's start
+    says so too.
+    """
     kind, later = shop(), sagas.Saga("shop", version=2)
 
     @later.step
@@ -1020,9 +1081,9 @@ def test_a_store_and_a_client_wait_by_key_for_some_time(url: str) -> None:
                 await client.wait("k", timeout=0.01)
             with pytest.raises(TimeoutError, match=text):
                 await store.wait("k", timeout=0.01)
-            assert not (found := await store.start(kind, "k")).new
+            assert not (run_again := await store.start(kind, "k")).new
             with pytest.raises(TimeoutError, match=text):
-                await found.wait(timeout=0.01)
+                await run_again.wait(timeout=0.01)
             with pytest.raises(sagas.NoSuchSaga):
                 await store.wait("none", timeout=60)
             assert (await (await store.start(kind, "l")).wait(timeout=60)).ok and (

@@ -31,7 +31,7 @@ OLD, NEW = Fernet.generate_key(), Fernet.generate_key()
 
 
 class Encryption:
-    """Encrypts by the newest of its keys, whose id goes with the data."""
+    """Encrypt with the newest of its keys, whose id is stored with the data."""
 
     def __init__(self, **keys: bytes) -> None:
         self.keys, self.newest = keys, max(keys)
@@ -45,7 +45,7 @@ class Encryption:
 
 
 class Identity:
-    """Reads whatever it is given."""
+    """A codec that reads any data."""
 
     def encode(self, data: bytes) -> bytes:
         return data
@@ -54,7 +54,7 @@ class Identity:
 
 
 class Wrong:
-    """Fails, with the value in its text."""
+    """A codec that fails, with the value in its text."""
 
     def __init__(self, fails: bool = True) -> None:
         self.fails = fails
@@ -69,7 +69,7 @@ class Wrong:
 
 
 KNOWN = Encryption(a=OLD, b=NEW)
-"""What `--app test_codec:KNOWN` is."""
+"""The codec of `--app test_codec:KNOWN`."""
 
 
 @dataclasses.dataclass
@@ -78,7 +78,7 @@ class Card:
 
 
 def shop() -> sagas.Saga:
-    """Its input, each result and what a person says have the secret in them."""
+    """Return a saga with the secret in its input, in each result and in an operator's report."""
     made = sagas.Saga("shop")
 
     @made.step(undo=1, keep=5)
@@ -103,24 +103,27 @@ def shop() -> sagas.Saga:
     return made
 
 
-def holds_secret(place: str) -> list[str]:
-    """The tables that have the secret in them somewhere."""
+def holds_secret(location: str) -> list[str]:
+    """Return the tables that have the secret in them somewhere."""
     tables = "sagas attempts suspensions operator_commands external_attempts event_log schedules"
-    found = tables.split() + (["pending_starts"] if place.startswith("postgresql:") else [])
-    with contextlib.closing(admin.connect(place)) as link:
-        return [name for name in found if SECRET in repr(link.ask(f"SELECT * FROM {name}"))]
+    names = tables.split() + (["pending_starts"] if location.startswith("postgresql:") else [])
+    with contextlib.closing(admin.connect(location)) as link:
+        return [name for name in names if SECRET in repr(link.ask(f"SELECT * FROM {name}"))]
 
 
-def test_nothing_of_a_value_is_stored(place: str, capsys: pytest.CaptureFixture[str]) -> None:
-    """Across restarts; a newer key reads what an older one wrote; callers and steps see values."""
+def test_nothing_of_a_value_is_stored(location: str, capsys: pytest.CaptureFixture[str]) -> None:
+    """This holds across restarts.
+
+    A newer key reads the data of an older one; callers and steps see values.
+    """
 
     async def main() -> None:
         kind = shop()
-        async with sagas.open(place, [kind], codec=Encryption(a=OLD)) as store:
+        async with sagas.open(location, [kind], codec=Encryption(a=OLD)) as store:
             for key in ("well", "fails"):
                 await store.start(kind, key, Card(SECRET))
-            await until(lambda: asked(place) == 2)
-        async with sagas.open(place, [kind], codec=Encryption(a=OLD, b=NEW)) as store:
+            await until(lambda: approvals_pending(location) == 2)
+        async with sagas.open(location, [kind], codec=Encryption(a=OLD, b=NEW)) as store:
             assert not (await store.start(kind, "well", Card(SECRET))).new
             with pytest.raises(sagas.KeyConflict):
                 await store.start(kind, "well", Card("another"))
@@ -139,17 +142,17 @@ def test_nothing_of_a_value_is_stored(place: str, capsys: pytest.CaptureFixture[
             hour = datetime.timedelta(hours=1)
             await store.schedule("n", kind, {"number": SECRET}, every=hour)
             assert [one.input for one in await store.schedules()] == [{"number": SECRET}]
-        async with sagas.open(place, [kind], codec=Encryption(a=OLD, b=NEW)) as store:
+        async with sagas.open(location, [kind], codec=Encryption(a=OLD, b=NEW)) as store:
             assert (await store.wait("well")).results["send"] == [SECRET]
 
     run(main())
-    assert holds_secret(place) == []
+    assert holds_secret(location) == []
     for word in ("show", "log", "export"):
-        assert store_command.main([place, word, "well"]) == 4
-        assert store_command.main([place, word, "well", "--app", "test_codec:KNOWN"]) == 0
+        assert store_command.main([location, word, "well"]) == 4
+        assert store_command.main([location, word, "well", "--app", "test_codec:KNOWN"]) == 0
         assert SECRET in capsys.readouterr().out
-    for words in (["list"], ["plan", "fails"], ["draw", "well"], ["stats"], ["schedules"]):
-        assert store_command.main([place, *words]) == 0  # they show no value
+    for arguments in (["list"], ["plan", "fails"], ["draw", "well"], ["stats"], ["schedules"]):
+        assert store_command.main([location, *arguments]) == 0  # they show no value
     assert SECRET not in capsys.readouterr().out
 
 
@@ -159,14 +162,14 @@ LOOKALIKES: list[Any] = [
     {"$plain": {"$codec": "AAAA"}},
     {"$blob": "00/1/ab", "bytes": 3, "digest": "0" * 64},
 ]
-"""Values from outside that look as what is stored in place of one."""
+"""Values from outside that look like encoded ones."""
 
 
 @pytest.mark.parametrize("codec", [None, Encryption(a=OLD)], ids=["plain", "codec"])
 def test_a_value_that_looks_encoded_is_data(
-    place: str, codec: Encryption | None, capsys: pytest.CaptureFixture[str]
+    location: str, codec: Encryption | None, capsys: pytest.CaptureFixture[str]
 ) -> None:
-    """Wherever it comes in; also once the store has another codec, which could read it."""
+    """This holds for each way in; also once the store has another codec, which could read it."""
     made = sagas.Saga("made")
     a = made.step(lambda task: task.input, name="a", undo=0)
     made.step(external=True, name="b", needs=[a], undo=0)
@@ -179,7 +182,7 @@ def test_a_value_that_looks_encoded_is_data(
     )
 
     async def main() -> None:
-        store = sagas.open(place, [made], codec=codec)
+        store = sagas.open(location, [made], codec=codec)
         store.leased = True
         hour = datetime.timedelta(hours=1)
         async with store:
@@ -194,15 +197,15 @@ def test_a_value_that_looks_encoded_is_data(
                 )
                 assert task.task.input == value and task.task.result_of("a") == value
                 await store.workers.report(task.attempt_id, task.lease, value, holder="w")
-                await until(lambda: asked(place) == number + 1)
+                await until(lambda: approvals_pending(location) == number + 1)
         for value, key in zip(LOOKALIKES, ("k0", "k1")):
-            words = [
+            arguments = [
                 "--result",
                 json.dumps(value),
                 *(["--app", "test_codec:KNOWN"] if codec else []),
             ]
-            assert store_command.main([place, "complete", key, "late", *words]) == 0
-        async with sagas.open(place, [made], codec=codec or Identity()) as store:
+            assert store_command.main([location, "complete", key, "late", *arguments]) == 0
+        async with sagas.open(location, [made], codec=codec or Identity()) as store:
             for number, value in enumerate(LOOKALIKES):
                 await store.complete(f"k{number}", "late", value)
                 end = await store.wait(f"k{number}")
@@ -214,20 +217,20 @@ def test_a_value_that_looks_encoded_is_data(
     capsys.readouterr()
 
 
-def asked(place: str) -> int:
-    with contextlib.closing(admin.connect(place)) as link:
+def approvals_pending(location: str) -> int:
+    with contextlib.closing(admin.connect(location)) as link:
         return len(link.ask("SELECT 1 FROM suspensions WHERE reason = 'approval'"))
 
 
-def test_a_store_of_before(place: str) -> None:
-    """What was written without a codec can be read with one."""
+def test_a_store_without_a_codec_before(location: str) -> None:
+    """Values that were written without a codec can be read with one."""
 
     async def main() -> None:
         kind = shop()
-        async with sagas.open(place, [kind]) as store:
+        async with sagas.open(location, [kind]) as store:
             await store.start(kind, "k", Card(SECRET))
-            await until(lambda: asked(place))
-        async with sagas.open(place, [kind], codec=Encryption(a=OLD)) as store:
+            await until(lambda: approvals_pending(location))
+        async with sagas.open(location, [kind], codec=Encryption(a=OLD)) as store:
             assert not (await store.start(kind, "k", Card(SECRET))).new
             await store.complete("k", "check", {"card": SECRET})
             assert (await store.wait("k")).results["send"] == [SECRET]
@@ -235,14 +238,14 @@ def test_a_store_of_before(place: str) -> None:
     run(main())
 
 
-def forget(place: str) -> None:
-    """Take the note out of a store that its values are encoded."""
-    with contextlib.closing(admin.connect(place, "rw")) as link:
+def forget(location: str) -> None:
+    """Remove the store's note that its values are encoded."""
+    with contextlib.closing(admin.connect(location, "rw")) as link:
         assert link.changed("DELETE FROM secrets WHERE name = 'codec'") == 1
 
 
-def test_a_forgotten_codec(place: str, capsys: pytest.CaptureFixture[str]) -> None:
-    """The store is neither opened nor written; of one without the note, an attempt waits."""
+def test_a_forgotten_codec(location: str, capsys: pytest.CaptureFixture[str]) -> None:
+    """The store is neither opened nor written. In a store without the note, an attempt waits."""
     made = sagas.Saga("made")
     ok = made.approval(lambda task: None, name="ok")
     calls = []
@@ -252,22 +255,22 @@ def test_a_forgotten_codec(place: str, capsys: pytest.CaptureFixture[str]) -> No
         calls.append(task.input)
 
     async def main() -> None:
-        async with sagas.open(place, [made], codec=KNOWN) as store:
+        async with sagas.open(location, [made], codec=KNOWN) as store:
             for key in ("k", "gone"):
                 await store.start(made, key, SECRET)
-            await until(lambda: asked(place) == 2)
+            await until(lambda: approvals_pending(location) == 2)
         with pytest.raises(sagas.MissingCodec, match="are encoded, and this program has no codec"):
-            async with sagas.open(place, [made]):
+            async with sagas.open(location, [made]):
                 pass
-        assert store_command.main([place, "complete", "k", "ok"]) == 4
+        assert store_command.main([location, "complete", "k", "ok"]) == 4
         assert "encoded" in capsys.readouterr().err
-        assert store_command.main([place, "abort", "gone"]) == 0  # it writes no value
-        if place.startswith("postgresql:"):
+        assert store_command.main([location, "abort", "gone"]) == 0  # it writes no value
+        if location.startswith("postgresql:"):
             with pytest.raises(sagas.MissingCodec):
-                async with sagas.Client(place):
+                async with sagas.Client(location):
                     pass
-        forget(place)
-        async with sagas.open(place, [made]) as store:
+        forget(location)
+        async with sagas.open(location, [made]) as store:
             assert (await store.wait("gone")).phase == "recovered"
             await store.complete("k", "ok")
             (one,) = await until(store.attention)
@@ -275,14 +278,14 @@ def test_a_forgotten_codec(place: str, capsys: pytest.CaptureFixture[str]) -> No
             with pytest.raises(sagas.CannotDecode, match="no codec"):
                 await store.start(made, "k", SECRET)
         assert calls == []
-        async with sagas.open(place, [made], codec=KNOWN) as store:
+        async with sagas.open(location, [made], codec=KNOWN) as store:
             assert (await store.wait("k", 60)).ok and calls == [SECRET]
 
     run(main())
 
 
 def test_nodes_and_clients_agree(url: str, caplog: pytest.LogCaptureFixture) -> None:
-    """No program with a codec comes to nodes without one, and none without one stays."""
+    """No program with a codec joins nodes without one, and no program without one stays."""
     kind = simple(lambda task: task.input)
     outside = sagas.Saga("outside")
     outside.approval(lambda task: None, name="ok")
@@ -314,7 +317,8 @@ def test_nodes_and_clients_agree(url: str, caplog: pytest.LogCaptureFixture) -> 
                 await client.complete("o", "ok", SECRET)
         forget(url)
         async with sagas.open(url, kinds, node="paused", lease=2.0) as store:
-            with contextlib.closing(admin.connect(url, "rw")) as link:  # while it slept, say
+            # while it slept, for example
+            with contextlib.closing(admin.connect(url, "rw")) as link:
                 link.changed(codec_note.NOTE)
             await until(lambda: "This node does nothing more" in caplog.text)
             await until(lambda: not store.holds())
@@ -323,21 +327,21 @@ def test_nodes_and_clients_agree(url: str, caplog: pytest.LogCaptureFixture) -> 
     assert holds_secret(url) == []
 
 
-def test_a_key_that_is_not_there(place: str, caplog: pytest.LogCaptureFixture) -> None:
-    """The attempt waits and is not counted as failed; it goes on with the key."""
+def test_a_missing_encryption_key(location: str, caplog: pytest.LogCaptureFixture) -> None:
+    """The attempt waits and does not count as failed; it continues with the key."""
 
     async def main() -> None:
         kind = shop()
-        async with sagas.open(place, [kind], codec=Encryption(a=OLD)) as store:
+        async with sagas.open(location, [kind], codec=Encryption(a=OLD)) as store:
             await store.start(kind, "k", Card(SECRET))
-            await until(lambda: asked(place))
-        async with sagas.open(place, [kind], codec=Encryption(b=NEW)) as store:
+            await until(lambda: approvals_pending(location))
+        async with sagas.open(location, [kind], codec=Encryption(b=NEW)) as store:
             with pytest.raises(sagas.CannotDecode, match="the codec could not decode it: KeyError"):
                 await store.start(kind, "k", Card(SECRET))
             await store.complete("k", "check", {"card": SECRET})
             (one,) = await until(store.attention)
             assert one.why is sagas.AttentionReason.CANNOT_DECODE and one.step == "send"
-        async with sagas.open(place, [kind], codec=Encryption(a=OLD, b=NEW)) as store:
+        async with sagas.open(location, [kind], codec=Encryption(a=OLD, b=NEW)) as store:
             assert (await store.wait("k", 60)).ok
 
     run(main())
@@ -345,7 +349,7 @@ def test_a_key_that_is_not_there(place: str, caplog: pytest.LogCaptureFixture) -
 
 
 def test_a_codec_that_fails(tmp_path: pathlib.Path, caplog: pytest.LogCaptureFixture) -> None:
-    """Nothing is begun; a result that cannot be encoded is kept as one that is no JSON."""
+    """No saga is started; a result that cannot be encoded is kept as one that is not JSON."""
     codec = Wrong()
 
     async def main() -> None:
@@ -369,7 +373,7 @@ def test_a_codec_that_fails(tmp_path: pathlib.Path, caplog: pytest.LogCaptureFix
 
 
 def test_a_client_and_a_worker(url: str) -> None:
-    """A client has the codec, too; workers over HTTP get and give plain values."""
+    """A client has the codec, too; workers over HTTP exchange plain values."""
     made = sagas.Saga("made")
     step = made.step(external=True, name="a")
     step.compensation(external=True)
@@ -397,14 +401,16 @@ def test_a_client_and_a_worker(url: str) -> None:
     assert holds_secret(url) == []
 
 
-def test_a_result_of_a_worker_is_never_plain(place: str) -> None:
-    """Not in the table of the store until its node takes it over, and not in a file behind it. The
-    same report again is one, and another one is refused."""
+def test_a_result_of_a_worker_is_never_plain(location: str) -> None:
+    """It is not plain in the store's table before its node takes it over, nor in a file after that.
+
+    The same report again is one, and another one is refused.
+    """
     made = sagas.Saga("made")
     made.step(external=True, name="a", undo=0)
 
     async def main() -> None:
-        store = sagas.open(place, [made], codec=Encryption(a=OLD))
+        store = sagas.open(location, [made], codec=Encryption(a=OLD))
         store.leased = True
         async with store:
             await store.start(made, "k", None)
@@ -432,14 +438,14 @@ def test_a_result_of_a_worker_is_never_plain(place: str) -> None:
             assert len(seen) == 4 and SECRET not in "".join(seen)
 
     run(main())
-    assert holds_secret(place) == []
-    if not place.startswith("postgresql:"):
-        for path in pathlib.Path(place).parent.glob("store.db*"):
+    assert holds_secret(location) == []
+    if not location.startswith("postgresql:"):
+        for path in pathlib.Path(location).parent.glob("store.db*"):
             assert SECRET.encode() not in path.read_bytes()
 
 
-def test_a_start_that_one_node_cannot_decode(url: str, monkeypatch: pytest.MonkeyPatch) -> None:
-    """It is left to a node that can: it holds up no other start, and can be aborted."""
+def test_a_start_that_a_node_cannot_decode(url: str, monkeypatch: pytest.MonkeyPatch) -> None:
+    """It is left to a node that can: it blocks no other start, and can be aborted."""
     monkeypatch.setattr(client_starts, "MANY", 2)
     kind = simple(lambda task: task.input)
     whole = Encryption(a=OLD, b=NEW)
@@ -463,7 +469,7 @@ def test_a_start_that_one_node_cannot_decode(url: str, monkeypatch: pytest.Monke
 
 
 def left(url: str) -> list[tuple[Any, ...]]:
-    """The starts that no node has."""
+    """Return the starts that no node has."""
     with contextlib.closing(admin.connect(url)) as link:
         return link.starts()
 
@@ -480,7 +486,7 @@ def test_in_a_test_without_a_store() -> None:
 
 
 def test_a_result_of_a_transaction_is_encoded_once(url: str, tmp_path: pathlib.Path) -> None:
-    """Also if its program was killed before it reported the step."""
+    """This holds also if its program was killed before it reported the step."""
     prepare(url)
     script = KILLED.format(url=url).replace(
         'node="killed"', f'node="killed", codec=test_codec.Encryption(a={OLD!r})'
@@ -515,9 +521,11 @@ DRIVER = """
 """
 
 
-def test_a_killed_programs_values_are_read(place: str, tmp_path: pathlib.Path) -> None:
-    """Whatever was on its way: what was begun has its input and its results."""
-    (file := tmp_path / "driver.py").write_text(textwrap.dedent(DRIVER.format(path=place, key=OLD)))
+def test_a_killed_programs_values_are_read(location: str, tmp_path: pathlib.Path) -> None:
+    """Whatever was in progress, each started saga has its input and its results."""
+    (file := tmp_path / "driver.py").write_text(
+        textwrap.dedent(DRIVER.format(path=location, key=OLD))
+    )
     path = f"{HERE.parent / 'src'}:{HERE}"
     environment = {**os.environ, "PYTHONPATH": path, "SAGAS_PROGRAM": program()}
     with subprocess.Popen(
@@ -529,13 +537,13 @@ def test_a_killed_programs_values_are_read(place: str, tmp_path: pathlib.Path) -
         process.kill()
 
     async def main() -> None:
-        async with sagas.open(place, [shop()], codec=Encryption(a=OLD), lease=2.0) as store:
-            found = await store.list(limit=200)
-            assert len(found) >= 30
-            for one in found:
+        async with sagas.open(location, [shop()], codec=Encryption(a=OLD), lease=2.0) as store:
+            listed = await store.list(limit=200)
+            assert len(listed) >= 30
+            for one in listed:
                 await store.complete(one.key, "check", {"card": SECRET})
-            for one in found:
+            for one in listed:
                 assert (await store.wait(one.key)).results["send"] == [SECRET]
 
     run(main())
-    assert holds_secret(place) == []
+    assert holds_secret(location) == []

@@ -1,4 +1,4 @@
-"""`sagas store`: what operators see and do, beside the running program and without one."""
+"""`sagas store`: what operators see and do, with a running program and without one."""
 
 from __future__ import annotations
 
@@ -26,7 +26,7 @@ import sagas
 from sagas.cli import audits, formatting, store_command
 from sagas.cli.snapshot import Snapshot
 from sagas.base import program, wording
-from sagas.inspection import wording as words
+from sagas.inspection import wording as value_wording
 from sagas.inspection import saga as one_saga
 from sagas.inspection.question import StoreReader
 from sagas.server import log_format
@@ -36,19 +36,19 @@ Json = dict[str, Any]
 
 
 class Shell:
-    """Runs the command on a store, and gives what it prints."""
+    """Run the command on a store, and return its output."""
 
     def __init__(self, path: str | pathlib.Path, capsys: pytest.CaptureFixture[str]) -> None:
         self.path, self.capsys = path, capsys
 
-    def __call__(self, *words: str, status: int = 0) -> str:
+    def __call__(self, *arguments: str, status: int = 0) -> str:
         self.capsys.readouterr()
-        assert store_command.main([str(self.path), *words]) == status
+        assert store_command.main([str(self.path), *arguments]) == status
         return self.capsys.readouterr().out
 
-    def json(self, *words: str, status: int = 0) -> Any:
-        """What it prints for programs."""
-        return json.loads(self(*words, "--json", status=status))
+    def json(self, *arguments: str, status: int = 0) -> Any:
+        """Return its output for programs."""
+        return json.loads(self(*arguments, "--json", status=status))
 
 
 class Screen(io.StringIO):
@@ -59,7 +59,7 @@ class Screen(io.StringIO):
 
 
 def shop() -> sagas.Saga:
-    """A saga that ends well, is stuck, or waits, by its input."""
+    """Return a saga that ends well, is stuck, or waits, by its input."""
     shop = sagas.Saga("shop")
 
     @shop.step
@@ -92,7 +92,7 @@ def shop() -> sagas.Saga:
 
 
 def signed() -> sagas.Saga:
-    """A saga that waits for an operator."""
+    """Return a saga that waits for an operator."""
     signed = sagas.Saga("signed")
 
     @signed.step
@@ -111,15 +111,16 @@ def signed() -> sagas.Saga:
 
 
 def held(path: str) -> list[tuple[Any, ...]]:
-    """What the store holds for an operator: keys and why."""
+    """Return what the store holds for an operator: keys and reasons."""
     with contextlib.closing(admin.connect(path)) as link:
         return link.ask(
-            "SELECT key, reason FROM suspensions JOIN sagas USING (id) WHERE reason = 'approval' OR reason = 'unknown' AND until IS NULL"
+            "SELECT key, reason FROM suspensions JOIN sagas USING (id) WHERE reason = 'approval' OR"
+            " reason = 'unknown' AND until IS NULL"
         )
 
 
 async def filled(path: str, store: sagas.Store, sagas_: list[sagas.Saga]) -> None:
-    """Starts one saga of each fate, and waits until each has met it."""
+    """Start one saga for each result, and wait until each has it."""
     shop, signed = sagas_
     for key, given in (("good", None), ("bad", "fails"), ("odd", "nobody knows")):
         await store.start(shop, key=key, input=given)
@@ -132,7 +133,7 @@ async def filled(path: str, store: sagas.Store, sagas_: list[sagas.Saga]) -> Non
 
 @pytest.fixture(scope="module", params=["sqlite", "postgresql"])
 def path(request: pytest.FixtureRequest, tmp_path_factory: pytest.TempPathFactory) -> str:
-    """A store that no program has open, over either database."""
+    """Return a store that no program has open, over either database."""
     in_file = request.param == "sqlite"
     path = (
         str(tmp_path_factory.mktemp("store") / "store.db")
@@ -151,12 +152,12 @@ def path(request: pytest.FixtureRequest, tmp_path_factory: pytest.TempPathFactor
 
 @pytest.fixture
 def shell(path: str, capsys: pytest.CaptureFixture[str]) -> Shell:
-    """The command on that store."""
+    """Return the command on that store."""
     return Shell(path, capsys)
 
 
 def test_list(shell: Shell) -> None:
-    """In order of their starts, by phase, by name, and page by page."""
+    """It lists sagas in order of their starts, by phase, by name, and page by page."""
     text = shell("list")
     assert text.splitlines()[0].split() == ["KEY", "SAGA", "PHASE", "STARTED", "ENDED"]
     assert [line.split()[:3] for line in text.splitlines()[1:3]] == [
@@ -186,7 +187,7 @@ def test_list(shell: Shell) -> None:
 
 
 def test_show(shell: Shell) -> None:
-    """A saga's steps, its plan and what it waits for."""
+    """It shows a saga's steps, its plan and what it waits for."""
     text = shell("show", "bad")
     assert (
         "phase    stuck" in text
@@ -199,30 +200,31 @@ def test_show(shell: Shell) -> None:
     assert shell("draw", "bad", "--svg").startswith("<svg") and shell.json("draw", "bad", "--svg")[
         "svg"
     ].endswith("</svg>")
-    told = shell.json("show", "good")
-    assert [(step["step"], step["state"], step["result"]) for step in told["steps"]] == [
+    reply = shell.json("show", "good")
+    assert [(step["step"], step["state"], step["result"]) for step in reply["steps"]] == [
         ("reserve", "committed", {"place": 17}),
         ("charge", "committed", "charged"),
     ]
     assert "an approval" in shell("show", "letter-1")
     assert [step["attempts"] for step in shell.json("show", "bad")["steps"]] == [1, 2]
     assert re.search(r"^STEP +STATE +TRIES +STARTED +ENDED +DETAIL$", text, re.M)
+    # of the saga, and of its steps
+    assert len(re.findall(r" \d{4}-\d\d-\d\d \d\d:\d\d:\d\dZ", text)) == 2 + 2 * 2
+    reserve, charge = reply["steps"]
     assert (
-        len(re.findall(r" \d{4}-\d\d-\d\d \d\d:\d\d:\d\dZ", text)) == 2 + 2 * 2
-    )  # of the saga, and of its steps
-    reserve, charge = told["steps"]
-    assert (
-        told["at"]
+        reply["at"]
         <= reserve["started"]
         <= reserve["ended"]
         <= charge["started"]
         <= charge["ended"]
-        <= told["ended"]
+        <= reply["ended"]
     )
 
 
 def test_log_and_plan(shell: Shell) -> None:
-    """As the store has them: the events with their times and what came of them, and the last plan with its certificate."""
+    """They are as the store has them: the events with their times and effects, and the last plan
+    with its certificate.
+    """
     events = shell.json("log", "bad")
     assert [(one["event"], one["step"]) for one in events[:3]] == [
         ("open", None),
@@ -245,7 +247,7 @@ def test_log_and_plan(shell: Shell) -> None:
 
 
 def test_counts_stuck_and_waiting(shell: Shell) -> None:
-    """How many there are, which are stuck and why, and what waits for an operator."""
+    """They show how many there are, which are stuck and why, and what needs an operator."""
     assert shell.json("stats") == {
         "sagas": {
             "shop": {"open": 1, "completed": 1, "recovered": 0, "stuck": 1, "resolved": 0},
@@ -272,15 +274,15 @@ def test_counts_stuck_and_waiting(shell: Shell) -> None:
 def test_audit_and_export(
     shell: Shell, path: str, tmp_path: pathlib.Path, capsys: pytest.CaptureFixture[str]
 ) -> None:
-    """Each log is audited; a saga is exported with its events; a line that is changed is found."""
+    """Each log is audited; a saga is exported with its events; a changed line is found."""
     assert all(log["good"] for log in shell.json("audit"))
-    told = shell.json("export", "bad")
-    assert [event["event"] for event in told["events"]][:3] == ["open", "start_run", "commit"]
-    assert [result["outcome"] for result in told["results"]] == [
+    exported = shell.json("export", "bad")
+    assert [event["event"] for event in exported["events"]][:3] == ["open", "start_run", "commit"]
+    assert [result["outcome"] for result in exported["results"]] == [
         "commit",
         "missed",
         "fail",
-    ] and told["definition"].startswith("format")
+    ] and exported["definition"].startswith("format")
     if path.startswith("postgresql:"):
         return
     spoilt = tmp_path / "spoilt.db"
@@ -296,19 +298,21 @@ def test_audit_and_export(
 
 
 def test_progress_on_a_terminal(path: str, monkeypatch: pytest.MonkeyPatch) -> None:
-    """What takes long says how far it has come, where somebody looks."""
+    """A long command prints its progress to a terminal."""
 
-    said = Screen()
-    monkeypatch.setattr("sys.stderr", said)
+    screen = Screen()
+    monkeypatch.setattr("sys.stderr", screen)
     assert store_command.main([path, "audit"]) == 0
-    assert re.findall(r"shards: \d+ of \d+", said.getvalue())[-1] == "shards: 1 of 1"
+    assert re.findall(r"shards: \d+ of \d+", screen.getvalue())[-1] == "shards: 1 of 1"
 
 
-def test_what_is_not_there(
+def test_missing_keys_and_files(
     shell: Shell, tmp_path: pathlib.Path, capsys: pytest.CaptureFixture[str]
 ) -> None:
-    """Keys and files that are not there, words that are no text, and files that are no store, change nothing."""
-    for words in (
+    """Keys and files that do not exist, arguments that are not text, and files that are not a store
+    change nothing.
+    """
+    for arguments in (
         ["show", "none"],
         ["show", "\udcff"],
         ["resolve", "\udcff", "--note", "\udcff"],
@@ -317,7 +321,7 @@ def test_what_is_not_there(
         ["resolve", "none", "--note", "x"],
         ["resolve", "good", "--note", "x"],
     ):
-        shell(*words, status=1)
+        shell(*arguments, status=1)
     none = tmp_path / "none.db"
     assert Shell(none, capsys)("list", status=4) == "" and not none.exists()
     none.write_text("no store")
@@ -329,8 +333,11 @@ def test_what_is_not_there(
     assert usage.value.code == 2
 
 
-def test_show_says_why(tmp_path: pathlib.Path, capsys: pytest.CaptureFixture[str]) -> None:
-    """What a step raised, and not that the tries behind it were given up; of a step that stands since its compensation failed, both."""
+def test_show_has_the_error(tmp_path: pathlib.Path, capsys: pytest.CaptureFixture[str]) -> None:
+    """It shows the error of a step, and not that the later tries were given up.
+
+    For a step that is kept since its compensation failed, it shows both.
+    """
     must = sagas.Saga("must")
 
     @must.step(keep=sagas.NEVER)
@@ -352,18 +359,27 @@ def test_show_says_why(tmp_path: pathlib.Path, capsys: pytest.CaptureFixture[str
             assert (await (await store.start(must, "k")).wait()).phase == "stuck"
 
     run(main())
-    told = (shell := Shell(path, capsys))("show", "k")
-    for words in (["abort", "k"], ["complete", "k", "take", "--undo"], ["fail", "k", "send", "x"]):
-        assert store_command.main([str(path), *words]) == 1
-        assert "k is stuck" in (said := capsys.readouterr().err) and "run `resolve`" in said
+    output = (shell := Shell(path, capsys))("show", "k")
+    for arguments in (
+        ["abort", "k"],
+        ["complete", "k", "take", "--undo"],
+        ["fail", "k", "send", "x"],
+    ):
+        assert store_command.main([str(path), *arguments]) == 1
+        assert "k is stuck" in (errors := capsys.readouterr().err) and "run `resolve`" in errors
     text = shell("plan", "k", "--text")
     checked = subprocess.run([program.path()], input=text, capture_output=True, text=True)
     assert (checked.stdout, checked.returncode) == ("blocked\n", 0)
     assert re.search(
-        r'take  undo failed +1  .*Z  .*Z  \{"called": false\}; its compensation: \{"error": "sagas.Fail: it is gone"',
-        told,
-    ), told
-    assert re.search(r'send  failed +1  .*Z  .*Z  \{"error": "sagas.Fail: no address"', told), told
+        (
+            r'take  undo failed +1  .*Z  .*Z  \{"called": false\}; its compensation: \{"error":'
+            r' "sagas.Fail: it is gone"'
+        ),
+        output,
+    ), output
+    assert re.search(
+        r'send  failed +1  .*Z  .*Z  \{"error": "sagas.Fail: no address"', output
+    ), output
     assert [step["state"] for step in Shell(path, capsys).json("show", "k")["steps"]] == [
         "undo_failed",
         "failed",
@@ -371,9 +387,11 @@ def test_show_says_why(tmp_path: pathlib.Path, capsys: pytest.CaptureFixture[str
 
 
 def test_texts_that_the_output_has_no_characters_for(
-    place: str, capsys: pytest.CaptureFixture[str], caplog: pytest.LogCaptureFixture
+    location: str, capsys: pytest.CaptureFixture[str], caplog: pytest.LogCaptureFixture
 ) -> None:
-    """Halves of pairs are printed escaped, and so is what is beyond ASCII where the output has no more than that; JSON has them all."""
+    """Halves of surrogate pairs are printed escaped, and so are characters beyond ASCII if the
+    output is ASCII; JSON has them all.
+    """
     caplog.set_level(logging.CRITICAL, "sagas")  # the tests' runner takes no halves of pairs
     odd = "half \ud800 of a pair, \N{PILE OF POO} and \xe9"
     saga, letter = sagas.Saga("odd"), signed()
@@ -391,15 +409,15 @@ def test_texts_that_the_output_has_no_characters_for(
         raise sagas.Fail(odd)
 
     async def main() -> None:
-        async with sagas.open(place, [saga, letter]) as store:
+        async with sagas.open(location, [saga, letter]) as store:
             assert (await (await store.start(saga, "k", odd)).wait()).phase == "stuck"
             await store.start(letter, "l", odd)
-            await until(lambda: held(place))
+            await until(lambda: held(location))
 
     run(main())
-    shell = Shell(place, capsys)
+    shell = Shell(location, capsys)
     shell("resolve", "k", "--note", odd)
-    for words in (
+    for arguments in (
         ["show", "k"],
         ["log", "k"],
         ["plan", "k"],
@@ -407,21 +425,21 @@ def test_texts_that_the_output_has_no_characters_for(
         ["draw", "k", "--svg"],
         ["show", "l"],
     ):
-        told = shell(*words)
-        assert words[0] in ("plan", "draw") or "\\ud800 of" in told, told
-        shell.json(*words)
-    for words in (["list"], ["pending"], ["stats"], ["stuck"]):
-        shell(*words)
+        output = shell(*arguments)
+        assert arguments[0] in ("plan", "draw") or "\\ud800 of" in output, output
+        shell.json(*arguments)
+    for arguments in (["list"], ["pending"], ["stats"], ["stuck"]):
+        shell(*arguments)
     assert shell.json("show", "k")["input"] == odd
     assert (
-        store_command.main([place, "complete", "l", odd]) == 1
+        store_command.main([location, "complete", "l", odd]) == 1
         and "\\ud800 of" in capsys.readouterr().err
     )
     plain = io.TextIOWrapper(io.BytesIO(), encoding="ascii")
     with contextlib.redirect_stdout(plain):
         assert (
-            store_command.main([place, "show", "k"]) == 0
-            and store_command.main([place, "show", "k", "--json"]) == 0
+            store_command.main([location, "show", "k"]) == 0
+            and store_command.main([location, "show", "k", "--json"]) == 0
         )
     plain.seek(0)
     text, _, rest = plain.read().partition("\n{")
@@ -431,9 +449,13 @@ def test_texts_that_the_output_has_no_characters_for(
 def test_no_text_adds_a_line_or_moves_a_cursor(
     tmp_path: pathlib.Path, capsys: pytest.CaptureFixture[str]
 ) -> None:
-    """What callers, workers, functions and operators say: a terminal obeys none of it, each table has a line a row, and JSON has it as it is."""
+    """Texts come from callers, workers, functions and operators.
+
+    A terminal executes none of them, each table has one line per row, and JSON has the text
+    unchanged.
+    """
     odd = "part\n40\x1b[1A\x1b[2K\x1b]0;x\x07\x7f\x9b31m\u202e"
-    far, letter, place = sagas.Saga("far"), signed(), str(tmp_path / "store.db")
+    far, letter, location = sagas.Saga("far"), signed(), str(tmp_path / "store.db")
     far.step(name="car", external=True, undo=0)
 
     @far.step(tries=1, on_exhausted="ask")
@@ -446,7 +468,7 @@ def test_no_text_adds_a_line_or_moves_a_cursor(
         raise sagas.Fail(odd)
 
     async def main() -> None:
-        store = sagas.open(place, [far, letter, must])
+        store = sagas.open(location, [far, letter, must])
         store.leased = True
         async with store:
             await store.start(far, "far", odd)
@@ -468,22 +490,28 @@ def test_no_text_adds_a_line_or_moves_a_cursor(
             await store.fail("letter", "sign", odd, by=odd, note=odd)
             await store.wait("letter")
 
-    shell = Shell(place, capsys)
+    shell = Shell(location, capsys)
     run(main())
 
-    def printed(*words: str) -> str:
-        told = shell(*words)
-        assert all(line.isprintable() for line in told.split("\n")), (words, told)
-        return told
+    def printed(*arguments: str) -> str:
+        output = shell(*arguments)
+        assert all(line.isprintable() for line in output.split("\n")), (arguments, output)
+        return output
 
-    for words in (["pending"], ["attention"], ["log", "letter"], ["log", "bad"], ["log", "good"]):
-        told = printed(*words)
+    for arguments in (
+        ["pending"],
+        ["attention"],
+        ["log", "letter"],
+        ["log", "bad"],
+        ["log", "good"],
+    ):
+        output = printed(*arguments)
         assert (
-            told.count("\n") == 1 + len(json.loads(printed(*words, "--json")))
-            and "\\x1b[2K" in told
-        ), told
-    for words in (["show", "far"], ["show", "bad"], ["show", "good"], ["draw", "far", "--svg"]):
-        assert "\\x1b[2K" in printed(*words) and printed(*words, "--json")
+            output.count("\n") == 1 + len(json.loads(printed(*arguments, "--json")))
+            and "\\x1b[2K" in output
+        ), output
+    for arguments in (["show", "far"], ["show", "bad"], ["show", "good"], ["draw", "far", "--svg"]):
+        assert "\\x1b[2K" in printed(*arguments) and printed(*arguments, "--json")
     assert "\nnote     part 40\\x1b[1A" in printed("show", "bad") and printed("export", "bad")
     shown, exported = shell.json("show", "far"), shell.json("export", "far")
     assert (
@@ -492,12 +520,16 @@ def test_no_text_adds_a_line_or_moves_a_cursor(
         and shell.json("show", "bad")["note"] == odd
     )
     assert shown.pop("plan") is None and shown.items() <= exported.items()
-    assert store_command.main([place, "show", "a\nb \x1b[2K"]) == 1
+    assert store_command.main([location, "show", "a\nb \x1b[2K"]) == 1
     assert capsys.readouterr().err == "sagas store: no saga has the key a b \\x1b[2K\n"
 
 
-def test_a_compensation_that_failed_is_seen(place: str, capsys: pytest.CaptureFixture[str]) -> None:
-    """Those that ended with it are listed and counted, and told of as `undo failed`, with what was raised; programs get the word of the rules."""
+def test_a_compensation_that_failed_is_seen(
+    location: str, capsys: pytest.CaptureFixture[str]
+) -> None:
+    """Such sagas are listed and counted, and shown as `undo failed`, with the error; programs get
+    the word of the rules.
+    """
     row = sagas.Saga("row")
 
     @row.step(keep=5)
@@ -514,13 +546,11 @@ def test_a_compensation_that_failed_is_seen(place: str, capsys: pytest.CaptureFi
         raise sagas.Fail("no address")
 
     async def main() -> None:
-        async with sagas.open(place, [row]) as store:
+        async with sagas.open(location, [row]) as store:
             end = await (await store.start(row, "bad", "gone")).wait()
-            assert end.states[
-                "take"
-            ] == "undo_failed" and "\n  undo failed take: sagas.Fail: it is gone\n  failed      send:" in str(
-                end
-            )
+            assert end.states["take"] == "undo_failed"
+            lines = "\n  undo failed take: sagas.Fail: it is gone\n  failed      send:"
+            assert lines in str(end)
             assert re.search(r"take  undo failed +5 +never  stands", str(await store.plan("bad")))
             await (await store.start(row, "undone")).wait()
             listed = [(one.key, one.phase, one.undo_failed) for one in await store.list()]
@@ -528,13 +558,13 @@ def test_a_compensation_that_failed_is_seen(place: str, capsys: pytest.CaptureFi
             assert [one.key for one in await store.list(phase="undo_failed")] == ["bad"]
 
     run(main())
-    shell = Shell(place, capsys)
+    shell = Shell(location, capsys)
     assert [
         (one["key"], one["undo_failed"]) for one in shell.json("list", "--phase", "undo_failed")
     ] == [("bad", True)]
     assert "recovered, undo failed" in shell("list")
-    told = shell.json("stats")
-    assert told["undo_failed"] == 1 and "list --phase undo_failed" in shell("stats")
+    counts = shell.json("stats")
+    assert counts["undo_failed"] == 1 and "list --phase undo_failed" in shell("stats")
     assert shell.json("stuck") == [] and "1 ended with a permanently failed compensation" in shell(
         "stuck"
     )
@@ -543,28 +573,28 @@ def test_a_compensation_that_failed_is_seen(place: str, capsys: pytest.CaptureFi
     ) and "phase    recovered\n" in shell("show", "undone")
     shell("resolve", "bad", "--note", "it was found")
     for key, phase in (("undone", "recovered"), ("bad", "resolved")):
-        assert store_command.main([place, "abort", key]) == 1
+        assert store_command.main([location, "abort", key]) == 1
         assert (
             capsys.readouterr().err
             == f"sagas store: {key} has ended ({phase}), so there is nothing to abort\n"
         )
 
 
-def test_a_log_says_who_did_what_and_why(
-    place: str, capsys: pytest.CaptureFixture[str], monkeypatch: pytest.MonkeyPatch
+def test_the_log_names_operators_and_their_reasons(
+    location: str, capsys: pytest.CaptureFixture[str], monkeypatch: pytest.MonkeyPatch
 ) -> None:
-    """Of what an operator did, also of what was refused; texts are cut for terminals alone."""
+    """It has each action of an operator, also a refused one; only a terminal cuts the texts."""
     kind, why, shell = (
         signed(),
         f"the customer {'who is well known ' * 9}called",
-        Shell(place, capsys),
+        Shell(location, capsys),
     )
 
     async def main() -> None:
-        async with sagas.open(place, [kind]) as store:
+        async with sagas.open(location, [kind]) as store:
             for key in ("agreed", "not", "twice"):
                 await store.start(kind, key)
-            await until(lambda: len(held(place)) == 3)
+            await until(lambda: len(held(location)) == 3)
             await store.complete("agreed", "sign", {"long": why}, by="ann", note="known customer")
             await asyncio.to_thread(shell, "fail", "not", "sign", why)
             await asyncio.to_thread(
@@ -581,13 +611,16 @@ def test_a_log_says_who_did_what_and_why(
         ("not", f"fail: {why}"),
         (
             "twice",
-            r"complete (undo): no letter (refused: saga 'twice', step 'write': it has not started. Report it after it starts)",
+            (
+                r"complete (undo): no letter (refused: saga 'twice', step 'write': it has not"
+                r" started. Report it after it starts)"
+            ),
         ),
         ("twice", "complete: as agreed (no answer yet)"),
     ):
         assert f"  {line}\n" in shell("log", key)
     monkeypatch.setattr("sys.stdout", screen := Screen())
-    assert store_command.main([place, "log", "not"]) == 0
+    assert store_command.main([location, "log", "not"]) == 0
     assert (
         re.search(r"Z  note +sign +fail: the customer who .*\.\.\.\n", screen.getvalue())
         and why not in screen.getvalue()
@@ -598,57 +631,57 @@ def test_a_far_time_hides_nothing(
     tmp_path: pathlib.Path, capsys: pytest.CaptureFixture[str]
 ) -> None:
     """An approval may wait for longer than any calendar has days."""
-    kind, place = sagas.Saga("patient"), str(tmp_path / "store.db")
+    kind, location = sagas.Saga("patient"), str(tmp_path / "store.db")
     kind.approval(name="sign", timeout=datetime.timedelta.max)(lambda task: None)
 
     async def main() -> None:
-        async with sagas.open(place, [kind, soon := signed()]) as store:
+        async with sagas.open(location, [kind, soon := signed()]) as store:
             await store.start(kind, "far")
             await store.start(soon, "near")
-            await until(lambda: len(held(place)) == 2)
+            await until(lambda: len(held(location)) == 2)
 
     run(main())
-    shell = Shell(place, capsys)
+    shell = Shell(location, capsys)
     assert {line.split()[0] for line in shell("pending").splitlines()} == {"KEY", "far", "near"}
     assert "an approval" in shell("show", "far") and shell.json("pending")[0]["until"] > 1e12
 
 
-def test_wrong_words_of_lists(place: str, capsys: pytest.CaptureFixture[str]) -> None:
-    """They have the status 2 and a line; and the words to go on with are as a shell takes them."""
+def test_invalid_arguments_of_lists(location: str, capsys: pytest.CaptureFixture[str]) -> None:
+    """The status is 2, with one line; the arguments for the next page are quoted for a shell."""
     kind = simple(lambda task: None)
 
     async def main() -> None:
-        async with sagas.open(place, [kind]) as store:
+        async with sagas.open(location, [kind]) as store:
             for key in ("a b", "-c"):
                 await ended(store, kind, key)
 
     run(main())
     for command in ("list", "attention", "deliveries"):
-        assert store_command.main([place, command, "--limit", "0"]) == 0
+        assert store_command.main([location, command, "--limit", "0"]) == 0
         for value in ("-1", "9" * 20, "x"):
             with pytest.raises(SystemExit) as usage:
-                store_command.main([place, command, "--limit", value])
+                store_command.main([location, command, "--limit", value])
             assert (
                 usage.value.code == 2
                 and f"argument --limit: invalid value '{value}': use an integer from 0 to"
                 in capsys.readouterr().err
             )
-    assert store_command.main([place, "list", "--label", "x="]) == 2
+    assert store_command.main([location, "list", "--label", "x="]) == 2
     assert capsys.readouterr().err.startswith("sagas store: --label: label 'x': '': ")
     with pytest.raises(SystemExit):
-        store_command.main([place, "abort", "a b", "--timeout", "nan"])
+        store_command.main([location, "abort", "a b", "--timeout", "nan"])
     assert "argument --timeout: invalid value 'nan'" in capsys.readouterr().err
-    words, keys = ["--limit", "1"], list[str]()
+    arguments, keys = ["--limit", "1"], list[str]()
     for _ in range(2):
-        assert store_command.main([place, "list", "--json", *words]) == 0
-        told = capsys.readouterr()
-        keys += [one["key"] for one in json.loads(told.out)]
-        line = told.err.removeprefix("there may be more: continue with ")
-        words = [*shlex.split(line), "--limit", "1"]
+        assert store_command.main([location, "list", "--json", *arguments]) == 0
+        printed = capsys.readouterr()
+        keys += [one["key"] for one in json.loads(printed.out)]
+        line = printed.err.removeprefix("there may be more: continue with ")
+        arguments = [*shlex.split(line), "--limit", "1"]
     assert (
         keys == ["a b", "-c"]
         and line == "--after=-c\n"
-        and store_command.main([place, "list", *words]) == 0
+        and store_command.main([location, "list", *arguments]) == 0
     )
 
 
@@ -656,95 +689,103 @@ FULL = "sagas store: cannot write the output or a temporary file: No space left 
 
 
 def test_an_output_that_takes_nothing(tmp_path: pathlib.Path) -> None:
-    """Status 4, and of a disk that is full a line that says so; a pipe whose reader has ended needs none."""
+    """The status is 4, with a line for a full disk; for a pipe whose reader has ended there is
+    none.
+    """
     with sagas.open_sync(
-        place := str(tmp_path / "store.db"), [kind := simple(lambda task: None)]
+        location := str(tmp_path / "store.db"), [kind := simple(lambda task: None)]
     ) as store:
         store.start(kind, "k").wait()
     there, pipe = os.pipe()
     os.close(there)
     with open("/dev/full", "wb") as full, open(pipe, "wb") as broken:
-        for output, words, line in (
+        for output, arguments, line in (
             (full, ["list"], FULL),
             (full, ["export", "k"], FULL),
             (broken, ["list", "--json"], ""),
         ):
-            told = [sys.executable, "-m", "sagas", "store", place, *words]
+            command = [sys.executable, "-m", "sagas", "store", location, *arguments]
             done = subprocess.run(
-                told, stdout=output, stderr=subprocess.PIPE, text=True, env=environment()
+                command, stdout=output, stderr=subprocess.PIPE, text=True, env=environment()
             )
             assert (done.returncode, done.stderr) == (4, line)
 
 
-def test_errors_that_nobody_reads(
+def test_errors_with_a_closed_standard_error(
     path: str, capsys: pytest.CaptureFixture[str], monkeypatch: pytest.MonkeyPatch
 ) -> None:
-    """Where standard error is closed, the status says it alone: no error is printed between the answers."""
-    for words, status in (["audit"], 0), (["show", "none"], 1), (["list", "--limit", "1"], 0):
+    """If standard error is closed, only the status reports the error: it is not printed between the
+    output.
+    """
+    for arguments, status in (["audit"], 0), (["show", "none"], 1), (["list", "--limit", "1"], 0):
         monkeypatch.setattr("sys.stderr", None)
-        assert store_command.main([path, *words, "--json"]) == status
-        told = capsys.readouterr().out
-        assert bool(json.loads(told) if told else None) == (status == 0)
+        assert store_command.main([path, *arguments, "--json"]) == status
+        output = capsys.readouterr().out
+        assert bool(json.loads(output) if output else None) == (status == 0)
 
 
-def test_beside_the_running_program(place: str, capsys: pytest.CaptureFixture[str]) -> None:
-    """abort, finish and resolve, while the program has the store open: it does what is asked, and the command says so."""
-    path, kinds = place, [shop(), signed()]
+def test_commands_while_the_program_runs(location: str, capsys: pytest.CaptureFixture[str]) -> None:
+    """abort, finish and resolve while the program has the store open: it executes them, and the
+    command says so.
+    """
+    path, kinds = location, [shop(), signed()]
     shell = Shell(path, capsys)
 
     async def main() -> None:
         async with sagas.open(path, kinds) as store:
             await filled(path, store, kinds)
 
-            async def beside(*words: str, status: int = 0) -> str:
-                return await asyncio.to_thread(shell, *words, status=status)
+            async def concurrently(*arguments: str, status: int = 0) -> str:
+                return await asyncio.to_thread(shell, *arguments, status=status)
 
-            assert "aborted" in await beside("abort", "letter-1", "--note", "written twice")
+            assert "aborted" in await concurrently("abort", "letter-1", "--note", "written twice")
             end = await store.wait("letter-1")
             assert end.aborted and end.states["write"] == "undone"
-            assert "phase    recovered, aborted" in await beside("show", "letter-1")
+            assert "phase    recovered, aborted" in await concurrently("show", "letter-1")
             with contextlib.closing(StoreReader(store.reader())) as looks:
                 assert [
                     (note.what, note.told, note.answer)
                     for note in looks.ask(one_saga.notes("letter-1"))
                 ] == [("abort", {"note": "written twice"}, True)]
-            assert (
-                await beside("abort", "letter-1", status=1) == ""
-            )  # it is over, and nobody is asked
-            assert "succeeded" in await beside(
+            # it is over, and needs no operator
+            assert await concurrently("abort", "letter-1", status=1) == ""
+            assert "succeeded" in await concurrently(
                 "complete", "letter-2", "sign", "--result", '"signed"'
             )
             assert (await store.wait("letter-2")).results["sign"] == "signed"
-            assert "failed" in await beside("fail", "odd", "charge", "it was not charged")
-            await beside("complete", "good", "charge", status=1)
-            assert "resolved" in await beside("resolve", "bad", "--note", "paid in cash")
-            assert await beside(
+            assert "failed" in await concurrently("fail", "odd", "charge", "it was not charged")
+            await concurrently("complete", "good", "charge", status=1)
+            assert "resolved" in await concurrently("resolve", "bad", "--note", "paid in cash")
+            assert await concurrently(
                 "stuck"
-            ) == "KEY  SAGA  STUCK SINCE  BECAUSE\n" or "bad" not in await beside("stuck")
+            ) == "KEY  SAGA  STUCK SINCE  BECAUSE\n" or "bad" not in await concurrently("stuck")
 
     run(main())
 
 
-def test_finish_says_what_is_wrong(place: str, capsys: pytest.CaptureFixture[str]) -> None:
-    """On standard error, without an error's name: a step that has not begun, one that is over, a name that is misspelt, a text that is no JSON."""
-    path, kinds = place, [shop(), signed()]
+def test_errors_of_finish(location: str, capsys: pytest.CaptureFixture[str]) -> None:
+    """It reports on standard error, without an error's name: a step that has not started, a
+    finished one, a misspelt name, a text that is not JSON.
+    """
+    path, kinds = location, [shop(), signed()]
 
-    def finish(*words: str, status: int = 1) -> str:
-        assert store_command.main([path, "complete", *words]) == status
-        told = capsys.readouterr()
-        assert told.out == ""
-        return told.err
+    def finish(*arguments: str, status: int = 1) -> str:
+        assert store_command.main([path, "complete", *arguments]) == status
+        printed = capsys.readouterr()
+        assert printed.out == ""
+        return printed.err
 
     async def main() -> None:
         async with sagas.open(path, kinds) as store:
             await filled(path, store, kinds)
-            asked = functools.partial(asyncio.to_thread, finish)
+            finish_in_thread = functools.partial(asyncio.to_thread, finish)
             over = "it has succeeded. This is a different outcome, and the first one counts"
-            wrong = await asked("letter-1", "write")
+            wrong = await finish_in_thread("letter-1", "write")
             assert wrong == f"sagas store: saga 'letter-1', step 'write': {over}\n"
             assert (
-                await asked("letter-1", "write", "--undo")
-                == "sagas store: saga 'letter-1', step 'write': it has not started. Report it after it starts\n"
+                await finish_in_thread("letter-1", "write", "--undo")
+                == "sagas store: saga 'letter-1', step 'write': it has not started. Report it after"
+                " it starts\n"
             )
             with pytest.raises(
                 sagas.StepNotWaiting,
@@ -753,30 +794,34 @@ def test_finish_says_what_is_wrong(place: str, capsys: pytest.CaptureFixture[str
                 await store.complete("letter-1", "sing")
 
     run(main())
+    # also while no program runs
     assert (
         finish("letter-1", "sing")
         == "sagas store: saga 'letter-1' has no step 'sing'; did you mean 'sign'?\n"
-    )  # also while no program runs
+    )
     assert "not JSON" in finish("letter-1", "sign", "--result", "yes", status=2)
     store_command.main([path, "complete", "letter-1", "sign", "--result", "yes"])
     assert """Quote a string: '"yes"'""" in capsys.readouterr().err
-    for command, told in ("complete", "to approve it"), (
+    for command, message in ("complete", "to approve it"), (
         "retry",
         "\n  1    no saga or step has the name, or",
     ):
         with pytest.raises(SystemExit):
             store_command.main([path, command, "--help"])
-        assert told in capsys.readouterr().out
+        assert message in capsys.readouterr().out
 
 
 def test_many_stuck_sagas_are_resolved_at_once(
-    place: str, capsys: pytest.CaptureFixture[str]
+    location: str, capsys: pytest.CaptureFixture[str]
 ) -> None:
-    """By their keys, or each that nobody has resolved; those that are not stuck are told, and the others are resolved all the same."""
-    shell = Shell(place, capsys)
+    """They are given by their keys, or all unresolved ones.
+
+    Sagas that are not stuck are reported, and the others are resolved anyway.
+    """
+    shell = Shell(location, capsys)
 
     async def main() -> None:
-        async with sagas.open(place, [kind := shop()]) as store:
+        async with sagas.open(location, [kind := shop()]) as store:
             for number in range(5):
                 await store.start(kind, key=f"bad-{number}", input="fails")
             await store.start(kind, key="good")
@@ -801,13 +846,13 @@ def test_many_stuck_sagas_are_resolved_at_once(
         "resolved": 5,
     }
     assert "paid in cash" in shell("show", "bad-0")
-    for words in ([], ["bad-0", "--all"], ["good", "--count"]):
-        shell("resolve", *words, "--note", "x", status=2)
+    for arguments in ([], ["bad-0", "--all"], ["good", "--count"]):
+        shell("resolve", *arguments, "--note", "x", status=2)
 
 
-def test_without_a_program(place: str, capsys: pytest.CaptureFixture[str]) -> None:
-    """What is asked while no program has the store open is done by the next one."""
-    path, kinds = place, [shop(), signed()]
+def test_without_a_program(location: str, capsys: pytest.CaptureFixture[str]) -> None:
+    """Requests that come while no program has the store open are executed by the next one."""
+    path, kinds = location, [shop(), signed()]
     shell = Shell(path, capsys)
 
     async def first() -> None:
@@ -829,12 +874,14 @@ def test_without_a_program(place: str, capsys: pytest.CaptureFixture[str]) -> No
     )
 
 
-def test_words_for_people() -> None:
-    """Times are in UTC, by the same form in the command, on the page and in the service's log; one of a thing is one."""
+def test_times_and_counts_in_words() -> None:
+    """Times are in UTC, in the same form in the command, on the page and in the service's log; a
+    count of one has the singular.
+    """
     record = logging.LogRecord("sagas", logging.INFO, "", 0, "said", None, None)
     record.created, record.msecs = 86400.0, 7
-    assert formatting.moment(86400.0) == words.clock(86400.0) == "1970-01-02 00:00:00Z"
-    assert formatting.moment(1e15) == words.clock(1e15) and formatting.moment(None) == ""
+    assert formatting.moment(86400.0) == value_wording.clock(86400.0) == "1970-01-02 00:00:00Z"
+    assert formatting.moment(1e15) == value_wording.clock(1e15) and formatting.moment(None) == ""
     assert (
         log_format.Text("%(asctime)s %(message)s").format(record) == "1970-01-02 00:00:00.007Z said"
     )
@@ -850,11 +897,13 @@ def test_words_for_people() -> None:
 
 
 FORGED = {
-    "UPDATE sagas SET phase = CASE key WHEN 'good' THEN 'stuck' ELSE 'ended' END WHERE key IN ('good', 'bad')": [
+    "UPDATE sagas SET phase = CASE key WHEN 'good' THEN 'stuck' ELSE 'ended' END"
+    " WHERE key IN ('good', 'bad')": [
         "good: the row says stuck, the events say completed",
         "bad: the row says completed, the events say stuck",
     ],
-    "UPDATE sagas SET phase = 'ended', outcome = (SELECT outcome FROM sagas WHERE key = 'good') WHERE key = 'bad'": [
+    "UPDATE sagas SET phase = 'ended',"
+    " outcome = (SELECT outcome FROM sagas WHERE key = 'good') WHERE key = 'bad'": [
         "bad: the row says completed, the events say stuck"
     ],
     "UPDATE sagas SET outcome = replace(outcome, 'committed', 'undone') WHERE key = 'good'": [
@@ -869,58 +918,59 @@ FORGED = {
     "UPDATE sagas SET definition_index = 7 WHERE key = 'odd'": [
         "odd: the row has definition 7, the events 0"
     ],
-    "UPDATE attempts SET event = 'missed' WHERE id = (SELECT id FROM sagas WHERE key = 'bad') AND event = 'fail'": [
+    "UPDATE attempts SET event = 'missed'"
+    " WHERE id = (SELECT id FROM sagas WHERE key = 'bad') AND event = 'fail'": [
         "bad: charge, run 2: the row says missed, the events fail"
     ],
     "DELETE FROM attempts WHERE id = (SELECT id FROM sagas WHERE key = 'good')": [
         "good: reserve, run 1: the row says nothing, the events commit",
         "good: charge, run 1: the row says nothing, the events commit",
     ],
-    "INSERT INTO attempts SELECT id, 1, 'undo', 1, 'undone', NULL, 0 FROM sagas WHERE key = 'good'": [
-        "good: charge, undo 1: the row says undone, the events nothing"
-    ],
+    "INSERT INTO attempts SELECT id, 1, 'undo', 1, 'undone', NULL, 0 FROM sagas"
+    " WHERE key = 'good'": ["good: charge, undo 1: the row says undone, the events nothing"],
     "DELETE FROM sagas WHERE key = 'letter-1'": ["saga 3: has events but no row"],
     "INSERT INTO attempts SELECT id, 1, 'undo', 1, 'ok', NULL, 0 FROM sagas WHERE key = 'good'": [
         "good: charge, undo 1: the row says ok, the events nothing"
     ],
-    "INSERT INTO attempts SELECT id, 1, 'run', 1, 'ok', NULL, 0 FROM sagas WHERE key = 'odd'": [],  # as of a transaction that nobody has reported
+    # as of a transaction that no program has reported
+    "INSERT INTO attempts SELECT id, 1, 'run', 1, 'ok', NULL, 0 FROM sagas WHERE key = 'odd'": [],
     "UPDATE attempts SET value = 'null'": [],
 }
-"""What is done to the rows of a store, and what the audit says of it."""
+"""Changes of the rows of a store, and the audit's report of each."""
 
 
 def test_rows_that_differ_from_the_events(
     path: str, tmp_path: pathlib.Path, capsys: pytest.CaptureFixture[str]
 ) -> None:
-    """The audit names each saga and each attempt of which the rows say something else; a value is in the rows alone."""
+    """The audit names each saga and each attempt whose rows differ; a value is only in the rows."""
     if path.startswith("postgresql:"):
         return
-    for place, (statement, told) in enumerate(FORGED.items()):
-        copy = tmp_path / f"{place}.db"
+    for number, (statement, differences) in enumerate(FORGED.items()):
+        copy = tmp_path / f"{number}.db"
         with contextlib.closing(sqlite3.connect(path)) as source, contextlib.closing(
             sqlite3.connect(copy)
         ) as forged:
             source.backup(forged)
             forged.execute(statement)
             forged.commit()
-        (log,) = (forger := Shell(copy, capsys)).json("audit", status=1 if told else 0)
-        assert log["differences"] == told and log["audit"].startswith("yes"), statement
-        assert forger("audit", status=1 if told else 0).splitlines()[2:] == [
-            f"shard 0: {line}" for line in told
+        (log,) = (forger := Shell(copy, capsys)).json("audit", status=1 if differences else 0)
+        assert log["differences"] == differences and log["audit"].startswith("yes"), statement
+        assert forger("audit", status=1 if differences else 0).splitlines()[2:] == [
+            f"shard 0: {line}" for line in differences
         ]
 
 
-def test_an_audit_of_what_is_being_written(place: str) -> None:
-    """Rows and events are of one moment, at each of them."""
+def test_an_audit_during_writes(location: str) -> None:
+    """Rows and events are of the same moment, at each of them."""
     kind = shop()
 
     def differences() -> list[audits.ShardAudit]:
-        with Snapshot(place) as store:
+        with Snapshot(location) as store:
             judged = [audits.audit_shard(store, log) for log, _, _ in store.rows(audits.SHARDS)]
         return [one for one in judged if not one.is_good]
 
     async def main() -> None:
-        async with sagas.open(place, [kind]) as store:
+        async with sagas.open(location, [kind]) as store:
             work = asyncio.gather(
                 *(
                     ended(store, kind, f"k{number}", "fails" if number % 3 else None)

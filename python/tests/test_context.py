@@ -1,4 +1,4 @@
-"""`context=` of a store: who gets it, when it is entered and left, and what is wrong with one."""
+"""`context=` of a store: which functions get it, when it is entered and left, and its errors."""
 
 from __future__ import annotations
 
@@ -21,19 +21,19 @@ from sagas.definition.task import TaskSnapshot
 
 
 class Clients:
-    """What functions share; each use of it is told."""
+    """An object that functions share; it notes each use."""
 
     def __init__(self) -> None:
-        self.told: list[str] = []
+        self.uses: list[str] = []
         self.is_open = True
 
     def use(self, task: Task) -> None:
         assert self.is_open
-        self.told.append(f"{task.step}{' undo' if task.is_compensation else ''}")
+        self.uses.append(f"{task.step}{' undo' if task.is_compensation else ''}")
 
 
 def shop(inside: bool) -> sagas.Saga:
-    """Each way in which a function is called."""
+    """Return a saga with each way in which a function is called."""
     shop = sagas.Saga("shop")
 
     @shop.step(undo=1, keep=5)
@@ -77,11 +77,11 @@ USES = ["simple", "plain", "timed", "within", "pause", "pause", "ask", "simple u
 
 
 def factories(clients: Clients) -> dict[str, Any]:
-    """Each form of a context."""
+    """Return each form of a context."""
 
     @contextlib.asynccontextmanager
     async def later() -> AsyncIterator[Clients]:
-        async with asyncio.TaskGroup(), asyncio.timeout(60):  # both ask for one task
+        async with asyncio.TaskGroup(), asyncio.timeout(60):  # [later()] both request one task
             yield clients
         clients.is_open = False
 
@@ -101,65 +101,69 @@ def factories(clients: Clients) -> dict[str, Any]:
 
 
 @pytest.mark.parametrize("form", ["object", "async", "plain", "class"])
-def test_each_function_gets_it_and_it_is_left_behind_the_last(place: str, form: str) -> None:
-    """However it is called: simple, in a thread, in its time, in a transaction, as a compensation."""
+def test_each_function_gets_the_context(location: str, form: str) -> None:
+    """However it is called: plain, in a thread, in its time, in a transaction, as a
+    compensation.
+    """
     clients = Clients()
-    saga, context = shop(inside=place.startswith("postgresql")), factories(clients)[form]
+    saga, context = shop(inside=location.startswith("postgresql")), factories(clients)[form]
 
     async def main() -> None:
-        async with sagas.open(place, [saga], context=context) as store:
+        async with sagas.open(location, [saga], context=context) as store:
             assert (await ended(store, saga)).phase == "recovered"
             assert clients.is_open
         assert clients.is_open is (form == "object")
 
     run(main())
-    assert clients.told == USES
+    assert clients.uses == USES
     clients = Clients()
     trial = sagas.testing.run(
         saga if form == "object" else shop(False), context=factories(clients)[form]
     )
-    assert trial.phase == "recovered" and clients.told == USES
+    assert trial.phase == "recovered" and clients.uses == USES
 
 
-def test_a_store_without_async_opens_and_closes_it_in_one_task(place: str) -> None:
+def test_a_store_without_async_opens_and_closes_it_in_one_task(location: str) -> None:
     """Its calls come from other tasks of the loop; a task group would refuse that."""
     clients = Clients()
     saga = shop(inside=False)
-    with sagas.open_sync(place, [saga], context=factories(clients)["async"]) as store:
+    with sagas.open_sync(location, [saga], context=factories(clients)["async"]) as store:
         assert store.start(saga, "k").wait(60).phase == "recovered"
-    assert not clients.is_open and clients.told == USES
+    assert not clients.is_open and clients.uses == USES
 
 
-def test_it_is_made_anew_for_what_goes_on(place: str) -> None:
-    """It is there before the first function of a saga that is taken up is called, and while functions end."""
-    saga, told = sagas.Saga("again"), list[str]()
+def test_the_context_is_entered_again_after_a_restart(location: str) -> None:
+    """It exists before the first function of a recovered saga is called, and while
+    functions end.
+    """
+    saga, steps = sagas.Saga("again"), list[str]()
 
     @contextlib.asynccontextmanager
     async def made() -> AsyncIterator[list[str]]:
-        told.append("enter")
-        yield told
-        told.append("leave")
+        steps.append("enter")
+        yield steps
+        steps.append("leave")
 
     @saga.step(tries=2, backoff=HOUR)
     async def slow(task: Task) -> None:
         task.context.append("begin")
-        await asyncio.sleep(0.05 if len(told) < 4 else 0)
+        await asyncio.sleep(0.05 if len(steps) < 4 else 0)
         task.context.append("end")
 
     async def main() -> None:
-        async with sagas.open(place, [saga], context=made) as store:
+        async with sagas.open(location, [saga], context=made) as store:
             await store.start(saga, "k")
-            await until(lambda: "begin" in told)
-        async with sagas.open(place, [saga], context=made) as store:
+            await until(lambda: "begin" in steps)
+        async with sagas.open(location, [saga], context=made) as store:
             await store.wait("k")
             await ended(store, saga, "again")
 
     run(main())
-    assert told == ["enter", "begin", "end", "leave", "enter", "begin", "end", "leave"]
+    assert steps == ["enter", "begin", "end", "leave", "enter", "begin", "end", "leave"]
 
 
 def bad_factories() -> dict[str, tuple[Callable[[], Any], type[Exception], str]]:
-    """What is wrong with a factory."""
+    """Return wrong factories."""
 
     async def forgot() -> None:
         ...
@@ -178,23 +182,23 @@ def bad_factories() -> dict[str, tuple[Callable[[], Any], type[Exception], str]]
 
 
 @pytest.mark.parametrize("what", bad_factories())
-def test_a_store_whose_context_cannot_be_entered_is_not_open(place: str, what: str) -> None:
-    """The error is the factory's own, and nobody has the store afterwards."""
+def test_an_error_of_the_context_prevents_opening(location: str, what: str) -> None:
+    """The error is the factory's own, and no process has the store afterwards."""
     factory, error, text = bad_factories()[what]
     saga = shop(inside=False)
 
     async def main() -> None:
         with pytest.raises(error, match=text):
-            async with sagas.open(place, [saga], context=factory):
+            async with sagas.open(location, [saga], context=factory):
                 raise AssertionError
-        async with sagas.open(place, [saga], context=Clients()) as store:
+        async with sagas.open(location, [saga], context=Clients()) as store:
             assert (await ended(store, saga)).phase == "recovered"
 
     run(main())
 
 
-def test_what_is_raised_as_it_is_left_is_raised_by_close(tmp_path: pathlib.Path) -> None:
-    """The store is closed all the same."""
+def test_close_raises_the_error_of_the_context(tmp_path: pathlib.Path) -> None:
+    """The store is closed anyway."""
     saga = shop(inside=False)
 
     @contextlib.contextmanager
@@ -212,8 +216,8 @@ def test_what_is_raised_as_it_is_left_is_raised_by_close(tmp_path: pathlib.Path)
     run(main())
 
 
-def test_a_store_without_one_says_so(tmp_path: pathlib.Path) -> None:
-    """Also a copy in another process, which never gets the object itself."""
+def test_a_store_without_a_context(tmp_path: pathlib.Path) -> None:
+    """So does a copy in another process, which never gets the object itself."""
     saga = sagas.Saga("none")
 
     @saga.step
@@ -233,7 +237,7 @@ def test_a_store_without_one_says_so(tmp_path: pathlib.Path) -> None:
 
 
 def test_a_worker_has_its_own(tmp_path: pathlib.Path) -> None:
-    """It is entered before the first task and left behind the last; an async one is refused."""
+    """It is entered before the first task and left after the last; an async one is refused."""
     one = 'format = 2\nname = "one"\n[[step]]\nname = "a"\nundo = "never"\n'
     clients = Clients()
 
@@ -247,7 +251,7 @@ def test_a_worker_has_its_own(tmp_path: pathlib.Path) -> None:
         start(client, "one", "k")
         with working(worker):
             assert client.get("/v1/sagas/k/wait?seconds=60").json()["phase"] == "completed"
-    assert clients.told == ["a"] and not clients.is_open
+    assert clients.uses == ["a"] and not clients.is_open
     worker = sagas.Worker("http://127.0.0.1:1", context=factories(clients)["async"])
     worker.step("one", "a")(a)
     with pytest.raises(TypeError, match="a worker has no event loop"):

@@ -1,4 +1,4 @@
-"""A shard whose stored data is damaged: it is set aside, and the others are served."""
+"""A shard whose stored data is damaged is set aside, and the others are served."""
 
 from __future__ import annotations
 
@@ -21,7 +21,10 @@ from sagas.cli import store_command
 
 DAMAGES = {
     "gap": (
-        "DELETE FROM event_log WHERE shard = 0 AND first_seq = (SELECT min(first_seq) FROM event_log WHERE shard = 0 AND first_seq > 0)",
+        (
+            "DELETE FROM event_log WHERE shard = 0 AND first_seq = (SELECT min(first_seq) FROM"
+            " event_log WHERE shard = 0 AND first_seq > 0)"
+        ),
         "its event log has a gap",
     ),
     "log": (
@@ -50,22 +53,22 @@ REPAIR = [
 ]
 
 
-def write(place: str, *statements: str) -> None:
-    """Change a store, whoever has it open."""
-    if place.startswith("postgresql:"):
+def write(location: str, *statements: str) -> None:
+    """Change a store, even while a program has it open."""
+    if location.startswith("postgresql:"):
         with psycopg.connect(
-            place.replace("//app@", "//owner@"), options="-csearch_path=sagas"
+            location.replace("//app@", "//owner@"), options="-csearch_path=sagas"
         ) as link:
             for text in statements:
                 link.execute(text.encode())
     else:
-        with contextlib.closing(sqlite3.connect(place, timeout=10)) as db, db:
+        with contextlib.closing(sqlite3.connect(location, timeout=10)) as db, db:
             for text in statements:
                 db.execute(text)
 
 
 def signed() -> sagas.Saga:
-    """A saga that waits for a person after its first step."""
+    """Return a saga that waits for an operator after its first step."""
     saga = sagas.Saga("signed")
 
     @saga.step
@@ -81,10 +84,12 @@ def signed() -> sagas.Saga:
 
 @pytest.mark.parametrize("damage", DAMAGES)
 def test_a_damaged_shard_is_set_aside(
-    place: str, damage: str, monkeypatch: pytest.MonkeyPatch, caplog: pytest.LogCaptureFixture
+    location: str, damage: str, monkeypatch: pytest.MonkeyPatch, caplog: pytest.LogCaptureFixture
 ) -> None:
-    """`open` says so once, however often it tries, and lists its sagas; the other shards are served, and new sagas are started. Once it is repaired,
-    its sagas go on, if its definitions were there; else after the next opening."""
+    """`open` reports it once, however often it tries, and lists its sagas; the other shards are
+    served, and new sagas are started. Once it is repaired, its sagas continue, if the program has
+    their definitions; else after the next opening.
+    """
     monkeypatch.setattr("sagas.definition.shelf.SHARD_CAPACITY", 2)
     monkeypatch.setattr("sagas.runtime.shard_runner.PAUSE_ASIDE", 0.3)
     kind, names = signed(), list[str]()
@@ -92,7 +97,7 @@ def test_a_damaged_shard_is_set_aside(
 
     async def before() -> None:
         async with sagas.open(
-            place, [kind], on_event=lambda event: names.append(event.name)
+            location, [kind], on_event=lambda event: names.append(event.name)
         ) as store:
             for number in range(4):
                 await store.start(kind, f"k{number}")
@@ -101,7 +106,7 @@ def test_a_damaged_shard_is_set_aside(
     async def after() -> None:
         names.clear()
         async with sagas.open(
-            place, [kind], on_event=lambda event: names.append(event.name)
+            location, [kind], on_event=lambda event: names.append(event.name)
         ) as store:
             tries = counted(store)
             await store.complete("k2", "sign", None)
@@ -110,16 +115,16 @@ def test_a_damaged_shard_is_set_aside(
             await store.complete("new", "sign", None)
             assert (await store.wait("new")).ok
             await until(lambda: len(tries) > 2)
-            found: list[sagas.Attention] = await until(store.attention)
-            assert {one.key for one in found} >= {"k1"} and all(
-                one.why == "damaged" and why in str(one.detail) for one in found
+            entries: list[sagas.Attention] = await until(store.attention)
+            assert {one.key for one in entries} >= {"k1"} and all(
+                one.why == "damaged" and why in str(one.detail) for one in entries
             )
             await until(lambda: names.count("shard_damaged"))
             assert names.count("shard_damaged") == 1
             waits = asyncio.create_task(store.wait("k1"))
             with pytest.raises(TimeoutError):
                 await (await store.get("k1")).wait(timeout=0.1)
-            write(place, *REPAIR)
+            write(location, *REPAIR)
             if damage == "definition":  # a program reads definitions as it takes a shard over
                 waits.cancel()
                 return
@@ -128,13 +133,13 @@ def test_a_damaged_shard_is_set_aside(
             assert (await waits).ok
 
     async def again() -> None:
-        async with sagas.open(place, [kind]) as store:
+        async with sagas.open(location, [kind]) as store:
             await store.complete("k0", "sign", None)
             assert (await store.wait("k0")).ok
             await until(lambda: is_whole(store))
 
     run(before())
-    write(place, *SAVE, text)
+    write(location, *SAVE, text)
     run(after())
     run(again())
     errors = [record.message for record in caplog.records if record.levelname == "ERROR"]
@@ -142,18 +147,18 @@ def test_a_damaged_shard_is_set_aside(
 
 
 async def is_whole(store: sagas.Store) -> bool:
-    """Whether no shard of it is set aside."""
+    """Return whether no shard of it is set aside."""
     return not await store.attention()
 
 
 def counted(store: sagas.Store) -> list[int]:
-    """The shards that are loaded from now on."""
+    """Count the shards that are loaded from now on."""
     database: Any = store._coordinator.store
     loads, load = list[int](), database.load
 
-    def noted(log: int, *words: Any) -> Any:
+    def noted(log: int, *arguments: Any) -> Any:
         loads.append(log)
-        return load(log, *words)
+        return load(log, *arguments)
 
     database.load = noted
     return loads
@@ -161,16 +166,18 @@ def counted(store: sagas.Store) -> list[int]:
 
 @pytest.mark.parametrize("damage", ["gap", "log"])
 def test_a_damaged_shard_is_deleted(
-    place: str,
+    location: str,
     damage: str,
     tmp_path: pathlib.Path,
     monkeypatch: pytest.MonkeyPatch,
     capsys: pytest.CaptureFixture[str],
 ) -> None:
-    """It is exported before, while a program has the store open, and its keys are free again; a sound shard is not deleted."""
+    """It is exported before, while a program has the store open, and its keys are free again; a
+    sound shard is not deleted.
+    """
     monkeypatch.setattr("sagas.definition.shelf.SHARD_CAPACITY", 2)
     monkeypatch.setattr("sagas.runtime.shard_runner.PAUSE_ASIDE", 0.3)
-    kind, names, owner = signed(), list[str](), place.replace("//app@", "//owner@")
+    kind, names, owner = signed(), list[str](), location.replace("//app@", "//owner@")
 
     async def begun(store: sagas.Store, *keys: str) -> None:
         for key in keys:
@@ -180,13 +187,13 @@ def test_a_damaged_shard_is_deleted(
 
     async def before() -> None:
         async with sagas.open(
-            place, [kind], on_event=lambda event: names.append(event.name)
+            location, [kind], on_event=lambda event: names.append(event.name)
         ) as store:
             await begun(store, "k0", "k1", "k2", "k3")
 
     async def after() -> None:
         async with sagas.open(
-            place, [kind], on_event=lambda event: names.append(event.name)
+            location, [kind], on_event=lambda event: names.append(event.name)
         ) as store:
             await until(store.attention)
             assert command(owner, "prune", "--damaged-shard", "1") == 1
@@ -196,7 +203,7 @@ def test_a_damaged_shard_is_deleted(
                 == command(owner, "export", "k1")
                 == 0
             )
-            if place != owner:
+            if location != owner:
                 assert command(owner, "nodes") == 0
             assert (
                 command(owner, "prune", "--damaged-shard", "0", "--export", str(tmp_path / "out"))
@@ -210,37 +217,41 @@ def test_a_damaged_shard_is_deleted(
             assert await store.get("k1") is None
 
     run(before())
-    write(place, DAMAGES[damage][0])
+    write(location, DAMAGES[damage][0])
     run(after())
     out = capsys.readouterr()
     assert (
         "shard 1 is not damaged" in out.err and "deleted 2 sagas of shard 0, exported to" in out.out
     )
     assert "2 in damaged shards" in out.out and (
-        place == owner or "because their data is damaged" in out.out
+        location == owner or "because their data is damaged" in out.out
     )
     (folder,) = (one for one in (tmp_path / "out").iterdir() if one.is_dir())
     assert [
         json.loads(line)["key"] for line in (folder / "sagas.jsonl").read_text().splitlines()
     ] == ["k0", "k1"]
     assert command(owner, "audit") == 0
-    if place != owner:
+    if location != owner:
         assert command(owner, "record") == 0
 
 
-def command(store: str, word: str, *words: str) -> int:
-    """The status of a command over a store."""
-    return store_command.main([store, word, *words])
+def command(store: str, word: str, *arguments: str) -> int:
+    """Return the status of a command over a store."""
+    return store_command.main([store, word, *arguments])
 
 
-def test_a_service_shows_damaged_shards(place: str, tmp_path: pathlib.Path) -> None:
-    """It answers, lists the sagas of the shard in the inbox, the API and the metrics, and logs the shard once as an error."""
-    with served(tmp_path, store=place) as service:
+def test_a_service_shows_damaged_shards(location: str, tmp_path: pathlib.Path) -> None:
+    """It answers, lists the sagas of the shard in the inbox, the API and the metrics, and logs the
+    shard once as an error.
+    """
+    with served(tmp_path, store=location) as service:
         with service.client() as client:
             for key in ("k0", "k1"):
                 assert start(client, "order", key).status_code == 201
         service.kill()
-        write(place, "UPDATE event_log SET text = replace(text, 'open', 'nothing') WHERE shard = 0")
+        write(
+            location, "UPDATE event_log SET text = replace(text, 'open', 'nothing') WHERE shard = 0"
+        )
         service.start()
         with service.client() as client:
             assert start(client, "order", "new").status_code == 201
@@ -261,18 +272,18 @@ def test_a_service_shows_damaged_shards(place: str, tmp_path: pathlib.Path) -> N
             assert client.get("/ui/sagas/k0").status_code == 200
             assert 'sagas_attention_required{reason="damaged"} 2.0' in client.get("/metrics").text
         assert (
-            service.told().count('"name":"shard_damaged"')
-            + service.told().count('"name": "shard_damaged"')
+            service.log_text().count('"name":"shard_damaged"')
+            + service.log_text().count('"name": "shard_damaged"')
             == 1
-        ), service.told()
+        ), service.log_text()
 
 
 def when_listed(client: httpx.Client) -> Any:
-    """What needs an operator, once the shard is noted and counted."""
+    """Return what needs an operator, once the shard is noted and counted."""
     end = time.monotonic() + 120
     while True:
         page = client.get("/v1/attention?kind=damaged").json()
-        if page["counts"]["damaged"] == 2 and page["entries"]:  # which are asked for one by one
+        if page["counts"]["damaged"] == 2 and page["entries"]:  # which come with two requests
             return page
         assert time.monotonic() < end, page
         time.sleep(0.05)

@@ -1,4 +1,4 @@
-"""Sagas that are aborted when their time is over, whoever drives them then."""
+"""Sagas that are aborted when their time is over, whichever node drives them then."""
 
 from __future__ import annotations
 
@@ -25,9 +25,9 @@ SOON = datetime.timedelta(seconds=0.3)
 UTC = datetime.timezone.utc
 
 
-def slow(**words: Any) -> sagas.Saga:
-    """A step that is undone, and an approval that nobody gives."""
-    saga = sagas.Saga("slow", **words)
+def slow(**options: Any) -> sagas.Saga:
+    """Return a saga with a step that is undone, and an approval that never comes."""
+    saga = sagas.Saga("slow", **options)
 
     @saga.step(keep=9, undo=1)
     def hold(task: Task) -> float:
@@ -45,18 +45,21 @@ def slow(**words: Any) -> sagas.Saga:
     return saga
 
 
-def at(place: str, kind: sagas.Saga, events: list[str]) -> Any:
-    """A store whose events are heard."""
+def at(location: str, kind: sagas.Saga, events: list[str]) -> Any:
+    """Open a store, and collect its events."""
     return sagas.open(
-        place, [kind], node="one", lease=2, on_event=lambda one: events.append(one.name)
+        location, [kind], node="one", lease=2, on_event=lambda one: events.append(one.name)
     )
 
 
 def test_a_saga_that_is_over_is_not_kept_for_its_deadline(
     tmp_path: pathlib.Path, monkeypatch: pytest.MonkeyPatch
 ) -> None:
-    """A deadline is days away, and sagas end at once: the program keeps few of them. Those that are open are aborted in time."""
-    monkeypatch.setattr(deadlines, "MAX_ENTRIES", 4, raising=False)
+    """A deadline is days away, and sagas end at once: the program keeps few of them.
+
+    Open sagas are aborted in time.
+    """
+    monkeypatch.setattr(deadlines, "MOST", 4, raising=False)
     kind, clock = slow(deadline=datetime.timedelta(days=1)), Clock()
 
     def count() -> int:
@@ -81,12 +84,12 @@ def test_a_saga_that_is_over_is_not_kept_for_its_deadline(
 
 
 @pytest.mark.parametrize("way", ["timedelta", "datetime", "definition"])
-def test_it_is_aborted_in_time(place: str, way: str) -> None:
-    """Its steps know when; one that ended before, and one without, go on."""
+def test_it_is_aborted_in_time(location: str, way: str) -> None:
+    """Its steps know when; a saga that ended before, and one without a deadline, continue."""
     kind, events = slow(deadline=SOON if way == "definition" else None), list[str]()
 
     async def main() -> None:
-        async with at(place, kind, events) as store:
+        async with at(location, kind, events) as store:
             late: Any = {"timedelta": SOON, "datetime": datetime.datetime.now(UTC) + SOON}.get(way)
             run = await store.start(kind, "k", deadline=late)
             done = await store.start(kind, "done", deadline=3600)
@@ -101,14 +104,14 @@ def test_it_is_aborted_in_time(place: str, way: str) -> None:
     run(main())
 
 
-def test_over_a_kill(place: str) -> None:
-    """It is kept with the saga: the next program aborts one whose time was over meanwhile."""
+def test_over_a_kill(location: str) -> None:
+    """It is stored with the saga: the next program aborts one whose time is over."""
     kind = slow()
     child = os.fork()
     if child == 0:
 
         async def first() -> None:
-            async with at(place, kind, []) as store:
+            async with at(location, kind, []) as store:
                 await store.start(kind, "k", deadline=1.5)
                 os.kill(os.getpid(), signal.SIGKILL)
 
@@ -117,7 +120,7 @@ def test_over_a_kill(place: str) -> None:
     events = list[str]()
 
     async def second() -> None:
-        async with at(place, kind, events) as store:
+        async with at(location, kind, events) as store:
             assert (again := await store.start(kind, "k", deadline=3600)) and not again.new
             assert (await again.wait(60)).states == {"hold": "undone", "sign": "waiting"}
 
@@ -125,12 +128,12 @@ def test_over_a_kill(place: str) -> None:
     assert "saga_overdue" in events
 
 
-def test_the_command_shows_it(place: str, capsys: pytest.CaptureFixture[str]) -> None:
-    """As a time to a person, as a number to programs; of a saga without one it has none."""
-    kind, shell = slow(), Shell(place, capsys)
+def test_the_command_shows_it(location: str, capsys: pytest.CaptureFixture[str]) -> None:
+    """A person sees a time, programs a number; a saga without a deadline has none."""
+    kind, shell = slow(), Shell(location, capsys)
 
     async def fill() -> float:
-        async with at(place, kind, []) as store:
+        async with at(location, kind, []) as store:
             await store.start(kind, "k", deadline=3600)
             await store.start(kind, "none", deadline=None)
             late = {one.key: one.deadline for one in await store.list()}
@@ -138,8 +141,8 @@ def test_the_command_shows_it(place: str, capsys: pytest.CaptureFixture[str]) ->
             return late["k"]
 
     when = run(fill())
-    told = datetime.datetime.fromtimestamp(when, UTC).strftime("%Y-%m-%d %H:%M:%SZ")
-    assert f"\ndeadline {told}\n" in shell("show", "k") and "\ndeadline " not in shell(
+    shown = datetime.datetime.fromtimestamp(when, UTC).strftime("%Y-%m-%d %H:%M:%SZ")
+    assert f"\ndeadline {shown}\n" in shell("show", "k") and "\ndeadline " not in shell(
         "show", "none"
     )
     assert shell.json("show", "k")["deadline"] == when
@@ -184,7 +187,9 @@ def test_of_another_node(url: str) -> None:
 def chain(
     clock: Clock, late: str = "", dies: str = ""
 ) -> tuple[sagas.Saga, list[tuple[str, str | None]]]:
-    """Steps in a row, what they hear of an abort, and a clock that goes past the deadline in one of them."""
+    """Return steps in a row that note an abort, and a clock that passes the deadline in one of
+    them.
+    """
     saga, calls = sagas.Saga("chain"), list[tuple[str, str | None]]()
 
     def each(task: Task) -> None:
@@ -202,9 +207,10 @@ def chain(
     return saga, calls
 
 
-def test_nothing_begins_of_a_start_that_is_late(place: str) -> None:
-    """It is started and aborted at once: also with others, with steps that come from the input, and encoded. The same start again is the
-    same saga."""
+def test_nothing_starts_of_a_late_start(location: str) -> None:
+    """It is started and aborted at once: also with other starts, with steps that come from the
+    input, and encoded. The same start again is the same saga.
+    """
     kind, calls = chain(Clock())
     each = sagas.Saga("each")
     item = each.step(name="item", for_each=lambda input: input["items"])(
@@ -222,7 +228,7 @@ def test_nothing_begins_of_a_start_that_is_late(place: str) -> None:
     async def main() -> None:
         past = datetime.datetime.now(UTC) - datetime.timedelta(days=30)
         heard = lambda one: events.append((one.key, one.name))
-        async with sagas.open(place, [kind, each], codec=Codec(), on_event=heard) as store:
+        async with sagas.open(location, [kind, each], codec=Codec(), on_event=heard) as store:
             starts = [
                 store.start(kind, f"late{n}", labels={"n": str(n)}, deadline=past) for n in range(3)
             ]
@@ -252,7 +258,7 @@ def test_nothing_begins_of_a_start_that_is_late(place: str) -> None:
             ]
             with pytest.raises(sagas.KeyConflict):
                 await store.start(kind, "late0", {"another": 1}, deadline=past)
-            assert all(said.startswith("yes") for said in (await store.audit()).values())
+            assert all(verdict.startswith("yes") for verdict in (await store.audit()).values())
         first = [name for key, name in events if key == "zero"]
         assert first == [
             "saga_started",
@@ -265,14 +271,17 @@ def test_nothing_begins_of_a_start_that_is_late(place: str) -> None:
     run(main())
 
 
-def test_nothing_begins_behind_the_deadline_of_a_saga_that_is_taken_up(place: str) -> None:
-    """Its program died in a step, which may have had its effect: it is called again, hears of the abort, and is undone. Nothing else begins:
-    in the next program of a file, and at the node that takes a shard over."""
+def test_nothing_starts_after_the_deadline_of_a_recovered_saga(location: str) -> None:
+    """Its program died in a step, which may have had its effect.
+
+    The step is called again, is notified of the abort, and is undone. No other step starts: in the
+    next program of a file, and at the node that takes a shard over.
+    """
     if (child := os.fork()) == 0:
         kind, _ = chain(Clock(), dies="a")
 
         async def first() -> None:
-            async with sagas.open(place, [kind], node="one", lease=1) as store:
+            async with sagas.open(location, [kind], node="one", lease=1) as store:
                 await (await store.start(kind, "k", deadline=60)).wait()
 
         try:
@@ -287,25 +296,27 @@ def test_nothing_begins_behind_the_deadline_of_a_saga_that_is_taken_up(place: st
     async def second() -> None:
         heard = lambda one: events.append(one.name)
         async with sagas.open(
-            place, [kind], node="two", lease=1, clock=clock, on_event=heard
+            location, [kind], node="two", lease=1, clock=clock, on_event=heard
         ) as store:
             end = await until(lambda: store.get("k")) and await store.wait("k", 60)
             assert end.aborted and end.states == {"a": "undone", "b": "waiting", "c": "waiting"}
             assert calls == [("a", "aborted")]
-            assert all(said.startswith("yes") for said in (await store.audit()).values())
+            assert all(verdict.startswith("yes") for verdict in (await store.audit()).values())
 
     run(second())
     assert events.count("saga_overdue") == events.count("saga_aborted") == 1
 
 
-def test_no_step_begins_behind_a_deadline(place: str) -> None:
-    """It passes while a step runs: the next one does not begin, though nobody has looked at the time since."""
+def test_no_step_starts_after_a_deadline(location: str) -> None:
+    """It passes while a step runs: the next one does not start, though no program has looked at the
+    time since.
+    """
     clock = Clock()
     clock.now = time.time()
     kind, calls = chain(clock, late="b")
 
     async def main() -> None:
-        async with sagas.open(place, [kind], clock=clock) as store:
+        async with sagas.open(location, [kind], clock=clock) as store:
             end = await (await store.start(kind, "k", deadline=60)).wait(60)
             assert end.aborted and end.states == {"a": "undone", "b": "undone", "c": "waiting"}
             assert calls == [("a", None), ("b", None)]
@@ -327,7 +338,7 @@ def test_a_client_that_is_late(url: str) -> None:
 
 
 def test_in_a_simulation() -> None:
-    """The clock advances to it, and no further than it has to."""
+    """The clock advances to it, and no further than needed."""
     kind = sagas.Saga("days")
 
     @kind.wait(until=datetime.timedelta(days=3))
@@ -354,7 +365,7 @@ def test_in_a_simulation() -> None:
         (datetime.datetime(2030, 1, 1), TypeError),
     ],
 )
-def test_what_is_no_time(tmp_path: pathlib.Path, deadline: Any, error: type[Exception]) -> None:
+def test_invalid_times(tmp_path: pathlib.Path, deadline: Any, error: type[Exception]) -> None:
     kind = slow()
     with sagas.open_sync(tmp_path / "store.db", [kind]) as store:
         with pytest.raises(error, match="deadline="):

@@ -1,4 +1,4 @@
-"""Functions of definitions that are slow: they run in threads, and hold up nothing else."""
+"""Slow functions of definitions run in threads, and block nothing else."""
 
 from __future__ import annotations
 
@@ -19,13 +19,13 @@ NOW = datetime.timedelta(0)
 
 
 class Gate:
-    """Functions that stand still until it is opened, and the threads that are in them."""
+    """Functions that wait until it is opened, and the threads that are in them."""
 
     def __init__(self) -> None:
         self.opened, self.inside = threading.Event(), list[str]()
 
     def holding(self, value: Any) -> Callable[..., Any]:
-        """A function that returns this."""
+        """Return a function that waits and returns this."""
 
         def function(*_: Any) -> Any:
             self.inside.append(threading.current_thread().name)
@@ -36,22 +36,22 @@ class Gate:
 
 
 def nothing(task: Task) -> None:
-    """A step that has nothing to do."""
+    """A step without work."""
 
 
 def quick() -> sagas.Saga:
-    """Another saga of the same node."""
+    """Return another saga of the same node."""
     saga = sagas.Saga("quick")
     saga.step(name="a", when=lambda given: True)(nothing)
     return saga
 
 
 def shop(gate: Gate) -> list[sagas.Saga]:
-    """A saga for each function that a definition can have."""
+    """Return a saga for each function that a definition can have."""
 
-    def one(name: str, fair_by: Any = None, **words: Any) -> sagas.Saga:
+    def one(name: str, fair_by: Any = None, **options: Any) -> sagas.Saga:
         saga = sagas.Saga(name, fair_by=fair_by)
-        saga.step(name="a", undo=0, **words)(nothing)
+        saga.step(name="a", undo=0, **options)(nothing)
         return saga
 
     waits, parent, outer = sagas.Saga("until"), sagas.Saga("child"), sagas.Saga("include")
@@ -72,13 +72,13 @@ def shop(gate: Gate) -> list[sagas.Saga]:
     ]
 
 
-def test_slow_functions_hold_up_nobody_else(place: str) -> None:
-    """All of them at once, and other sagas go on."""
+def test_slow_functions_block_nothing_else(location: str) -> None:
+    """All of them wait at once, and other sagas continue."""
     gate, other = Gate(), quick()
     kid, *slow = shop(gate)
 
     async def main() -> None:
-        async with sagas.open(place, [other, kid, *slow]) as store:
+        async with sagas.open(location, [other, kid, *slow]) as store:
             starts = [asyncio.create_task(store.start(saga, saga.name, {})) for saga in slow]
             await until(lambda: len(gate.inside) == len(slow))
             for number in range(3):
@@ -95,7 +95,9 @@ def test_slow_functions_hold_up_nobody_else(place: str) -> None:
 
 
 def test_schedules_and_starts_of_clients(url: str) -> None:
-    """A client computes the steps beside its other calls, and a node takes other starts meanwhile."""
+    """A client computes the steps while it makes other calls, and a node takes other starts at the
+    same time.
+    """
     gate, other = Gate(), quick()
     saga = shop(gate)[4]
     gate.opened.set()
@@ -127,14 +129,14 @@ def test_schedules_and_starts_of_clients(url: str) -> None:
 
 
 @pytest.mark.parametrize("timeout", [None, 0])
-def test_a_store_that_is_closed_meanwhile(place: str, timeout: float | None) -> None:
+def test_a_store_that_is_closed_during_calls(location: str, timeout: float | None) -> None:
     """It waits for them, as it does for steps; a later program asks again."""
     gate, other = Gate(), quick()
     slow = {saga.name: saga for saga in shop(gate)}
     sagas_of = [other, *slow.values()]
 
     async def main() -> None:
-        async with sagas.open(place, sagas_of) as store:
+        async with sagas.open(location, sagas_of) as store:
             for name in ("until", "key", "child"):
                 await store.start(slow[name], name, {})
             start = asyncio.create_task(store.start(slow["when"], "when", {}))
@@ -148,7 +150,7 @@ def test_a_store_that_is_closed_meanwhile(place: str, timeout: float | None) -> 
             gate.opened.set()
             with pytest.raises(sagas.Closed):
                 await start
-        async with sagas.open(place, sagas_of) as store:
+        async with sagas.open(location, sagas_of) as store:
             for name in ("until", "key", "child"):
                 assert (await store.wait(name, timeout=60)).ok
             assert await store.get("when") is None
@@ -156,8 +158,8 @@ def test_a_store_that_is_closed_meanwhile(place: str, timeout: float | None) -> 
     run(main())
 
 
-def test_an_abort_meanwhile(place: str) -> None:
-    """What they return is not used, and no function of a step is called."""
+def test_an_abort_during_a_call(location: str) -> None:
+    """Their return values are not used, and no function of a step is called."""
     gate, other = Gate(), quick()
     slow = {saga.name: saga for saga in shop(gate)}
     called: list[str] = []
@@ -165,7 +167,7 @@ def test_an_abort_meanwhile(place: str) -> None:
         slow[name].steps[0].run.function = lambda task: called.append(task.key)
 
     async def main() -> None:
-        async with sagas.open(place, [other, *slow.values()]) as store:
+        async with sagas.open(location, [other, *slow.values()]) as store:
             for name in ("until", "key"):
                 await store.start(slow[name], name, {})
             await until(lambda: len(gate.inside) == 2)
@@ -179,7 +181,7 @@ def test_an_abort_meanwhile(place: str) -> None:
 
 
 def test_threads_of_functions() -> None:
-    """Short ones share a thread; a slow one has one for itself, and a name half of them."""
+    """Short calls share a thread; a slow one has a thread for itself, and one name half of them."""
     gate, threads = Gate(), FunctionThreads(4, "test")
     slow = gate.holding(1)
 
@@ -204,7 +206,7 @@ def test_threads_of_functions() -> None:
         gate.opened.set()
         assert await asyncio.gather(*held) == [1] * 4
         await threads.end(None)
-        assert len(gate.inside) == 4  # the one that nobody waits for was not called
+        assert len(gate.inside) == 4  # the one whose caller has left was not called
         threads.close()
         assert await threads.call("a", lambda: 3) == 3
         threads.close()
@@ -213,8 +215,8 @@ def test_threads_of_functions() -> None:
     assert not any(t.name.startswith("test") for t in threading.enumerate())
 
 
-def test_a_loop_that_is_closed_meanwhile() -> None:
-    """Its threads end all the same."""
+def test_a_loop_that_is_closed_during_calls() -> None:
+    """Its threads end anyway."""
     gate, threads = Gate(), FunctionThreads(2, "test")
     job: Any = None
 

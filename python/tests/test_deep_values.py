@@ -1,4 +1,4 @@
-"""Values of too many levels: refused by every way in, and no harm where one is stored already."""
+"""Values of too many levels: each way in refuses them, and stored ones do no harm."""
 
 from __future__ import annotations
 
@@ -26,12 +26,12 @@ LEVELS = (MOST_LEVELS + 1, 300, 967, 970, 2000, 100_000)
 
 
 def nested(levels: int) -> str:
-    """The text of a list of so many levels."""
+    """Return the text of a list of this many levels."""
     return "[" * levels + "]" * levels
 
 
 def value_of(levels: int) -> Any:
-    """The same as a value, which nothing had to parse."""
+    """Return it as a value, which nothing had to parse."""
     value: Any = []
     for _ in range(levels - 1):
         value = [value]
@@ -39,7 +39,7 @@ def value_of(levels: int) -> Any:
 
 
 def depth(value: Any) -> int:
-    """The levels of a small value."""
+    """Return the levels of a small value."""
     some = value.values() if isinstance(value, dict) else value
     return 1 + max(map(depth, some), default=0) if isinstance(value, (dict, list)) else 0
 
@@ -53,7 +53,7 @@ JSON = st.recursive(
 
 @given(JSON, st.integers(0, 8), st.booleans())
 def test_levels(value: Any, levels: int, ascii: bool) -> None:
-    """Brackets in texts are none."""
+    """Brackets in texts are not levels."""
     assert is_deeper(json.dumps(value, ensure_ascii=ascii), levels) == (depth(value) > levels)
 
 
@@ -74,8 +74,8 @@ def test_the_limit() -> None:
         serialization.write_value(endless)
 
 
-def test_by_a_store(place: str) -> None:
-    """Inputs, schedules and reports are refused; what a function returns is kept as unstorable."""
+def test_by_a_store(location: str) -> None:
+    """Inputs, schedules and reports are refused; a function's result is kept as unstorable."""
     saga = sagas.Saga("deep")
 
     @saga.step
@@ -87,7 +87,7 @@ def test_by_a_store(place: str) -> None:
         ...
 
     async def main() -> None:
-        async with sagas.open(place, [saga]) as store:
+        async with sagas.open(location, [saga]) as store:
             for levels in LEVELS[:3]:
                 with pytest.raises(sagas.NotSerializable, match="input: it has more than 64"):
                     await store.start(saga, "k", value_of(levels))
@@ -127,17 +127,23 @@ def service(tmp_path_factory: pytest.TempPathFactory) -> Iterator[Served]:
 
 
 def post(service: Served, path: str, text: str) -> tuple[int, str, str]:
-    """The status of an answer to a JSON text, the name of its problem and what it says."""
+    """Return the response to a JSON text: its status, the name of its problem and its detail."""
     with service.client() as client:
         answer = client.post(path, content=text, headers={"content-type": "application/json"})
-        told = answer.json()
-    return answer.status_code, error_of(answer) if "type" in told else "", told.get("detail", "")
+        problem = answer.json()
+    return (
+        answer.status_code,
+        error_of(answer) if "type" in problem else "",
+        problem.get("detail", ""),
+    )
 
 
 @pytest.mark.parametrize("levels", LEVELS)
 def test_by_http(service: Served, levels: int) -> None:
-    """Starts and reports of workers and people: 422 or 400, which says how many levels there may
-    be. Nothing is stored, and a worker's task can still be reported."""
+    """Starts and reports of workers and people get 422 or 400, with the number of levels allowed.
+
+    Nothing is stored, and a worker's task can still be reported.
+    """
     deep, key = nested(levels), f"k{levels}"
     with service.client() as client:
         start(client, "few", key)
@@ -166,7 +172,7 @@ def test_by_http(service: Served, levels: int) -> None:
         (task,) = take(client, "few/b")
         assert task["results"]["a"] == value_of(MOST_LEVELS)
         assert report(client, task).status_code == 200
-    assert '"level": "error"' not in service.told()
+    assert '"level": "error"' not in service.log_text()
 
 
 def test_by_a_form(service: Served) -> None:
@@ -201,38 +207,41 @@ def test_by_a_command_and_by_files(service: Served, tmp_path: pathlib.Path) -> N
 
 
 def far() -> sagas.Saga:
-    """Two steps, which workers do."""
+    """Return a saga of two steps, which workers do."""
     saga = sagas.Saga("far")
     saga.step(name="a", external=True, undo=0)
     return saga
 
 
-def put(place: str, key: str, text: str) -> None:
-    """A value as an earlier release took it."""
-    if place.startswith("postgresql"):
-        with psycopg.connect(place.replace("app@", "owner@"), autocommit=True) as link:
+def put(location: str, key: str, text: str) -> None:
+    """Store a value as an earlier release took it."""
+    if location.startswith("postgresql"):
+        with psycopg.connect(location.replace("app@", "owner@"), autocommit=True) as link:
             link.execute("UPDATE sagas.sagas SET input = %s WHERE key = %s", (text, key))
     else:
-        with contextlib.closing(sqlite3.connect(place)) as file, file:
+        with contextlib.closing(sqlite3.connect(location)) as file, file:
             file.execute("UPDATE sagas SET input = ? WHERE key = ?", (text, key))
 
 
 @pytest.mark.parametrize("levels", [600, 967])
-def test_what_is_stored_already(place: str, tmp_path: pathlib.Path, levels: int) -> None:
-    """A claim has the other tasks. The one that no answer can have waits for a person, at the node
-    that executes its saga too, and can be reported."""
+def test_stored_deep_values(location: str, tmp_path: pathlib.Path, levels: int) -> None:
+    """A claim has the other tasks.
+
+    The one that fits no reply needs an operator, at the node that executes its saga too, and can be
+    reported.
+    """
     saga = far()
 
     async def begun() -> None:
-        async with sagas.open(place, [saga], node="one") as store:
+        async with sagas.open(location, [saga], node="one") as store:
             for key in ("x", "deep", "y"):
                 await store.start(saga, key, {"key": key})
 
     run(begun())
-    put(place, "deep", nested(levels))
+    put(location, "deep", nested(levels))
     files = {"far.toml": saga.toml()}
     with served(
-        tmp_path, files, "--log", "json", store=place
+        tmp_path, files, "--log", "json", store=location
     ) as service, service.client() as client:
         done: set[str] = set()
         while len(done) < 2:
@@ -246,14 +255,14 @@ def test_what_is_stored_already(place: str, tmp_path: pathlib.Path, levels: int)
         assert [(one["key"], one["step"]) for one in answer] == [("deep", "a")]
         assert take(client, "far/a", wait=0, most=100) == []
         assert client.post("/v1/sagas/deep/steps/a/complete", json={"result": 1}).status_code == 200
-    with served(tmp_path, files, "--log", "json", store=place) as service:
+    with served(tmp_path, files, "--log", "json", store=location) as service:
         for path in ("wait", "log", "timeline", "picture.svg"):  # an answer may be as deep
             httpx.get(f"{service.url}/v1/sagas/deep/{path}", trust_env=False, timeout=LONG)
-    assert "RecursionError" not in service.told() and "Traceback" not in service.told()
+    assert "RecursionError" not in service.log_text() and "Traceback" not in service.log_text()
 
 
 def test_a_claim_at_another_node(url: str, tmp_path: pathlib.Path) -> None:
-    """The node that executes the saga is told, and sets the task aside."""
+    """The node that executes the saga is notified, and sets the task aside."""
     files = {"far.toml": far().toml()}
     for name in ("one", "two"):
         (tmp_path / name).mkdir()
@@ -265,9 +274,9 @@ def test_a_claim_at_another_node(url: str, tmp_path: pathlib.Path) -> None:
                 put(url, "deep", nested(967))
                 (task,) = take(there, "far/a", most=100)
                 assert task["key"] == "x"
-                while not (found := here.get("/v1/attention").json()["entries"]):
+                while not (entries := here.get("/v1/attention").json()["entries"]):
                     assert there.get("/health/live").status_code == 200
-                assert [(entry["key"], entry["kind"]) for entry in found] == [
+                assert [(entry["key"], entry["kind"]) for entry in entries] == [
                     ("deep", "cannot_decode")
                 ]
                 assert take(there, "far/a", wait=0, most=100) == []

@@ -1,4 +1,4 @@
-"""What a declared saga becomes, and what is refused: each fault with file, line and step."""
+"""The definition of a declared saga, and each error in one, with file, line and step."""
 
 from __future__ import annotations
 
@@ -24,7 +24,7 @@ HERE = pathlib.Path(__file__).resolve().parent
 
 
 def trip() -> sagas.Saga:
-    """A saga with all that a definition can say."""
+    """Return a saga with all parts of a definition."""
     trip = sagas.Saga("trip")
 
     @trip.step(timeout=datetime.timedelta(seconds=30))
@@ -47,7 +47,10 @@ def trip() -> sagas.Saga:
 
 
 def test_toml(tmp_path: pathlib.Path) -> None:
-    """Prices, tries and needs become the definition's TOML; without a compensation undo is never, with one it is 0 unless it says more."""
+    """Costs, tries and needs become the definition's TOML.
+
+    Without a compensation `undo` is never; with one it is 0 by default.
+    """
     text = trip().toml()
     assert tomllib.loads(text) == {
         "format": 2,
@@ -75,8 +78,8 @@ def test_toml(tmp_path: pathlib.Path) -> None:
     ).stdout.startswith(b"digraph")
 
 
-def test_what_the_package_shows() -> None:
-    """Its names for users, and none of the modules inside."""
+def test_the_public_names_of_the_package() -> None:
+    """It shows its names for users, and none of the modules inside."""
     shown = dir(sagas)
     assert set(sagas.__all__) < set(shown) and {
         "testing",
@@ -103,7 +106,7 @@ def test_version() -> None:
     assert one.toml() != two.toml() and tomllib.loads(one.toml()) == tomllib.loads(two.toml())
 
 
-# -- faults ------------------------------------------------------------------------------------------------------------
+# -- faults
 
 
 def two_of_a_name(saga: sagas.Saga) -> None:
@@ -369,12 +372,18 @@ FAULTY: list[tuple[Callable[[sagas.Saga], None], str]] = [
     (a_circle, "a needs b needs a"),
     (
         undo_without_a_compensation,
-        "undo=3, but it has no compensation. Declare @a.compensation, or set undo=0 if there is nothing to undo",
+        (
+            "undo=3, but it has no compensation. Declare @a.compensation, or set undo=0 if there is"
+            " nothing to undo"
+        ),
     ),
     (never_with_a_compensation, "never called. Remove one"),
     (
         two_compensations,
-        "two compensations, but one must undo everything. Call both from one function, or remove one",
+        (
+            "two compensations, but one must undo everything. Call both from one function, or"
+            " remove one"
+        ),
     ),
     (a_price_below_0, "an integer from 0"),
     (a_price_that_is_no_number, "an integer from 0"),
@@ -412,7 +421,7 @@ FAULTY: list[tuple[Callable[[sagas.Saga], None], str]] = [
 
 @pytest.mark.parametrize("make, text", FAULTY)
 def test_a_fault_names_step_file_and_line(make: Callable[[sagas.Saga], None], text: str) -> None:
-    """Each is a DefinitionError, told at the line where it is to be mended."""
+    """Each is a DefinitionError, reported at the line to change."""
     saga = sagas.Saga("s")
     with pytest.raises(sagas.DefinitionError) as error:
         make(saga)
@@ -425,7 +434,7 @@ def test_a_fault_names_step_file_and_line(make: Callable[[sagas.Saga], None], te
 
 
 def test_a_saga_without_steps_and_two_of_a_name(tmp_path: pathlib.Path) -> None:
-    """Told by file and line too."""
+    """They are reported by file and line too."""
     with pytest.raises(sagas.DefinitionError, match=f"{pathlib.Path(__file__).name}:.*no step"):
         sagas.Saga("empty").toml()
     with pytest.raises(sagas.DefinitionError, match=r"\.py:\d+: saga 'Empty'"):
@@ -442,7 +451,9 @@ def test_a_saga_without_steps_and_two_of_a_name(tmp_path: pathlib.Path) -> None:
 def test_a_compensation_that_is_never_called(
     tmp_path: pathlib.Path, caplog: pytest.LogCaptureFixture
 ) -> None:
-    """It is sound, and probably not meant: a warning, with file and line, which `open` logs; prices of both kinds are quiet."""
+    """It is valid, and probably a mistake: a warning, with file and line, which `open` logs; with
+    both costs there is none.
+    """
     saga = sagas.Saga("s")
 
     @saga.step(undo=5, keep=3)
@@ -456,7 +467,8 @@ def test_a_compensation_that_is_never_called(
     (warning,) = saga.warnings()
     assert "can never be called" in warning and warning.startswith(f"{__file__}:")
     assert warning.endswith(
-        "(keep=3) costs less than undoing it (undo=5). Set keep= to more than 5, or remove the compensation"
+        "(keep=3) costs less than undoing it (undo=5). Set keep= to more than 5, or remove the"
+        " compensation"
     )
     assert trip().warnings() == []
 
@@ -471,11 +483,13 @@ def test_a_compensation_that_is_never_called(
 
 
 def chained(receipt: Any = ..., behind: bool = True) -> tuple[sagas.Saga, list[str]]:
-    """A charge, a receipt for it whose undoing is said or not, and something behind that fails; and what is undone of it, as it is."""
+    """Return a charge, a receipt for it whose `undo` is set or not, and a later step that fails;
+    and the undone steps.
+    """
     saga, undone = sagas.Saga("order"), list[str]()
     charge = saga.step(name="charge")(lambda task: None)
     charge.compensation(lambda task: undone.append(task.step))
-    said = saga.step(
+    receipt_step = saga.step(
         name="receipt", needs=[charge], **({} if receipt is ... else {"undo": receipt})
     )(lambda task: None)
 
@@ -483,24 +497,26 @@ def chained(receipt: Any = ..., behind: bool = True) -> tuple[sagas.Saga, list[s
         raise sagas.Fail("no such address")
 
     if behind:
-        saga.step(name="send", needs=[said])(send)
+        saga.step(name="send", needs=[receipt_step])(send)
     return saga, undone
 
 
-def test_nothing_to_undo(place: str) -> None:
-    """A step without a compensation keeps what it needs from being undone; with `undo=0` it is undone by doing nothing."""
+def test_nothing_to_undo(location: str) -> None:
+    """A step without a compensation keeps the steps that it needs from being undone; with `undo=0`
+    it is undone by doing nothing.
+    """
     kept, gone = chained()[0], chained(0)
     gone[0].name = "gone"
 
     async def main() -> tuple[sagas.SagaResult, sagas.SagaResult, str, list[str | None]]:
-        async with sagas.open(place, [kept, gone[0]]) as store:
+        async with sagas.open(location, [kept, gone[0]]) as store:
             ends = await ended(store, kept, "kept"), await ended(store, gone[0], "gone")
             plans = await store.plan("kept"), await store.plan("gone")
             assert plans[0] and plans[1]
             return *ends, str(plans[0]), [choice.needed_by for choice in plans[1].choices]
 
-    one, other, told, needed = run(main())
-    assert told.splitlines()[2:] == [
+    one, other, warning, needed = run(main())
+    assert warning.splitlines()[2:] == [
         "  charge   committed             0             0  stands: receipt needs it",
         "  receipt  committed             0         never  stands",
         "  send     failed            never             0  is left out",
@@ -512,42 +528,53 @@ def test_nothing_to_undo(place: str) -> None:
     ] == ["charge"]
 
 
-def test_a_compensation_behind_undo_0() -> None:
-    """One that is declared takes the place of doing nothing."""
+def test_a_compensation_with_undo_0() -> None:
+    """A declared compensation replaces doing nothing."""
     saga, undone = chained(0)
     saga.steps[1].compensation(lambda task: undone.append(task.step))
     assert sagas.testing.run(saga).states["charge"] == "undone" and undone == ["receipt", "charge"]
     plain = chained(0)[0].toml()
     assert tomllib.loads(saga.toml()) == tomllib.loads(plain)
-    assert (
-        saga.toml().replace('"receipt"\n# compensated\n', '"receipt"\n') == plain
-    )  # so that a program without it is told
+    # so that a program without it is noticed
+    assert saga.toml().replace('"receipt"\n# compensated\n', '"receipt"\n') == plain
 
 
-def test_what_keeps_others_from_being_undone() -> None:
-    """A step without a compensation that does not say what is meant, behind a compensation; quiet where nothing behind or beside it may fail."""
+def test_steps_that_keep_others_from_being_undone() -> None:
+    """A step without a compensation follows one with a compensation, and does not say what it
+    means. There is no warning if no later or parallel step may fail.
+    """
     saga = chained()[0]
     (warning,) = saga.warnings()
-    assert warning == (
-        f"{saga.steps[1].where}: saga 'order', step 'receipt' has no compensation, so 'charge', which it needs, can never be undone after it commits. "
-        "Set undo=0 if there is nothing to undo, or undo=NEVER to confirm"
+    assert (
+        warning
+        == f"{saga.steps[1].where}: saga 'order', step 'receipt' has no compensation, so 'charge',"
+        " which it needs, can never be undone after it commits. Set undo=0 if there is nothing"
+        " to undo, or undo=NEVER to confirm"
     )
     assert warning.startswith(f"{__file__}:")
     for quiet in (chained(0), chained(sagas.NEVER), chained(behind=False)):
         assert quiet[0].warnings() == []
 
 
-def test_what_keeps_others_is_told_once() -> None:
-    """Beside the last step too; all that it keeps is named, and not what a step before it keeps already."""
+def test_a_keeping_step_is_reported_once() -> None:
+    """It holds for the last step too; the warning names all steps that it keeps, except those that
+    an earlier step keeps already.
+    """
     saga = chained()[0]
     hire = saga.step(name="hire")(lambda task: None)
     hire.compensation(lambda task: None)
     saga.step(name="mail", needs=["send", hire])(lambda task: None)
     saga.step(name="beside")(lambda task: None)
-    told = [warning.split("step ", 1)[1].partition("; say")[0] for warning in saga.warnings()]
-    assert told == [
-        "'receipt' has no compensation, so 'charge', which it needs, can never be undone after it commits. Set undo=0 if there is nothing to undo, or undo=NEVER to confirm",
-        "'mail' has no compensation, so 'hire', which it needs, can never be undone after it commits. Set undo=0 if there is nothing to undo, or undo=NEVER to confirm",
+    causes = [warning.split("step ", 1)[1].partition("; say")[0] for warning in saga.warnings()]
+    assert causes == [
+        (
+            "'receipt' has no compensation, so 'charge', which it needs, can never be undone after"
+            " it commits. Set undo=0 if there is nothing to undo, or undo=NEVER to confirm"
+        ),
+        (
+            "'mail' has no compensation, so 'hire', which it needs, can never be undone after it"
+            " commits. Set undo=0 if there is nothing to undo, or undo=NEVER to confirm"
+        ),
     ]
     saga = sagas.Saga("two")
     for name in ("a", "b"):
@@ -558,13 +585,17 @@ def test_what_keeps_others_is_told_once() -> None:
     assert "'a' and 'b', which it needs, can never be undone" in warning
 
 
-def test_why_a_step_stands() -> None:
-    """Because another that stands, or is run, needs it; not where it costs less that it stands, or cannot go."""
+def test_the_reason_to_keep_a_step() -> None:
+    """Another step that is kept, or is running, needs it.
+
+    That is not the reason if keeping it costs less, or it cannot be dropped.
+    """
     text = """
         format = 2
         name = "s"
         step = [
-            {name = "a", keep = 1}, {name = "b", needs = ["a"], undo = 5, keep = 3}, {name = "c", needs = ["a"], skip = 9},
+            {name = "a", keep = 1}, {name = "b", needs = ["a"], undo = 5, keep = 3},
+            {name = "c", needs = ["a"], skip = 9},
             {name = "d", undo = "never", needs = ["b"]}, {name = "e", needs = ["a"]},
         ]
     """
@@ -586,8 +617,8 @@ def test_why_a_step_stands() -> None:
     ]
 
 
-def test_hints_that_are_not_read() -> None:
-    """A name that is there for the checker alone: `open` says that values are as JSON has them."""
+def test_hints_that_cannot_be_evaluated() -> None:
+    """A name that only the type checker has: `open` reports that values are as JSON has them."""
     saga = sagas.Saga("s")
 
     @saga.step
@@ -598,8 +629,10 @@ def test_hints_that_are_not_read() -> None:
     assert "'Elsewhere' is not defined" in warning and warning.startswith(f"{__file__}:")
 
 
-def test_decorators_with_and_without_words() -> None:
-    """`@saga.approval` as `@saga.step`; a function is decorated, and not handed over as `handler`."""
+def test_decorators_with_and_without_arguments() -> None:
+    """`@saga.approval` works as `@saga.step`; a function is decorated, and not passed as
+    `handler`.
+    """
     saga = sagas.Saga("s")
 
     @saga.approval
@@ -613,8 +646,11 @@ def test_decorators_with_and_without_words() -> None:
         saga.step(external=print, name="x")  # type: ignore[call-overload]
 
 
-def test_a_decorator_that_is_left_alone() -> None:
-    """A step or a compensation that was to be: told where it stands. One decorator may make several steps."""
+def test_a_decorator_without_a_function() -> None:
+    """The error for such a step or compensation has its line.
+
+    One decorator may make several steps.
+    """
     saga = sagas.Saga("s")
     both = saga.step(tries=2)
 
@@ -630,13 +666,19 @@ def test_a_decorator_that_is_left_alone() -> None:
     a.compensation(tries=2)
     with pytest.raises(
         sagas.DefinitionError,
-        match=r"test_definition\.py:\d+: saga 's': a\.compensation\(\.\.\.\) declares nothing, because it is a decorator",
+        match=(
+            r"test_definition\.py:\d+: saga 's': a\.compensation\(\.\.\.\) declares nothing,"
+            r" because it is a decorator"
+        ),
     ):
         saga.toml()
 
 
 def test_times_are_seconds_or_a_timedelta() -> None:
-    """Of an approval and of a rate, as of `timeout`; pauses that are cut since nobody said what is the longest are a warning."""
+    """This holds for an approval and a rate, as for `timeout`.
+
+    Pauses that are cut because no longest one is set are a warning.
+    """
     saga = sagas.Saga("s")
     minute = datetime.timedelta(minutes=1)
     ways: tuple[tuple[str, float | datetime.timedelta], ...] = ("a", minute), ("b", 60)
@@ -651,17 +693,17 @@ def test_times_are_seconds_or_a_timedelta() -> None:
     saga.step(name="c", tries=2, backoff=sagas.Backoff(initial=300))(lambda task: None)
     (warning,) = saga.warnings()
     assert (
-        "the pauses of its function are 60.0 s, not 300 s, because that is the default maximum. Set sagas.Backoff(initial=300, maximum=300)"
-        in warning
+        "the pauses of its function are 60.0 s, not 300 s, because that is the default maximum. Set"
+        " sagas.Backoff(initial=300, maximum=300)" in warning
     )
 
 
-# -- types ---------------------------------------------------------------------------------------------------------------
+# -- types
 
 
 @dataclasses.dataclass
 class Booking:
-    """What crosses as JSON, both ways."""
+    """A value that is stored as JSON and read again."""
 
     city: str
     day: datetime.date
@@ -720,13 +762,15 @@ TYPED = """
 
 
 def test_types_are_seen(tmp_path: pathlib.Path) -> None:
-    """`task.result_of(flight)` has the type of what `flight` returns, and mypy finds nothing to say of a program."""
+    """`task.result_of(flight)` has the return type of `flight`, and mypy finds no error in a
+    program.
+    """
     path = tmp_path / "typed.py"
     path.write_text(textwrap.dedent(TYPED))
-    words = ["mypy", "--strict", "--cache-dir", types_in(tmp_path), str(path)]
+    arguments = ["mypy", "--strict", "--cache-dir", types_in(tmp_path), str(path)]
     try:
         done = subprocess.run(
-            words,
+            arguments,
             capture_output=True,
             text=True,
             env={"MYPYPATH": str(HERE.parent / "src"), "PATH": "/usr/bin:/bin"},
@@ -734,10 +778,10 @@ def test_types_are_seen(tmp_path: pathlib.Path) -> None:
         )
     except FileNotFoundError:
         done = subprocess.run(
-            [sys.executable, "-m", *words], capture_output=True, text=True, check=False
+            [sys.executable, "-m", *arguments], capture_output=True, text=True, check=False
         )
-    told = [line for line in done.stdout.splitlines() if line.startswith(str(path))]
+    lines = [line for line in done.stdout.splitlines() if line.startswith(str(path))]
     assert ['"builtins.str"', '"builtins.int"'] == [
-        line.split("Revealed type is ")[1] for line in told if "Revealed" in line
+        line.split("Revealed type is ")[1] for line in lines if "Revealed" in line
     ], done.stdout
-    assert len(told) == 2, done.stdout
+    assert len(lines) == 2, done.stdout

@@ -24,7 +24,7 @@ COUNT = 135
 
 
 def many(first: int = 0, count: int = COUNT) -> list[sagas.Saga]:
-    """Sagas of two steps: the second waits for a person where the input says so."""
+    """Return sagas of two steps: the second waits for an operator if the input says so."""
     return [make(f"kind-{number}") for number in range(first, first + count)]
 
 
@@ -47,17 +47,17 @@ def make(name: str, version: int = 1) -> sagas.Saga:
 
 
 def rows(path: str, query: str) -> list[tuple[Any, ...]]:
-    """What a store has, beside the programs."""
+    """Return rows of a store, read without its programs."""
     with contextlib.closing(admin.connect(path)) as link:
         return link.ask(query)
 
 
-def test_a_store_has_as_many_definitions_as_wanted(place: str) -> None:
-    """Sagas of each, before and behind a restart; a shard has 64 of them at most."""
+def test_a_store_has_as_many_definitions_as_wanted(location: str) -> None:
+    """There are sagas of each, before and after a restart; a shard has 64 definitions at most."""
     kinds = many()
 
     async def main() -> None:
-        async with sagas.open(place, kinds) as store:
+        async with sagas.open(location, kinds) as store:
             for kind in kinds:
                 await store.start(kind, f"{kind.name}-done")
                 await store.start(kind, f"{kind.name}-open", True)
@@ -66,23 +66,23 @@ def test_a_store_has_as_many_definitions_as_wanted(place: str) -> None:
             with pytest.raises(sagas.KeyConflict):
                 await store.start(kinds[0], "kind-134-open", True)
             assert not (await store.start(kinds[134], "kind-134-open", True)).new
-        async with sagas.open(place, [*reversed(kinds), *many(COUNT, 10)]) as store:
+        async with sagas.open(location, [*reversed(kinds), *many(COUNT, 10)]) as store:
             for kind in kinds:
                 await store.complete(f"{kind.name}-open", "ask", kind.name)
             for kind in kinds:
                 assert (await store.wait(f"{kind.name}-open")).results["ask"] == kind.name
-            assert {told[:3] for told in (await store.audit()).values()} == {"yes"}
+            assert {verdict[:3] for verdict in (await store.audit()).values()} == {"yes"}
 
     run(main())
-    counts = rows(place, "SELECT shard, count(*) FROM shard_definitions GROUP BY 1")
+    counts = rows(location, "SELECT shard, count(*) FROM shard_definitions GROUP BY 1")
     assert {count for _, count in counts} == {7, 64}
-    assert rows(place, "SELECT count(*) FROM definitions") == [(135,)]
+    assert rows(location, "SELECT count(*) FROM definitions") == [(135,)]
 
 
 def test_full_shards_of_several_sets(
     tmp_path: pathlib.Path, monkeypatch: pytest.MonkeyPatch
 ) -> None:
-    """Each set has a shard of its own that takes sagas, and the next one of the set follows it."""
+    """Each set has its own shard that takes sagas, and the next one of the set follows it."""
     monkeypatch.setattr("sagas.definition.shelf.SHARD_CAPACITY", 3)
     monkeypatch.setattr("sagas.definition.shelf.MOST_DEFINITIONS", 2)
     path, kinds = str(tmp_path / "store.db"), many(0, 5)
@@ -97,44 +97,44 @@ def test_full_shards_of_several_sets(
             )
 
     run(main())
-    found = rows(path, f"SELECT d.shard, s.id, s.key, text FROM {queries.DEFINED}")
-    assert len({shard for shard, *_ in found}) == 8 and len(found) == 20
-    for _, _, key, text in found:
+    stored = rows(path, f"SELECT d.shard, s.id, s.key, text FROM {queries.DEFINED}")
+    assert len({shard for shard, *_ in stored}) == 8 and len(stored) == 20
+    for _, _, key, text in stored:
         assert f'name = "{key.rpartition("-")[0]}"' in text
 
 
-def test_definitions_without_a_shard_leave(place: str) -> None:
-    """With the last shard of theirs; a version that no open saga has is not asked for any more."""
+def test_definitions_without_a_shard_leave(location: str) -> None:
+    """They leave with their last shard; a version without open sagas is not required any more."""
     first, second = make("kind", 1), make("kind", 2)
 
     async def main(kinds: list[sagas.Saga], key: str, waits: bool) -> None:
-        async with sagas.open(place, kinds) as store:
+        async with sagas.open(location, kinds) as store:
             await store.start(kinds[-1], key, waits)
             await (store.wait(key) if not waits else until(lambda: store.list(phase="open")))
-            # shards that take no sagas any more are closed behind what is waited for
-            await until(lambda: len(rows(place, "SELECT 1 FROM shards WHERE closed = 0")) == 1)
+            # shards that take no sagas any more are closed after the wait
+            await until(lambda: len(rows(location, "SELECT 1 FROM shards WHERE closed = 0")) == 1)
 
     async def rest() -> None:
-        async with sagas.open(place, [second]) as store:
+        async with sagas.open(location, [second]) as store:
             await store.abort_all()
             await store.wait_idle()
-            await until(lambda: not rows(place, "SELECT 1 FROM shards WHERE closed = 0"))
+            await until(lambda: not rows(location, "SELECT 1 FROM shards WHERE closed = 0"))
 
     run(main([first], "a", False))
     run(main([first, second], "b", False))
     run(main([second], "c", True))
-    with sagas.open_sync(place, [second]) as store:
+    with sagas.open_sync(location, [second]) as store:
         kept = store.definitions()
     assert kept == [sagas.DefinitionCount("kind", 1, 0, 1), sagas.DefinitionCount("kind", 2, 1, 2)]
-    assert rows(place, "SELECT count(*) FROM definitions") == [(2,)]
-    assert retention.prune(place, 0).sagas == 2  # they ended, and their shards are closed
-    assert rows(place, "SELECT count(*) FROM definitions") == [(1,)]
+    assert rows(location, "SELECT count(*) FROM definitions") == [(2,)]
+    assert retention.prune(location, 0).sagas == 2  # they ended, and their shards are closed
+    assert rows(location, "SELECT count(*) FROM definitions") == [(1,)]
     run(rest())
-    assert retention.prune(place, 0).sagas == 1
-    assert rows(place, "SELECT count(*) FROM definitions") == [(0,)]
+    assert retention.prune(location, 0).sagas == 1
+    assert rows(location, "SELECT count(*) FROM definitions") == [(0,)]
 
 
-def test_a_start_beside_a_deletion(url: str) -> None:
+def test_a_start_during_a_deletion(url: str) -> None:
     """Shards are made while sets without one are deleted: each shard has its set."""
 
     async def main() -> None:
@@ -187,14 +187,14 @@ DRIVER = """
 
 
 def environment() -> dict[str, str]:
-    """Of a program of its own."""
+    """Return the environment of a separate program."""
     path = f"{HERE.parent / 'src'}:{HERE}"
     return {**os.environ, "PYTHONPATH": path, "SAGAS_PROGRAM": program()}
 
 
-def test_a_killed_programs_sagas_of_all_sets_go_on(place: str, tmp_path: pathlib.Path) -> None:
-    """What it said was begun is there, under its definition, and is done once."""
-    (file := tmp_path / "driver.py").write_text(textwrap.dedent(DRIVER.format(path=place)))
+def test_a_killed_programs_sagas_of_all_sets_go_on(location: str, tmp_path: pathlib.Path) -> None:
+    """Each acknowledged saga exists, under its definition, and is done once."""
+    (file := tmp_path / "driver.py").write_text(textwrap.dedent(DRIVER.format(path=location)))
     began = []
     with subprocess.Popen(
         [sys.executable, "-u", str(file)], stdout=subprocess.PIPE, text=True, env=environment()
@@ -205,16 +205,16 @@ def test_a_killed_programs_sagas_of_all_sets_go_on(place: str, tmp_path: pathlib
     assert began == [f"kind-{number}" for number in range(COUNT)]
 
     async def main() -> None:
-        async with sagas.open(place, many(), lease=2.0) as store:
+        async with sagas.open(location, many(), lease=2.0) as store:
             for key in began:
                 await store.complete(key, "ask", key)
                 end = await store.wait(key)
                 assert end.saga == key and end.results["ask"] == key
-            assert {told[:3] for told in (await store.audit()).values()} == {"yes"}
+            assert {verdict[:3] for verdict in (await store.audit()).values()} == {"yes"}
 
     run(main())
     runs = rows(
-        place,
+        location,
         "SELECT key, value FROM attempts JOIN sagas USING (id) WHERE step = 0 AND event = 'commit'",
     )
     assert {*began} <= {key for key, _ in runs} and len(runs) == len({value for _, value in runs})

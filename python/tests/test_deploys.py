@@ -1,4 +1,4 @@
-"""Nodes and clients of several releases beside each other: who takes which start."""
+"""Nodes and clients of several releases in parallel: which node takes which start."""
 
 from __future__ import annotations
 
@@ -15,7 +15,7 @@ from sagas.cli import store_command
 
 
 def release(*steps: str, keep: int = 0) -> sagas.Saga:
-    """A release of one saga: each step notes its name."""
+    """Return a release of one saga: each step notes its name."""
     kind = sagas.Saga("pair")
     for step in steps:
         kind.step(name=step, keep=keep)(lambda task: "done")
@@ -23,31 +23,32 @@ def release(*steps: str, keep: int = 0) -> sagas.Saga:
 
 
 def waiting(url: str) -> list[str]:
-    """The keys of the starts that no log has yet."""
+    """Return the keys of the starts that no log has yet."""
     with psycopg.connect(url) as link:
         rows = link.execute("SELECT key FROM sagas.pending_starts ORDER BY key").fetchall()
         return [key for (key,) in rows]
 
 
-def nodes(url: str, capsys: pytest.CaptureFixture[str], *words: str) -> str:
-    """What the command says of nodes."""
-    assert store_command.main([url, "nodes", *words]) == 0
+def nodes(url: str, capsys: pytest.CaptureFixture[str], *arguments: str) -> str:
+    """Return the command's output about nodes."""
+    assert store_command.main([url, "nodes", *arguments]) == 0
     return capsys.readouterr().out
 
 
 @pytest.mark.parametrize("plain", [False, True])
 def test_a_step_is_added(url: str, capsys: pytest.CaptureFixture[str], plain: bool) -> None:
-    """A client that has the new step starts a saga beside a node that has not: the node leaves it,
-    and both say so. A node that has the step takes it."""
+    """A client that has the new step starts a saga next to a node that has not: the node leaves it,
+    and both report that. A node that has the step takes it.
+    """
     old, new = release("a", "b"), release("a", "b", "c")
 
     async def started(client: sagas.Client) -> sagas.ClientRun:
         if plain:
             with sagas.SyncClient(url) as other:
                 await asyncio.to_thread(other.start, new, "k", 1)
-            found = await client.get("k")
-            assert found
-            return found
+            run = await client.get("k")
+            assert run
+            return run
         return await client.start(new, "k", 1)
 
     async def main() -> None:
@@ -55,10 +56,12 @@ def test_a_step_is_added(url: str, capsys: pytest.CaptureFixture[str], plain: bo
             going = await started(client)
             assert (await (await client.start(old, "before", 1)).wait()).ok  # the node has looked
             assert waiting(url) == ["k"]
-            with pytest.raises(TimeoutError) as told:
+            with pytest.raises(TimeoutError) as error:
                 await going.wait(0.01)
-            said = "no node has its definition of saga 'pair' (version 1): node old has other steps"
-            assert said in str(told.value)
+            message = (
+                "no node has its definition of saga 'pair' (version 1): node old has other steps"
+            )
+            assert message in str(error.value)
             text = await asyncio.to_thread(nodes, url, capsys)
             assert "a node with this definition: old has another one" in text
             text = await asyncio.to_thread(nodes, url, capsys, "--json")
@@ -67,16 +70,18 @@ def test_a_step_is_added(url: str, capsys: pytest.CaptureFixture[str], plain: bo
             async with sagas.open(url, [new], node="new"):
                 assert (await going.wait(60)).states == dict.fromkeys("abc", "committed")
 
-    async def beside() -> None:
+    async def newer_node() -> None:
         async with sagas.open(url, [old], node="old"):
             await main()
 
-    run(beside())
+    run(newer_node())
 
 
 def test_a_start_of_an_older_client(url: str, capsys: pytest.CaptureFixture[str]) -> None:
-    """A node with another definition leaves it too, until a client of the node's definition starts
-    it again. One of a release without digests, or of a client without steps, is taken by name."""
+    """A node with another definition leaves it too, until a client with the node's definition
+    starts it again. A start of a release without digests, or of a client without steps, is taken by
+    name.
+    """
     old, new, named = release("a"), release("a", keep=5), sagas.Saga("pair")
 
     async def main() -> None:
@@ -95,7 +100,7 @@ def test_a_start_of_an_older_client(url: str, capsys: pytest.CaptureFixture[str]
 
 
 def test_two_releases_side_by_side(url: str) -> None:
-    """Each start is begun by a node of its own definition, whichever is asked first."""
+    """A node with the same definition begins each start, whichever is asked first."""
     old, new = release("a", "b"), release("a", "b", "c")
 
     async def main() -> None:
@@ -109,7 +114,7 @@ def test_two_releases_side_by_side(url: str) -> None:
 
 
 def test_a_definition_with_a_fault_is_not_started(url: str) -> None:
-    """A client hears so at once: no node could have it."""
+    """A client gets the error at once: no node could have it."""
     kind: Any = release("a")
     kind.step(name="b", needs=["nobody"])(lambda task: 1)
 

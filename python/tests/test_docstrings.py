@@ -23,7 +23,7 @@ REFERENCE = pathlib.Path(__file__).resolve().parents[2] / "docs" / "reference"
 
 
 def names() -> Iterator[tuple[str, Any]]:
-    """Every public name that has a docstring of its own, and those of its class."""
+    """Return every public name that has its own docstring, and those of its class."""
     for module in (sagas, sagas.testing, sagas.celery):
         for name in module.__all__:
             thing, full = getattr(module, name), f"{module.__name__}.{name}".removeprefix("sagas.")
@@ -31,34 +31,38 @@ def names() -> Iterator[tuple[str, Any]]:
                 yield full, thing
             if inspect.isclass(thing) and not issubclass(thing, (BaseException, str, tuple)):
                 for part in dir(thing):
-                    found = inspect.getattr_static(thing, part)
-                    if part[0] != "_" and (inspect.isroutine(found) or isinstance(found, property)):
+                    attribute = inspect.getattr_static(thing, part)
+                    if part[0] != "_" and (
+                        inspect.isroutine(attribute) or isinstance(attribute, property)
+                    ):
                         yield f"{full}.{part}", getattr(thing, part)
 
 
 def section(doc: str, word: str) -> set[str]:
-    """The names that a section of a docstring describes."""
-    found = re.search(rf"^{word}:\n((?:    .*\n|\n)+)", doc + "\n", re.M)
-    return set(re.findall(r"^    (\w+):", found[1], re.M)) if found else set()
+    """Return the names that a section of a docstring describes."""
+    match = re.search(rf"^{word}:\n((?:    .*\n|\n)+)", doc + "\n", re.M)
+    return set(re.findall(r"^    (\w+):", match[1], re.M)) if match else set()
 
 
 def described(thing: Any) -> set[str]:
-    """What a docstring describes, or one that it refers to."""
+    """Return what a docstring describes, or the docstring that it refers to."""
     doc = inspect.getdoc(thing) or ""
     if inspect.isclass(thing) and inspect.isfunction(vars(thing).get("__init__")):
         doc += "\n\n" + (inspect.getdoc(vars(thing)["__init__"]) or "")
-    found = section(doc, "Args") | section(doc, "Attributes")
+    documented = section(doc, "Args") | section(doc, "Attributes")
     for name in re.findall(r"See `([\w.]+)`", doc):
-        found |= described(operator.attrgetter(name)(sagas))
-    return found
+        documented |= described(operator.attrgetter(name)(sagas))
+    return documented
 
 
 def declared(kind: type) -> set[str]:
-    """The attributes of a class: its fields, and what its functions set."""
+    """Return the attributes of a class: its fields, and those that its functions set."""
     tree = ast.walk(ast.parse(inspect.getsource(kind)))
     sets = (it for it in tree if isinstance(it, ast.Attribute) and isinstance(it.ctx, ast.Store))
-    found = {it.attr for it in sets if isinstance(it.value, ast.Name) and it.value.id == "self"}
-    return found | {it.name for it in getattr(kind, "__dataclass_fields__", {}).values()}
+    attributes = {
+        it.attr for it in sets if isinstance(it.value, ast.Name) and it.value.id == "self"
+    }
+    return attributes | {it.name for it in getattr(kind, "__dataclass_fields__", {}).values()}
 
 
 @pytest.mark.parametrize("name, thing", names(), ids=lambda it: it if isinstance(it, str) else "")
@@ -75,28 +79,29 @@ def test_says_what_it_takes_and_raises(name: str, thing: Any) -> None:
 
 
 def row(word: str, page: str) -> bool:
-    """Whether a page of the reference has a row of a table for a name."""
+    """Return whether a page of the reference has a table row for a name."""
     return bool(re.search(rf"^\|[^|]*`{word}`.*\|$", (REFERENCE / page).read_text(), re.M))
 
 
 def test_the_reference_has_each_exception_and_event() -> None:
-    found = [getattr(sagas, name) for name in sagas.__all__]
-    errors = [it for it in found if inspect.isclass(it) and issubclass(it, sagas.SagasError)]
+    public = [getattr(sagas, name) for name in sagas.__all__]
+    errors = [it for it in public if inspect.isclass(it) and issubclass(it, sagas.SagasError)]
     kinds = {sagas.SagasError, sagas.TemporaryError, sagas.ConflictError, sagas.InvalidError}
     names = {it.__name__ for it in errors if it not in kinds}
     assert {name for name in names if not row(name, "exceptions.md")} == set()
-    words = {*events.LEVELS, *declared(sagas.Event)}
-    assert {word for word in words if not row(word, "events.md")} == set()
+    names_of_events = {*events.LEVELS, *declared(sagas.Event)}
+    assert {word for word in names_of_events if not row(word, "events.md")} == set()
     doc = inspect.getdoc(sagas.Event) or ""
     assert {word for word in attempts.WAITS if f"`{word}`" not in doc} == set()
 
 
 def test_examples_run(tmp_path: Any, monkeypatch: pytest.MonkeyPatch) -> None:
     monkeypatch.chdir(tmp_path)
-    told, count = {"sagas": sagas, "asyncio": asyncio}, 0
-    for name, thing in sorted(names(), key=lambda it: it[0] != "Saga"):  # its order is the others'
-        for example in doctest.DocTestFinder(recurse=False).find(thing, name, globs=told):
+    namespace, count = {"sagas": sagas, "asyncio": asyncio}, 0
+    # its order is that of the others
+    for name, thing in sorted(names(), key=lambda it: it[0] != "Saga"):
+        for example in doctest.DocTestFinder(recurse=False).find(thing, name, globs=namespace):
             assert not doctest.DocTestRunner().run(example, clear_globs=False).failed, name
-            told.update(example.globs)
+            namespace.update(example.globs)
             count += bool(example.examples)
     assert count >= 10

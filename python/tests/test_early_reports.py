@@ -1,4 +1,4 @@
-"""Reports that come before their step begins: stored, used once, and kept over whatever dies."""
+"""Reports that come before their step starts: stored, used once, and kept over any crash."""
 
 from __future__ import annotations
 
@@ -16,14 +16,14 @@ import sagas.testing
 
 
 def visit(calls: list[str] | None = None) -> sagas.Saga:
-    """An approval that opens the others: one, and a step that is done elsewhere."""
-    saga, said = sagas.Saga("visit"), [] if calls is None else calls
+    """Return a saga with an approval that opens the others: one more, and an external step."""
+    saga, called = sagas.Saga("visit"), [] if calls is None else calls
 
     opened = saga.approval(name="open", backoff=QUICK)(lambda task: None)
 
     @saga.approval(name="visa", needs=[opened], backoff=QUICK)
     def visa(task: Task) -> None:
-        said.append("visa")
+        called.append("visa")
 
     flight = saga.step(name="flight", needs=[opened], external=True, tries=3)
 
@@ -35,7 +35,7 @@ def visit(calls: list[str] | None = None) -> sagas.Saga:
 
 
 async def asks(store: sagas.Store, step: str = "open") -> None:
-    """The step waits for somebody's word."""
+    """Wait until the step needs a report."""
     waits = ("approval", "worker")
     await until(
         lambda: [
@@ -44,15 +44,18 @@ async def asks(store: sagas.Store, step: str = "open") -> None:
     )
 
 
-def test_it_is_stored_and_used(place: str, capsys: pytest.CaptureFixture[str]) -> None:
-    """Of an approval whose function is not called, and of a step that no worker gets; shown before,
-    gone afterwards; the same again is one report, another one conflicts, also at once."""
-    calls, shell = list[str](), Shell(place, capsys)
+def test_it_is_stored_and_used(location: str, capsys: pytest.CaptureFixture[str]) -> None:
+    """An approval whose function is not called, and a step that no worker gets.
+
+    The report is listed before, and gone afterwards. The same report again is one, and another one
+    conflicts, also at the same time.
+    """
+    calls, shell = list[str](), Shell(location, capsys)
     saga = visit(calls)
 
-    async def wrong(told: str, *words: Any, **more: Any) -> None:
-        with pytest.raises(sagas.StepNotWaiting, match=told) as error:
-            await store.complete("k", *words, **more)
+    async def wrong(message: str, *arguments: Any, **more: Any) -> None:
+        with pytest.raises(sagas.StepNotWaiting, match=message) as error:
+            await store.complete("k", *arguments, **more)
         assert "secret" not in str(error.value)
 
     async def rows() -> list[Any]:
@@ -61,7 +64,7 @@ def test_it_is_stored_and_used(place: str, capsys: pytest.CaptureFixture[str]) -
 
     async def main() -> None:
         nonlocal store
-        async with sagas.open(place, [saga]) as store:
+        async with sagas.open(location, [saga]) as store:
             trip = await store.start(saga, "k")
             await asks(store)
             await wrong("it has not started. Report", "visa", early=False)
@@ -69,8 +72,8 @@ def test_it_is_stored_and_used(place: str, capsys: pytest.CaptureFixture[str]) -
             await wrong("it has not started. Report", "open", undo=True)
             await wrong("has no step 'vis'; did you mean 'visa'", "vis")
             both = (store.complete("k", "visa", n) for n in (1, 2, 1))
-            found = await asyncio.gather(*both, return_exceptions=True)
-            kinds = [type(one).__name__ for one in found]
+            outcomes = await asyncio.gather(*both, return_exceptions=True)
+            kinds = [type(one).__name__ for one in outcomes]
             assert kinds == ["NoneType", "ConflictingReport", "NoneType"]
             await trip.complete("visa", 1)
             await wrong("a report of it is stored", "visa", "secret")
@@ -82,8 +85,8 @@ def test_it_is_stored_and_used(place: str, capsys: pytest.CaptureFixture[str]) -
                 (1, 0, "early_result"),
                 (2, 0, "early_result"),
             ]
-            assert "visa    waiting" in (told := await asyncio.to_thread(shell, "show", "k"))
-            assert told.count("reported early: complete") == 2
+            assert "visa    waiting" in (output := await asyncio.to_thread(shell, "show", "k"))
+            assert output.count("reported early: complete") == 2
             steps = (await asyncio.to_thread(shell.json, "show", "k"))["steps"]
             assert [step["early"] for step in steps] == [None, "complete", "complete", None]
             assert len(await asyncio.to_thread(shell.json, "pending")) == 1
@@ -99,12 +102,12 @@ def test_it_is_stored_and_used(place: str, capsys: pytest.CaptureFixture[str]) -
     run(main())
 
 
-def test_a_failure_ends_it(place: str) -> None:
-    """A failure is permanent: no attempt is made again."""
+def test_a_failure_ends_it(location: str) -> None:
+    """A failure is permanent: no other attempt is made."""
     saga = visit()
 
     async def main() -> None:
-        async with sagas.open(place, [saga]) as store:
+        async with sagas.open(location, [saga]) as store:
             run = await store.start(saga, "k")
             await asks(store)
             await store.fail("k", "flight", "no seat")
@@ -118,12 +121,13 @@ def test_a_failure_ends_it(place: str) -> None:
     run(main())
 
 
-def test_one_that_is_not_used_is_known_still(
-    place: str, capsys: pytest.CaptureFixture[str]
-) -> None:
-    """A saga that is undone takes no report of another step. The same one again is no error, and
-    another one conflicts: while it is undone, and once it is over, by Python and by the command."""
-    shell, gate, saga = Shell(place, capsys), asyncio.Event(), sagas.Saga("held")
+def test_an_unused_report_stays_known(location: str, capsys: pytest.CaptureFixture[str]) -> None:
+    """A saga that is undone takes no report of another step.
+
+    The same report again is no error, and another one conflicts. This holds while it is undone and
+    once it is over, by Python and by the command.
+    """
+    shell, gate, saga = Shell(location, capsys), asyncio.Event(), sagas.Saga("held")
 
     @saga.step
     async def hold(task: Task) -> None:
@@ -142,7 +146,7 @@ def test_one_that_is_not_used_is_known_still(
             await store.complete("k", "other", "same")
 
     async def main() -> None:
-        async with sagas.open(place, [saga]) as store:
+        async with sagas.open(location, [saga]) as store:
             run = await store.start(saga, "k")
             await store.complete("k", "visa", "same")
             assert await store.abort("k")
@@ -152,8 +156,8 @@ def test_one_that_is_not_used_is_known_still(
             await again(store)
             steps = (await asyncio.to_thread(shell.json, "show", "k"))["steps"]
             assert [step["early"] for step in steps] == [None] * 3
-            if "://" in place:
-                async with sagas.Client(place) as client:
+            if "://" in location:
+                async with sagas.Client(location) as client:
                     await client.complete("k", "visa", "same")
                     with pytest.raises(sagas.ConflictingReport):
                         await client.complete("k", "visa", "another")
@@ -165,13 +169,13 @@ def test_one_that_is_not_used_is_known_still(
     shell("complete", "k", "hold")
 
 
-def test_it_outlives_a_kill(place: str, capsys: pytest.CaptureFixture[str]) -> None:
-    """The next program, or another node, has it; a report that came by the command, too."""
-    saga, shell = visit(), Shell(place, capsys)
+def test_it_outlives_a_kill(location: str, capsys: pytest.CaptureFixture[str]) -> None:
+    """The next program, or another node, has it; so it is with a report by the command."""
+    saga, shell = visit(), Shell(location, capsys)
     if (child := os.fork()) == 0:
 
         async def first() -> None:
-            async with sagas.open(place, [saga], node="one", lease=1) as store:
+            async with sagas.open(location, [saga], node="one", lease=1) as store:
                 await store.start(saga, "k")
                 await store.complete("k", "visa", {"by": "ada"})
                 os.kill(os.getpid(), signal.SIGKILL)
@@ -181,19 +185,21 @@ def test_it_outlives_a_kill(place: str, capsys: pytest.CaptureFixture[str]) -> N
     assert "requested" in shell("complete", "k", "flight", "--result", '"LH1"', "--timeout", "0")
 
     async def second() -> None:
-        async with sagas.open(place, [saga], node="two", lease=1) as store:
+        async with sagas.open(location, [saga], node="two", lease=1) as store:
             await until(lambda: store.active_attempts("k"))
-            beside = ("complete", "k", "flight", "--result", '"LH2"', "--no-early")
-            told = await asyncio.to_thread(shell, *beside, status=1)
-            assert told == ""  # refused: the first one is stored, or it has not begun
+            arguments = ("complete", "k", "flight", "--result", '"LH2"', "--no-early")
+            output = await asyncio.to_thread(shell, *arguments, status=1)
+            assert output == ""  # refused: the first one is stored, or it has not started
             await store.complete("k", "open")
             assert (await store.wait("k", 60)).results["pack"] == [{"by": "ada"}, "LH1"]
 
     run(second())
 
 
-def test_with_a_codec(place: str) -> None:
-    """What is stored is encoded; a program that cannot decode it leaves the attempt to another."""
+def test_with_a_codec(location: str) -> None:
+    """The stored report is encoded; a program that cannot decode it leaves the attempt to another
+    one.
+    """
 
     class Codec:
         def __init__(self, reads: bool = True) -> None:
@@ -210,7 +216,7 @@ def test_with_a_codec(place: str) -> None:
     saga = visit()
 
     async def parts(codec: Codec, part: int) -> None:
-        async with sagas.open(place, [saga], codec=codec, node="one") as store:
+        async with sagas.open(location, [saga], codec=codec, node="one") as store:
             if part == 0:
                 await store.start(saga, "k")
                 await asks(store)
@@ -233,12 +239,12 @@ def test_with_a_codec(place: str) -> None:
     run(parts(codec, 2))
 
 
-def test_beside_the_beginning(place: str) -> None:
-    """Reports come while their steps begin: each counts, once, wherever its step is by then."""
+def test_reports_during_the_start_of_their_step(location: str) -> None:
+    """Reports come while their steps start: each counts once, whatever the state of its step."""
     saga = visit()
 
     async def main() -> None:
-        async with sagas.open(place, [saga]) as store:
+        async with sagas.open(location, [saga]) as store:
 
             async def one(key: str, pause: int) -> None:
                 await store.complete(key, "open")
@@ -257,7 +263,7 @@ def test_beside_the_beginning(place: str) -> None:
 
 
 def test_from_elsewhere(url: str) -> None:
-    """A client's report, before a node has begun its saga, and another node's."""
+    """A client's report, before a node has started its saga, and another node's."""
     saga = visit()
 
     async def main() -> None:
@@ -289,18 +295,21 @@ def test_from_elsewhere(url: str) -> None:
 def test_in_a_simulation() -> None:
     """`early` of `sagas.testing`: its function is not called."""
     saga = visit(calls := list[str]())
-    said: dict[str, Any] = {"open": None, "visa": "yes", "flight": 1}
-    trial = sagas.testing.run(saga, early=said)
+    reports: dict[str, Any] = {"open": None, "visa": "yes", "flight": 1}
+    trial = sagas.testing.run(saga, early=reports)
     assert trial.results["pack"] == ["yes", 1] and calls == []
-    trial = sagas.testing.run(saga, answers=said, early={"flight": sagas.Fail("full")})
+    trial = sagas.testing.run(saga, answers=reports, early={"flight": sagas.Fail("full")})
     assert trial.states["flight"] == "failed" and trial.states["open"] == "undone"
     with pytest.raises(ValueError, match="neither an approval nor external"):
         sagas.testing.run(saga, early={"pack": 1})
 
 
 @pytest.mark.parametrize("way", ["abort", "failure"])
-def test_one_whose_needs_are_committed_is_committed_before_a_recovery(place: str, way: str) -> None:
-    """No slot is free for it, and its saga is aborted, or a step fails: it is undone as any other. So is one that needs it."""
+def test_an_early_report_is_committed_before_a_recovery(location: str, way: str) -> None:
+    """No slot is free for it, and its saga is aborted, or a step fails: it is undone as any other.
+
+    So is one that needs it.
+    """
     saga, calls, gate = sagas.Saga("order"), list[Any](), asyncio.Event()
 
     @saga.step(keep=9)
@@ -321,7 +330,7 @@ def test_one_whose_needs_are_committed_is_committed_before_a_recovery(place: str
         step.compensation(lambda task: calls.append((task.step, task.result, task.attempt)))
 
     async def main() -> None:
-        async with sagas.open(place, [saga], concurrency=1) as store:
+        async with sagas.open(location, [saga], concurrency=1) as store:
             run = await store.start(saga, "k")
             await until(lambda: [one for one in store.active_attempts("k") if one.step == "check"])
             await store.complete("k", "ship", "boxed")
@@ -340,6 +349,6 @@ def test_one_whose_needs_are_committed_is_committed_before_a_recovery(place: str
             }
             assert calls == [("ship", "boxed", 1), ("pay", {"euros": 40}, 1), "release"]
             assert await store._access.coordinator.store.read("SELECT 1 FROM suspensions") == []
-            assert all(said.startswith("yes") for said in (await store.audit()).values())
+            assert all(verdict.startswith("yes") for verdict in (await store.audit()).values())
 
     run(main())

@@ -1,4 +1,4 @@
-"""The examples, each run as its head says, and what they print."""
+"""The examples, each run as its head says, and their output."""
 
 from __future__ import annotations
 
@@ -51,9 +51,9 @@ def test_an_example_runs(name: str) -> None:
     path = TOP / "examples" / "python" / f"{name}.py"
     assert f"PYTHONPATH=python/src python3 examples/python/{name}.py" in path.read_text()
     environment = os.environ | {"PYTHONPATH": "python/src"}
-    words = [sys.executable, str(path.relative_to(TOP))]
+    command = [sys.executable, str(path.relative_to(TOP))]
     done = subprocess.run(
-        words, cwd=TOP, env=environment, capture_output=True, text=True, timeout=60, check=False
+        command, cwd=TOP, env=environment, capture_output=True, text=True, timeout=60, check=False
     )
     assert done.returncode == 0, done.stderr
     lines = iter(done.stdout.splitlines())
@@ -62,5 +62,5 @@ def test_an_example_runs(name: str) -> None:
 
 
 def test_each_example_is_tried() -> None:
-    """None without a word of what it prints."""
+    """Each has some expected output."""
     assert set(EXAMPLES) == set(SAYS)

@@ -1,4 +1,4 @@
-"""Attempts that are used up: they fail, ask a person or go on, over restarts and kills."""
+"""Exhausted attempts: they fail, need an operator or continue, over restarts and kills."""
 
 from __future__ import annotations
 
@@ -28,7 +28,9 @@ ASKS = AttentionReason.EXHAUSTED
 
 
 class Notes:
-    """A witness outside of the store: a file with a line for each call, and what fails still."""
+    """A witness outside of the store: a file with a line for each call, and the steps that still
+    fail.
+    """
 
     def __init__(self, folder: pathlib.Path) -> None:
         self.path, self.broken = folder / "calls", folder / "broken"
@@ -37,7 +39,7 @@ class Notes:
         """the call in which this process is killed"""
 
     def called(self, task: Task) -> None:
-        """Note it, before anything else; it fails as long as it is broken."""
+        """Note the call before anything else; it fails as long as the step is broken."""
         with open(self.path, "a") as file:
             file.write(f"{task.idempotency_key} {task.attempt}\n")
         if len(self.lines) == self.strike:
@@ -47,19 +49,19 @@ class Notes:
 
     @property
     def lines(self) -> list[str]:
-        """The calls."""
+        """Return the calls."""
         return self.path.read_text().splitlines() if self.path.exists() else []
 
 
-def order(notes: Notes, **words: Any) -> sagas.Saga:
-    """Charges and sends; the sending fails, and then the refund. By defaults alone."""
+def order(notes: Notes, **options: Any) -> sagas.Saga:
+    """Return a saga that charges and sends, with defaults; the send fails, and then the refund."""
     order = sagas.Saga("order")
 
     @order.step(keep=sagas.NEVER)
     def charge(task: Task) -> int:
         return 40
 
-    @charge.compensation(backoff=QUICK, **words)
+    @charge.compensation(backoff=QUICK, **options)
     def refund(task: Task) -> None:
         notes.called(task)
 
@@ -70,11 +72,11 @@ def order(notes: Notes, **words: Any) -> sagas.Saga:
     return order
 
 
-def alone(notes: Notes, **words: Any) -> sagas.Saga:
-    """One step, which fails as long as it is broken."""
+def alone(notes: Notes, **options: Any) -> sagas.Saga:
+    """Return a saga of one step, which fails as long as it is broken."""
     saga = sagas.Saga("alone")
 
-    @saga.step(name="a", backoff=words.pop("backoff", QUICK), undo=0, **words)
+    @saga.step(name="a", backoff=options.pop("backoff", QUICK), undo=0, **options)
     def call(task: Task) -> str:
         notes.called(task)
         return "done"
@@ -82,14 +84,14 @@ def alone(notes: Notes, **words: Any) -> sagas.Saga:
     return saga
 
 
-def killed(place: str, kind: sagas.Saga, keys: list[str]) -> None:
-    """Start sagas in a process that is killed by one of their functions."""
+def killed(location: str, kind: sagas.Saga, keys: list[str]) -> None:
+    """Start sagas in a process that one of their functions kills."""
     child = os.fork()
     if child == 0:
         try:
 
             async def main() -> None:
-                async with sagas.open(place, [kind], node="one", lease=2) as store:
+                async with sagas.open(location, [kind], node="one", lease=2) as store:
                     await asyncio.gather(*(ended(store, kind, key) for key in keys))
 
             asyncio.run(main())
@@ -98,48 +100,51 @@ def killed(place: str, kind: sagas.Saga, keys: list[str]) -> None:
     assert os.waitstatus_to_exitcode(os.waitpid(child, 0)[1]) == -signal.SIGKILL
 
 
-async def asked(store: sagas.Store) -> list[sagas.Attention]:
-    """What waits for an operator."""
+async def exhausted_attempts(store: sagas.Store) -> list[sagas.Attention]:
+    """Return the attempts that need an operator."""
     return [one for one in await store.attention() if one.why is ASKS]
 
 
 def opened(
-    place: str, kind: sagas.Saga, hook: Callable[[sagas.Event], object] | None = None
+    location: str, kind: sagas.Saga, hook: Callable[[sagas.Event], object] | None = None
 ) -> Any:
-    """The next program: by its name it has its shards at once, and a case may block its loop."""
-    return sagas.open(place, [kind], node="one", lease=60, on_event=hook)
+    """Open the next program: by its name it has its shards at once, and a case may block
+    its loop.
+    """
+    return sagas.open(location, [kind], node="one", lease=60, on_event=hook)
 
 
 @pytest.mark.parametrize(
-    "place, answer, strike",
+    "location, answer, strike",
     pairs(PLACES, ("retry", "complete", "fail"), (1, 0)),
-    indirect=["place"],
+    indirect=["location"],
 )
 def test_a_refund_that_fails_asks(
-    place: str, tmp_path: pathlib.Path, answer: str, strike: int
+    location: str, tmp_path: pathlib.Path, answer: str, strike: int
 ) -> None:
-    """By defaults alone: it is in the inbox and told, also where the program was killed as it was
-    called; a restart calls nothing again; one answer counts, and the same answer again is one."""
+    """With defaults, it is in the inbox and reported, also if the program was killed during the
+    call. A restart does not call it again; one answer counts, and the same answer again is one.
+    """
     notes, events = Notes(tmp_path), list[str]()
     notes.strike = strike
     kind = order(notes)
     if strike:
-        killed(place, kind, ["k"])
+        killed(location, kind, ["k"])
     notes.strike = 0
 
     async def first() -> None:
-        async with opened(place, kind, lambda one: events.append(one.name)) as store:
+        async with opened(location, kind, lambda one: events.append(one.name)) as store:
             await store.start(kind, "k")
-            (one,) = await until(lambda: asked(store))
-            told = (one.key, one.saga, one.step, one.undo, one.detail)
-            assert told == ("k", "order", "charge", True, "RuntimeError: the bank is closed")
+            (one,) = await until(lambda: exhausted_attempts(store))
+            entry = (one.key, one.saga, one.step, one.undo, one.detail)
+            assert entry == ("k", "order", "charge", True, "RuntimeError: the bank is closed")
             with pytest.raises(TimeoutError, match="retry, complete or fail with undo=True"):
                 await store.wait("k", 0.05)
 
     async def second() -> None:
-        async with opened(place, kind) as store:
+        async with opened(location, kind) as store:
             count = len(notes.lines)
-            (one,) = await until(lambda: asked(store))
+            (one,) = await until(lambda: exhausted_attempts(store))
             with pytest.raises(sagas.StepNotWaiting, match="'send' cannot be retried"):
                 await store.retry("k", "send")
             assert len(notes.lines) == count
@@ -154,7 +159,7 @@ def test_a_refund_that_fails_asks(
             end = await store.wait("k", 60)
             assert end.states["charge"] == ("undo_failed" if answer == "fail" else "undone")
             assert len(notes.lines) == count + (answer == "retry")
-            assert not await asked(store)
+            assert not await exhausted_attempts(store)
             with pytest.raises(sagas.StepNotWaiting):
                 await store.retry("k", "charge", undo=True)
 
@@ -164,18 +169,20 @@ def test_a_refund_that_fails_asks(
     assert len({line.split()[0] for line in notes.lines}) == 1
 
 
-def test_a_step_asks_where_it_says_so(place: str, tmp_path: pathlib.Path) -> None:
-    """Each waits by itself, and is answered by itself or with all of a filter; `Fail` asks nobody;
-    one whose saga is aborted has failed."""
+def test_a_step_that_asks_an_operator(location: str, tmp_path: pathlib.Path) -> None:
+    """Each waits by itself, and is answered by itself or with all of a filter.
+
+    `Fail` asks no operator; an attempt whose saga is aborted has failed.
+    """
     notes = Notes(tmp_path)
     kind = alone(notes, on_exhausted="ask", tries=2)
     keys = ["a", "b", "c", "d"]
 
     async def main() -> None:
-        async with opened(place, kind) as store:
+        async with opened(location, kind) as store:
 
             async def counted(count: int) -> bool:
-                return len(await asked(store)) == count
+                return len(await exhausted_attempts(store)) == count
 
             runs = [await store.start(kind, key) for key in keys]
             await until(lambda: counted(4))
@@ -184,7 +191,8 @@ def test_a_step_asks_where_it_says_so(place: str, tmp_path: pathlib.Path) -> Non
             assert await store.retry_all(saga="other") == 0 == await store.retry_all(step="b")
             await store.complete("c", "a", "by hand")
             assert (await runs[2].wait()).results == {"a": "by hand"}
-            assert await store.retry_all(limit=1) == 1  # it fails twice, and asks again
+            # it fails twice, and needs an operator again
+            assert await store.retry_all(limit=1) == 1
             await until(lambda: len(notes.lines) == 10)
             await until(lambda: counted(2))
             assert await store.fail_all("no", saga="alone", step="a") == 2
@@ -193,9 +201,11 @@ def test_a_step_asks_where_it_says_so(place: str, tmp_path: pathlib.Path) -> Non
     run(main())
 
 
-def test_a_step_that_asks_is_not_failed_by_another(place: str, tmp_path: pathlib.Path) -> None:
-    """A person was asked, and may do it by hand: what was done is undone. A step that is attempted
-    again by itself has failed."""
+def test_a_step_that_asks_is_not_failed_by_another(location: str, tmp_path: pathlib.Path) -> None:
+    """An operator was asked, and may do it by hand: its effect is undone.
+
+    A step that is retried automatically has failed.
+    """
     notes, undone, kind = Notes(tmp_path), list[str](), sagas.Saga("three")
     asks = kind.step(notes.called, name="asks", tries=2, keep=9, on_exhausted="ask", backoff=QUICK)
     asks.compensation(lambda task: undone.append(task.result))
@@ -204,13 +214,15 @@ def test_a_step_that_asks_is_not_failed_by_another(place: str, tmp_path: pathlib
     kind.step(name="other", external=True, undo=sagas.NEVER)
 
     async def main() -> None:
-        async with opened(place, kind) as store:
+        async with opened(location, kind) as store:
             await store.start(kind, "k")
-            await until(lambda: asked(store))
+            await until(lambda: exhausted_attempts(store))
             await until(lambda: len(notes.lines) == 3)
             await store.fail("k", "other", "full")
-        async with opened(place, kind) as store:
-            assert [entry.step for entry in await until(lambda: asked(store))] == ["asks"]
+        async with opened(location, kind) as store:
+            assert [entry.step for entry in await until(lambda: exhausted_attempts(store))] == [
+                "asks"
+            ]
             await store.complete("k", "asks", "by hand")
             end = await store.wait("k", 60)
             assert end.states == {"asks": "undone", "repeats": "failed", "other": "failed"}
@@ -219,8 +231,8 @@ def test_a_step_that_asks_is_not_failed_by_another(place: str, tmp_path: pathlib
     run(main())
 
 
-def test_a_limit_counts_the_steps_that_are_meant(place: str) -> None:
-    """Others that have waited longer do not count."""
+def test_a_limit_counts_the_steps_that_are_meant(location: str) -> None:
+    """Other steps that have waited longer do not count."""
     kind, opens = sagas.Saga("two"), set[str]()
 
     def once(task: Task) -> None:
@@ -231,24 +243,24 @@ def test_a_limit_counts_the_steps_that_are_meant(place: str) -> None:
     kind.step(once, name="b", needs=[first], on_exhausted="ask", backoff=QUICK)
 
     async def main() -> None:
-        async with opened(place, kind) as store:
+        async with opened(location, kind) as store:
             await store.start(kind, "older")
-            (one,) = await until(lambda: asked(store))
+            (one,) = await until(lambda: exhausted_attempts(store))
             opens.add("a")
             run = await store.start(kind, "newer")
-            await until(lambda: told(store, 2))
+            await until(lambda: has_count(store, 2))
             opens.add("b")
             assert await store.retry_all(step="b", limit=1) == 1
-            assert (await run.wait()).ok and [one] == await asked(store)
+            assert (await run.wait()).ok and [one] == await exhausted_attempts(store)
 
-    async def told(store: sagas.Store, count: int) -> bool:
-        return len(await asked(store)) == count
+    async def has_count(store: sagas.Store, count: int) -> bool:
+        return len(await exhausted_attempts(store)) == count
 
     run(main())
 
 
-def test_how_often_it_failed(place: str, capsys: pytest.CaptureFixture[str]) -> None:
-    """Each failure is counted, and none of those before a person's retry."""
+def test_how_often_it_failed(location: str, capsys: pytest.CaptureFixture[str]) -> None:
+    """Each failure is counted, and none of those before an operator's retry."""
     kind, pauses = sagas.Saga("often"), iter((0.01, 3600.0, 3600.0))
 
     @kind.step(tries=2, max_attempts=9)
@@ -256,11 +268,11 @@ def test_how_often_it_failed(place: str, capsys: pytest.CaptureFixture[str]) -> 
         raise sagas.RetryAfter(next(pauses))
 
     def has_failed(times: str) -> bool:
-        assert store_command.main([place, "show", "k"]) == 0
+        assert store_command.main([location, "show", "k"]) == 0
         return f"its next attempt: it failed ({times})" in capsys.readouterr().out
 
     async def main() -> None:
-        async with opened(place, kind) as store:
+        async with opened(location, kind) as store:
             await store.start(kind, "k")
             await until(lambda: has_failed("2 times"))
             await store.retry("k", "a")
@@ -271,19 +283,21 @@ def test_how_often_it_failed(place: str, capsys: pytest.CaptureFixture[str]) -> 
 
 @pytest.mark.parametrize("more", [{"max_attempts": 12}, {"on_exhausted": "retry"}])
 def test_more_attempts_than_a_definition_has(
-    place: str, tmp_path: pathlib.Path, more: dict[str, Any]
+    location: str, tmp_path: pathlib.Path, more: dict[str, Any]
 ) -> None:
-    """They are counted over a kill: the call that was struck is made once more, and the one before
-    it is not counted where its row was on its way.
+    """They are counted over a kill.
+
+    The interrupted call is made again, and the one before it is not counted if its row was being
+    written.
     """
     notes = Notes(tmp_path)
     notes.strike = 6
     kind = alone(notes, tries=3, **more)
-    killed(place, kind, ["k"])
+    killed(location, kind, ["k"])
     notes.strike = 0
 
     async def main() -> None:
-        async with opened(place, kind) as store:
+        async with opened(location, kind) as store:
             started = await store.start(kind, "k")
             if "max_attempts" in more:
                 end = await started.wait(60)
@@ -297,9 +311,10 @@ def test_more_attempts_than_a_definition_has(
     assert {line.split()[1] for line in notes.lines} == {"1", "2", "3"}
 
 
-def test_a_function_says_when(place: str, tmp_path: pathlib.Path) -> None:
-    """`RetryAfter` goes before the back-off, in attempts of the definition and behind them, and
-    before one of an earlier program."""
+def test_a_function_requests_the_time_of_its_retry(location: str, tmp_path: pathlib.Path) -> None:
+    """`RetryAfter` precedes the back-off, in attempts of the definition and after them, and before
+    one of an earlier program.
+    """
     pauses = [0.01, 0.02, 0.03]
     saga, seen = sagas.Saga("soon"), list[float]()
 
@@ -311,7 +326,7 @@ def test_a_function_says_when(place: str, tmp_path: pathlib.Path) -> None:
         return len(seen)
 
     async def main(is_last: bool) -> None:
-        async with opened(place, saga) as store:
+        async with opened(location, saga) as store:
             started = await store.start(saga, "k")
             if is_last:
                 assert (await started.wait(60)).results == {"a": 4}
@@ -324,21 +339,21 @@ def test_a_function_says_when(place: str, tmp_path: pathlib.Path) -> None:
     assert seen == [1, 2, 2, 2] and str(sagas.RetryAfter(2)) == "in 2 s"
 
 
-def test_work_of_a_worker(place: str) -> None:
-    """What an external worker reports as failed asks, too, and is offered again."""
+def test_work_of_a_worker(location: str) -> None:
+    """An external worker's failure also needs an operator, and is offered again."""
     saga = sagas.Saga("far")
     saga.step(name="a", external=True, undo=0, on_exhausted="ask")
     word = [("far", "a", "run")]
 
     async def main() -> None:
-        store = opened(place, saga)
+        store = opened(location, saga)
         store.leased = True
         async with store:
             started = await store.start(saga, "k")
             (task,) = await store.workers.claim(word, wait=30)
             assert await store.workers.report(task.attempt_id, task.lease, error="no")
             assert not await store.workers.report(task.attempt_id, task.lease, error="no")
-            await until(lambda: asked(store))
+            await until(lambda: exhausted_attempts(store))
             assert await store.workers.claim(word) == []
             await store.retry("k", "a")
             (again,) = await store.workers.claim(word, wait=30)
@@ -359,7 +374,7 @@ def test_from_elsewhere(url: str, tmp_path: pathlib.Path) -> None:
     async def main() -> None:
         async with opened(url, kind) as store, sagas.Client(url) as client:
             started = await store.start(kind, "k")
-            await until(lambda: asked(store))
+            await until(lambda: exhausted_attempts(store))
             assert [one.why for one in await client.attention()] == [ASKS]
             with pytest.raises(sagas.StepNotWaiting, match="no step 'b'"):
                 await client.retry("k", "b")
@@ -373,40 +388,46 @@ def test_from_elsewhere(url: str, tmp_path: pathlib.Path) -> None:
 
 
 def test_the_command(tmp_path: pathlib.Path, capsys: pytest.CaptureFixture[str]) -> None:
-    """What waits is listed, and retried one by one or all of a name."""
-    notes, place = Notes(tmp_path), str(tmp_path / "store.db")
+    """Waiting attempts are listed, and retried one by one or all of a name."""
+    notes, location = Notes(tmp_path), str(tmp_path / "store.db")
     kind = alone(notes, on_exhausted="ask")
 
-    def said(*words: str) -> str:
-        assert store_command.main([place, *words]) == 0
+    def run_command(*arguments: str) -> str:
+        assert store_command.main([location, *arguments]) == 0
         return capsys.readouterr().out
 
     async def main() -> None:
-        async with opened(place, kind) as store:
+        async with opened(location, kind) as store:
             runs = [await store.start(kind, key) for key in ("a", "b")]
 
-            async def are_asked() -> bool:
-                return len(await asked(store)) == 2
+            async def are_waiting() -> bool:
+                return len(await exhausted_attempts(store)) == 2
 
-            await until(are_asked)
-            assert "attempts used up" in said("attention") and "an operator: its" in said("pending")
-            assert '"exhausted"' in said("pending", "--json")
+            await until(are_waiting)
+            assert "attempts used up" in run_command(
+                "attention"
+            ) and "an operator: its" in run_command("pending")
+            assert '"exhausted"' in run_command("pending", "--json")
             notes.broken.unlink()
-            done = await asyncio.to_thread(said, "retry", "a", "a")
+            done = await asyncio.to_thread(run_command, "retry", "a", "a")
             assert done == "a: a is attempted again\n" and (await runs[0].wait()).ok
             every = "retry", "--all", "--saga", "alone"
-            assert said(*every) == "1 step: --yes retries it\n" == said(*every, "--step", "a")
             assert (
-                said(*every, "--step", "b")
-                == said("retry", "--all", "--label", "x=1")
+                run_command(*every)
+                == "1 step: --yes retries it\n"
+                == run_command(*every, "--step", "a")
+            )
+            assert (
+                run_command(*every, "--step", "b")
+                == run_command("retry", "--all", "--label", "x=1")
                 == "0 steps\n"
             )
-            done = await asyncio.to_thread(said, *every, "--yes")
+            done = await asyncio.to_thread(run_command, *every, "--yes")
             assert done == "b: a is attempted again\n" and (await runs[1].wait()).ok
-            assert await asyncio.to_thread(said, "retry", "--all", "--yes") == ""
+            assert await asyncio.to_thread(run_command, "retry", "--all", "--yes") == ""
 
     run(main())
-    for words in (
+    for arguments in (
         ["retry"],
         ["retry", "a"],
         ["retry", "a", "a", "--all"],
@@ -418,70 +439,88 @@ def test_the_command(tmp_path: pathlib.Path, capsys: pytest.CaptureFixture[str])
         ["fail", "--all"],
         ["fail", "a", "a", "no", "--error", "no"],
     ):
-        assert store_command.main([place, *words]) == 2
+        assert store_command.main([location, *arguments]) == 2
 
 
-def all_asked(place: str, count: int) -> None:
-    """Wait, in the thread of the program, until so many commands are in the store."""
+def wait_for_commands(location: str, count: int) -> None:
+    """Wait, in the thread of the program, until this many commands are in the store."""
     end = time.monotonic() + 60
-    with contextlib.closing(admin.connect(place)) as link:
+    with contextlib.closing(admin.connect(location)) as link:
         while link.ask("SELECT count(*) FROM operator_commands WHERE answer IS NULL") != [(count,)]:
             assert time.monotonic() < end, "they are not asked at once"
             time.sleep(0.01)
 
 
 def test_the_command_reports_all(
-    place: str, tmp_path: pathlib.Path, capsys: pytest.CaptureFixture[str]
+    location: str, tmp_path: pathlib.Path, capsys: pytest.CaptureFixture[str]
 ) -> None:
-    """A count first; then each of the filter alone has the result, or has failed."""
+    """A count comes first; then each attempt of the filter has the result, or has failed."""
     notes = Notes(tmp_path)
-    kind, lots = alone(notes, on_exhausted="ask"), {"x": "done", "y": "failed", "z": "left"}
+    kind, outcomes = alone(notes, on_exhausted="ask"), {"x": "done", "y": "failed", "z": "left"}
 
-    def said(*words: str) -> str:
-        assert store_command.main([place, *words]) == 0
+    def run_command(*arguments: str) -> str:
+        assert store_command.main([location, *arguments]) == 0
         return capsys.readouterr().out
 
     async def main() -> None:
-        async with opened(place, kind) as store:
+        async with opened(location, kind) as store:
             runs = {
-                f"{lot}-{number}": await store.start(kind, f"{lot}-{number}", labels={"lot": lot})
-                for lot in lots
+                f"{outcome}-{number}": await store.start(
+                    kind, f"{outcome}-{number}", labels={"lot": outcome}
+                )
+                for outcome in outcomes
                 for number in range(2)
             }
 
-            async def are_asked() -> bool:
-                return len(await asked(store)) == 6
+            async def are_waiting() -> bool:
+                return len(await exhausted_attempts(store)) == 6
 
-            await until(are_asked)
+            await until(are_waiting)
             done = "complete", "--all", "--label", "lot=x", "--result", "7"
-            assert said(*done) == "2 steps: --yes completes them\n"
-            assert json.loads(said(*done, "--json")) == {"count": 2}
+            assert run_command(*done) == "2 steps: --yes completes them\n"
+            assert json.loads(run_command(*done, "--json")) == {"count": 2}
             failed = "fail", "--all", "--label", "lot=y", "--error", "it is down"
-            assert said(*failed) == "2 steps: --yes fails them\n" and len(await asked(store)) == 6
-            words = [*done, "--yes", "--note", "seen", "--timeout", "60"]
-            job = asyncio.create_task(asyncio.to_thread(said, *words))
+            assert (
+                run_command(*failed) == "2 steps: --yes fails them\n"
+                and len(await exhausted_attempts(store)) == 6
+            )
+            arguments = [*done, "--yes", "--note", "seen", "--timeout", "60"]
+            job = asyncio.create_task(asyncio.to_thread(run_command, *arguments))
             await asyncio.sleep(0)
-            all_asked(
-                place, 2
-            )  # while nothing here can answer: no step waits for another one's answer
+            # while no command here can be answered: no step waits for another one's answer
+            wait_for_commands(location, 2)
             assert sorted((await job).splitlines()) == ["x-0: a succeeded", "x-1: a succeeded"]
-            told = json.loads(await asyncio.to_thread(said, *failed, "--yes", "--json"))
+            failed_reports = json.loads(
+                await asyncio.to_thread(run_command, *failed, "--yes", "--json")
+            )
             entry = {"step": "a", "kind": "run", "asked": "fail", "answer": True}
-            assert sorted(told, key=lambda one: one["key"]) == [
+            assert sorted(failed_reports, key=lambda one: one["key"]) == [
                 {"key": key} | entry for key in ("y-0", "y-1")
             ]
-            assert json.loads(await asyncio.to_thread(said, *failed, "--yes", "--json")) == []
+            assert (
+                json.loads(await asyncio.to_thread(run_command, *failed, "--yes", "--json")) == []
+            )
             for number in range(2):
                 assert (await runs[f"x-{number}"].wait()).results == {"a": 7}
                 assert (await runs[f"y-{number}"].wait()).errors == {"a": "it is down"}
-            assert sorted({one.key for one in await asked(store)}) == ["z-0", "z-1"]
+            assert sorted({one.key for one in await exhausted_attempts(store)}) == ["z-0", "z-1"]
             rest = ["--all", "--yes", "--json", "--timeout", "60"]
-            job = asyncio.create_task(asyncio.to_thread(said, "complete", *rest))
+            job = asyncio.create_task(asyncio.to_thread(run_command, "complete", *rest))
             await asyncio.sleep(0)
-            all_asked(place, 2)
-            words = [sys.executable, "-m", "sagas", "store", place, "fail", *rest, "--error", "no"]
-            with subprocess.Popen(words, stdout=subprocess.PIPE, env=environment()) as late:
-                all_asked(place, 4)
+            wait_for_commands(location, 2)
+            arguments = [
+                sys.executable,
+                "-m",
+                "sagas",
+                "store",
+                location,
+                "fail",
+                *rest,
+                "--error",
+                "no",
+            ]
+            with subprocess.Popen(arguments, stdout=subprocess.PIPE, env=environment()) as late:
+                wait_for_commands(location, 4)
                 answers = [one["answer"] for one in json.loads(await job)]
                 out = await asyncio.to_thread(late.communicate)
             refused = [one["answer"] for one in json.loads(out[0])]
@@ -492,7 +531,7 @@ def test_the_command_reports_all(
 
 
 def test_in_a_simulation() -> None:
-    """A test says what a person answers; without an answer it is told what to say."""
+    """A test gives the operator's answer; without one, the error says what to give."""
     saga = sagas.Saga("order")
 
     @saga.step(keep=sagas.NEVER)
@@ -517,7 +556,7 @@ def test_in_a_simulation() -> None:
 
 
 @pytest.mark.parametrize(
-    ("words", "told"),
+    ("options", "message"),
     [
         (
             {"on_exhausted": "again"},
@@ -531,6 +570,8 @@ def test_in_a_simulation() -> None:
         ),
     ],
 )
-def test_wrong_words(words: dict[str, Any], told: str, tmp_path: pathlib.Path) -> None:
-    with pytest.raises(sagas.DefinitionError, match=told):
-        alone(Notes(tmp_path), **words)
+def test_invalid_options_of_retries(
+    options: dict[str, Any], message: str, tmp_path: pathlib.Path
+) -> None:
+    with pytest.raises(sagas.DefinitionError, match=message):
+        alone(Notes(tmp_path), **options)

@@ -1,4 +1,4 @@
-"""What can go wrong, and what it does: one case for each, with real processes where there are some."""
+"""One test for each possible error, with real processes if there are some."""
 
 from __future__ import annotations
 
@@ -28,7 +28,7 @@ from cases import (
     PLACES,
     QUICK,
     Task,
-    asked_of,
+    attempts_to_report,
     ended,
     in_child,
     pairs,
@@ -51,23 +51,25 @@ from sagas.storage.sqlite import store_file, writer
 HERE = pathlib.Path(__file__).resolve().parent
 
 
-def script(path: pathlib.Path, text: str, *words: str) -> subprocess.Popen[str]:
-    """Starts a Python program, with the package and the tests in its path."""
+def script(path: pathlib.Path, text: str, *arguments: str) -> subprocess.Popen[str]:
+    """Start a Python program, with the package and the tests in its path."""
     path.write_text(textwrap.dedent(text))
     environment = os.environ | {
         "PYTHONPATH": f"{HERE.parent / 'src'}{os.pathsep}{HERE}",
         "SAGAS_PROGRAM": program(),
     }
     return subprocess.Popen(
-        [sys.executable, "-u", str(path), *words],
+        [sys.executable, "-u", str(path), *arguments],
         stdout=subprocess.PIPE,
         text=True,
         env=environment,
     )
 
 
-def test_is_killed_with_the_program(tmp_path: pathlib.Path, place: str) -> None:
-    """What ran runs again with the same token; what had ended does not; what was told is there."""
+def test_is_killed_with_the_program(tmp_path: pathlib.Path, location: str) -> None:
+    """Running attempts run again with the same token, finished ones do not, and acknowledged ones
+    exist.
+    """
     program = f"""
         import asyncio, os, sagas, signal, sys
         saga = sagas.Saga("killed")
@@ -82,7 +84,7 @@ def test_is_killed_with_the_program(tmp_path: pathlib.Path, place: str) -> None:
                 os.kill(os.getpid(), signal.SIGKILL)
             return task.result_of(a) + 1
         async def main():
-            async with sagas.open({place!r}, [saga], node="one") as store:
+            async with sagas.open({location!r}, [saga], node="one") as store:
                 run = await store.start(saga, key="k", input="once")
                 print("started")
                 print((await run.wait()).results)
@@ -90,16 +92,16 @@ def test_is_killed_with_the_program(tmp_path: pathlib.Path, place: str) -> None:
     """
     first, _ = script(tmp_path / "first.py", program, "kill").communicate(timeout=60)
     then, _ = script(tmp_path / "then.py", program).communicate(timeout=60)
-    told = [line.split() for line in first.splitlines()]
-    assert sorted(told)[-1] == ["started"] and [
-        line[0] for line in told if line != ["started"]
+    printed = [line.split() for line in first.splitlines()]
+    assert sorted(printed)[-1] == ["started"] and [
+        line[0] for line in printed if line != ["started"]
     ] == ["a", "b"]
-    b = next(" ".join(line) for line in told if line[0] == "b")
+    b = next(" ".join(line) for line in printed if line[0] == "b")
     assert sorted(then.splitlines()) == sorted([b, "started", "{'a': 1, 'b': 2}"])
 
 
-def test_serves_without_async_until_it_is_told_to_end(tmp_path: pathlib.Path) -> None:
-    """Then the store is closed, and what ran has ended before."""
+def test_serves_without_async_until_sigterm(tmp_path: pathlib.Path) -> None:
+    """Then the store is closed, and running functions have ended before."""
     program = f"""
         import os, sagas, signal, time
         saga = sagas.Saga("served")
@@ -117,19 +119,21 @@ def test_serves_without_async_until_it_is_told_to_end(tmp_path: pathlib.Path) ->
         print("is closed", signal.getsignal(signal.SIGTERM) is signal.SIG_DFL)
     """
     process = script(tmp_path / "serves.py", program)
-    told, _ = process.communicate(timeout=60)
+    output, _ = process.communicate(timeout=60)
     assert (
-        told.splitlines() == ["serves no more", "a has ended", "is closed True"]
+        output.splitlines() == ["serves no more", "a has ended", "is closed True"]
         and process.returncode == 0
     )
 
 
-# -- two programs, forks, the child --------------------------------------------------------------------------------
+# -- two programs, forks, the child
 
 
 @pytest.mark.parametrize("is_link", [False, True], ids=["by its path", "by a link"])
 def test_two_programs_open_one_store(tmp_path: pathlib.Path, is_link: bool) -> None:
-    """The second gets StoreLocked, from the same process and from another; when the first is killed, it gets the store."""
+    """The second one gets StoreLocked, from the same process and from another; when the first is
+    killed, it gets the store.
+    """
     path = tmp_path / "store.db"
     if is_link:
         path = tmp_path / "link.db"
@@ -173,7 +177,7 @@ def test_two_programs_open_one_store(tmp_path: pathlib.Path, is_link: bool) -> N
 
 
 def test_a_store_of_two_names(tmp_path: pathlib.Path) -> None:
-    """It is not opened: SQLite would have a WAL for each. A copy is."""
+    """It is not opened: SQLite would have a WAL for each name. A copy is."""
     saga = simple(lambda task: 1)
 
     async def main() -> None:
@@ -191,8 +195,12 @@ def test_a_store_of_two_names(tmp_path: pathlib.Path) -> None:
     run(main())
 
 
-def test_a_look_is_no_program(tmp_path: pathlib.Path, monkeypatch: pytest.MonkeyPatch) -> None:
-    """A command that looks whether a program has the store open is not taken for one by another command, and a program that opens waits for it."""
+def test_a_check_for_programs_is_not_a_program(
+    tmp_path: pathlib.Path, monkeypatch: pytest.MonkeyPatch
+) -> None:
+    """A command that checks whether a program has the store open is not taken for a program by
+    another command, and a program that opens waits for it.
+    """
     saga = simple(lambda task: 1)
 
     async def main() -> None:
@@ -215,7 +223,9 @@ def test_a_look_is_no_program(tmp_path: pathlib.Path, monkeypatch: pytest.Monkey
 def test_a_database_of_another_program(
     tmp_path: pathlib.Path, capsys: pytest.CaptureFixture[str], mode: str, version: int
 ) -> None:
-    """It is neither opened nor migrated, and nothing of it changes; an empty one becomes a store."""
+    """It is neither opened nor migrated, and nothing of it changes; an empty one becomes
+    a store.
+    """
     saga, path = simple(lambda task: 1), tmp_path / "other.db"
 
     async def main() -> None:
@@ -239,7 +249,7 @@ def test_a_database_of_another_program(
 
 
 def test_a_store_that_is_cut(tmp_path: pathlib.Path, capsys: pytest.CaptureFixture[str]) -> None:
-    """`migrate` says that it is no store any more, and leaves no lock."""
+    """`migrate` says that it is not a store any more, and leaves no lock."""
     saga, path = simple(lambda task: 1), tmp_path / "store.db"
 
     async def main() -> None:
@@ -254,11 +264,11 @@ def test_a_store_that_is_cut(tmp_path: pathlib.Path, capsys: pytest.CaptureFixtu
             assert f"{path}: " in capsys.readouterr().err
 
 
-def test_a_log_handler_raises(place: str, capsys: pytest.CaptureFixture[str]) -> None:
-    """It stops no saga: each is told of, and what was raised goes to standard error."""
+def test_a_log_handler_raises(location: str, capsys: pytest.CaptureFixture[str]) -> None:
+    """It stops no saga: each is reported, and the exception goes to standard error."""
 
     class Raising(logging.Handler):
-        """A filter that looks for what is there within a request alone, say."""
+        """A filter that needs something that exists only within a request, for example."""
 
         def emit(self, record: logging.LogRecord) -> None:
             raise LookupError("no request here")
@@ -270,7 +280,7 @@ def test_a_log_handler_raises(place: str, capsys: pytest.CaptureFixture[str]) ->
         saga, handler = simple(fails, tries=2), Raising()
         logging.getLogger("sagas").addHandler(handler)
         try:
-            async with sagas.open(place, [saga], concurrency=2) as store:
+            async with sagas.open(location, [saga], concurrency=2) as store:
                 ends = await asyncio.gather(
                     *(ended(store, saga, f"k{number}") for number in range(8))
                 )
@@ -289,11 +299,13 @@ exec {program} "$@"
 
 
 def test_an_audit_is_killed(
-    tmp_path: pathlib.Path, place: str, monkeypatch: pytest.MonkeyPatch
+    tmp_path: pathlib.Path, location: str, monkeypatch: pytest.MonkeyPatch
 ) -> None:
-    """It has said nothing of the log, which is audited again, and is closed as a good one."""
+    """It has reported nothing about the log, which is audited again, and is closed as a
+    valid one.
+    """
     monkeypatch.setattr("sagas.definition.shelf.SHARD_CAPACITY", 2)
-    killed, once, told = tmp_path / "killed", tmp_path / "once", list[str]()
+    killed, once, event_names = tmp_path / "killed", tmp_path / "once", list[str]()
     killed.write_text(KILLED_ONCE.format(once=once, program=program()))
     killed.chmod(0o755)
     once.touch()
@@ -301,16 +313,19 @@ def test_an_audit_is_killed(
 
     async def main() -> None:
         async with sagas.open(
-            place, [saga], program=str(killed), on_event=lambda event: told.append(event.name)
+            location,
+            [saga],
+            program=str(killed),
+            on_event=lambda event: event_names.append(event.name),
         ) as store:
             for number in range(3):
                 assert (await ended(store, saga, f"k{number}")).ok
-            await until(lambda: "shard_closed" in told)
+            await until(lambda: "shard_closed" in event_names)
 
     run(main())
     assert (
-        [log.closed for log in records.read(place).logs.values()] == [True, False]
-        and "audit_failed" not in told
+        [log.closed for log in records.read(location).logs.values()] == [True, False]
+        and "audit_failed" not in event_names
         and not once.exists()
     )
 
@@ -319,7 +334,9 @@ def test_an_audit_is_killed(
 def test_a_file_that_is_deleted_under_the_program(
     tmp_path: pathlib.Path, name: str, caplog: pytest.LogCaptureFixture
 ) -> None:
-    """Nothing is told any more that nobody would find: who starts a saga hears why, and the log says it once."""
+    """No call succeeds any more whose result would be lost: a caller that starts a saga gets the
+    reason, and the log has it once.
+    """
     saga = simple(lambda task: 1)
 
     async def main() -> None:
@@ -338,7 +355,9 @@ def test_a_file_that_is_deleted_under_the_program(
 def test_a_file_that_is_replaced_under_the_program(
     tmp_path: pathlib.Path, monkeypatch: pytest.MonkeyPatch, large: bool
 ) -> None:
-    """The next commit is refused, in the loop and in the writer's thread: nobody had the time to look for the file."""
+    """The next commit is refused, in the loop and in the writer's thread: there was no time to look
+    for the file.
+    """
     monkeypatch.setattr("sagas.storage.sqlite.storage.LOOK", 3600)
     if large:
         monkeypatch.setattr("sagas.storage.sqlite.writer.AT_ONCE", 0.0)
@@ -364,7 +383,9 @@ def test_a_file_that_is_replaced_under_the_program(
 
 
 def test_the_lock_is_deleted(tmp_path: pathlib.Path, caplog: pytest.LogCaptureFixture) -> None:
-    """It is made again, and the store goes on; where another program was faster, nothing is written any more."""
+    """It is made again, and the store continues; if another program was faster, nothing is written
+    any more.
+    """
     saga, lock = simple(lambda task: 1), tmp_path / "store.db.lock"
 
     async def main() -> None:
@@ -390,7 +411,7 @@ def test_the_lock_is_deleted(tmp_path: pathlib.Path, caplog: pytest.LogCaptureFi
 def test_the_program_goes_elsewhere(
     tmp_path: pathlib.Path, monkeypatch: pytest.MonkeyPatch
 ) -> None:
-    """A store of a relative path stays where it was opened, also what it opens later."""
+    """A store of a relative path stays where it was opened, also for later files."""
     saga = sagas.Saga("row")
     saga.step(name="a", rate_limit=(100, 1))(lambda task: 1)
     (tmp_path / "there").mkdir()
@@ -406,13 +427,13 @@ def test_the_program_goes_elsewhere(
     assert not [*(tmp_path / "there").iterdir()]
 
 
-def test_an_older_copy_in_place_of_the_store(tmp_path: pathlib.Path) -> None:
-    """What was open goes on under its tokens; those of sagas that are lost are given to no other."""
-    saga, whose, waits = sagas.Saga("row"), defaultdict[str, set[str]](set), ["open"]
+def test_an_older_copy_replaces_the_store(tmp_path: pathlib.Path) -> None:
+    """Its open sagas continue under their tokens; no other saga gets the tokens of lost ones."""
+    saga, keys_of, waits = sagas.Saga("row"), defaultdict[str, set[str]](set), ["open"]
 
     @saga.step
     async def a(task: Task) -> None:
-        whose[task.idempotency_key].add(task.key)
+        keys_of[task.idempotency_key].add(task.key)
         if task.key in waits:
             await asyncio.Event().wait()
 
@@ -436,18 +457,22 @@ def test_an_older_copy_in_place_of_the_store(tmp_path: pathlib.Path) -> None:
     run(before(tmp_path / "store.db"))
     waits.clear()
     run(after(tmp_path / "copy.db"))
-    assert {frozenset(keys) for keys in whose.values()} == {
-        frozenset({key}) for keys in whose.values() for key in keys
-    } and len(whose) == 8
+    assert {frozenset(keys) for keys in keys_of.values()} == {
+        frozenset({key}) for keys in keys_of.values() for key in keys
+    } and len(keys_of) == 8
 
 
 @pytest.mark.parametrize("times", [1, 2])
 def test_ctrl_c(tmp_path: pathlib.Path, times: int) -> None:
-    """One closes the store behind what runs, which is kept; a second one ends the program, and what ran runs again under its token."""
+    """One closes the store after the running functions, whose results are kept.
+
+    A second one ends the program, and these functions run again under their tokens.
+    """
     path, go = tmp_path / "store.db", tmp_path / "go"
     text = f"""
         import asyncio, os, sagas, signal
-        signal.signal(signal.SIGINT, signal.default_int_handler)  # which a job in the background ignores
+        # a job in the background ignores SIGINT
+        signal.signal(signal.SIGINT, signal.default_int_handler)
         saga = sagas.Saga("simple")
         @saga.step
         async def a(task):
@@ -480,9 +505,8 @@ def test_ctrl_c(tmp_path: pathlib.Path, times: int) -> None:
         if times == 1:
             go.touch()
             process.wait(60)
-        for _ in range(
-            60 if times == 2 else 0
-        ):  # one that comes while the function has its turn is raised there
+        # one that comes while the function has its turn is raised there
+        for _ in range(60 if times == 2 else 0):
             process.send_signal(signal.SIGINT)
             with contextlib.suppress(subprocess.TimeoutExpired):
                 process.wait(1)
@@ -495,8 +519,10 @@ def test_ctrl_c(tmp_path: pathlib.Path, times: int) -> None:
 MONTH = datetime.timedelta(days=30)
 
 
-def test_what_is_no_file(tmp_path: pathlib.Path) -> None:
-    """What users of other programs give as a store, folders, and numbers that are none: told before anything is made."""
+def test_names_that_are_not_a_file(tmp_path: pathlib.Path) -> None:
+    """These are names that users of other programs give as a store, folders, and invalid numbers:
+    the error comes before anything is made.
+    """
     saga = simple(lambda task: 1)
     (tmp_path / "folder").mkdir()
     names = {
@@ -543,12 +569,15 @@ async def heard(event: sagas.Event) -> None:
 
 
 @pytest.mark.parametrize(
-    "words, kind, text",
+    "options, kind, text",
     [
         (
             {"shutdown_timeout": "30s"},
             TypeError,
-            "shutdown_timeout='30s': must be seconds or a timedelta, for example shutdown_timeout=30",
+            (
+                "shutdown_timeout='30s': must be seconds or a timedelta, for example"
+                " shutdown_timeout=30"
+            ),
         ),
         ({"shutdown_timeout": -1}, ValueError, "shutdown_timeout=-1: .*, >= 0"),
         ({"shutdown_timeout": True}, TypeError, "shutdown_timeout=True: must be seconds"),
@@ -583,13 +612,13 @@ async def heard(event: sagas.Event) -> None:
         ),
     ],
 )
-def test_what_a_store_is_not_opened_with(
-    tmp_path: pathlib.Path, words: dict[str, Any], kind: type[Exception], text: str
+def test_invalid_options_of_a_store(
+    tmp_path: pathlib.Path, options: dict[str, Any], kind: type[Exception], text: str
 ) -> None:
-    """Each is refused at once, by its word, and nothing is made or locked."""
+    """Each is refused at once, by its name, and nothing is made or locked."""
     for way in (sagas.open, sagas.open_sync):
         with pytest.raises(kind, match=f"^{text}"):
-            way(tmp_path / "store.db", [simple(lambda task: 1)], **words)
+            way(tmp_path / "store.db", [simple(lambda task: 1)], **options)
     assert [*tmp_path.iterdir()] == []
 
 
@@ -616,13 +645,16 @@ def test_times_of_a_store(tmp_path: pathlib.Path) -> None:
 
 
 def test_the_other_kind_of_with(tmp_path: pathlib.Path) -> None:
-    """`with` and `async with` each say what is meant, and nothing is locked by it."""
+    """`with` and `async with` each say which one is meant, and neither locks anything."""
     saga = simple(lambda task: 1)
     path = tmp_path / "store.db"
     for name in (path, "postgresql://a@127.0.0.1/b"):
         with pytest.raises(
             TypeError,
-            match=r"^a store of sagas.open needs `async with`. Without async, use `with sagas\.open_sync",
+            match=(
+                r"^a store of sagas.open needs `async with`. Without async, use `with"
+                r" sagas\.open_sync"
+            ),
         ):
             with sagas.open(name, [saga]):  # type: ignore[attr-defined]
                 pass
@@ -638,7 +670,7 @@ def test_the_other_kind_of_with(tmp_path: pathlib.Path) -> None:
     assert not path.exists()
 
 
-def test_a_function_forks(place: str) -> None:
+def test_a_function_forks(location: str) -> None:
     """Lock and pipes are closed in the child: it outlives the store, and the store opens again."""
     alive, leave = os.pipe()
     forked: list[int] = []
@@ -654,9 +686,9 @@ def test_a_function_forks(place: str) -> None:
 
     async def main() -> None:
         saga = simple(fork)
-        async with sagas.open(place, [saga]) as store:
+        async with sagas.open(location, [saga]) as store:
             assert (await ended(store, saga, "one")).phase == "completed"
-        async with sagas.open(place, [saga]) as store:
+        async with sagas.open(location, [saga]) as store:
             assert (await ended(store, saga, "two")).phase == "completed"
 
     try:
@@ -669,13 +701,16 @@ def test_a_function_forks(place: str) -> None:
         os.close(alive)
 
 
-def test_a_store_in_a_forked_child(place: str) -> None:
-    """With async and without it says at once that it is another process's, and its closing there does nothing to that one's."""
+def test_a_store_in_a_forked_child(location: str) -> None:
+    """With async and without it, it raises at once that it is another process's.
+
+    Closing it there does not affect that one.
+    """
     saga = simple(lambda task: 1)
     text = "was opened in another process, before a fork. Create and open one in this process"
 
     async def main() -> None:
-        async with sagas.open(place, [saga]) as store:
+        async with sagas.open(location, [saga]) as store:
             calls: list[Any] = [
                 lambda: store.start(saga, "c"),
                 lambda: store.wait("k"),
@@ -691,7 +726,7 @@ def test_a_store_in_a_forked_child(place: str) -> None:
             assert in_child(lambda: asyncio.run(store.close())) == "None"
             assert (await ended(store, saga, "async")).ok
 
-    with sagas.open_sync(place, [saga]) as store:
+    with sagas.open_sync(location, [saga]) as store:
         assert store.start(saga, "k").wait(240).ok
         calls: list[Any] = [
             lambda: store.start(saga, "c"),
@@ -700,21 +735,21 @@ def test_a_store_in_a_forked_child(place: str) -> None:
             store.__enter__,
         ]
         for call in calls:
-            said = in_child(call)
-            assert said.startswith("Closed: ") and text in said
+            result = in_child(call)
+            assert result.startswith("Closed: ") and text in result
         assert in_child(store.close) == "None"
         assert store.start(saga, "sync").wait(240).ok and len(store.list()) == 2
     run(main())
 
 
-def test_a_program_that_forks_under_an_open_store(tmp_path: pathlib.Path, place: str) -> None:
-    """The child ends as a program does, and frees what it has of the store: the parent goes on."""
+def test_a_program_that_forks_under_an_open_store(tmp_path: pathlib.Path, location: str) -> None:
+    """The child ends as a program does, and frees its part of the store: the parent continues."""
     program = f"""
         import os, sagas, sys
         saga = sagas.Saga("simple")
         @saga.step
         def a(task): ...
-        with sagas.open_sync({place!r}, [saga]) as store:
+        with sagas.open_sync({location!r}, [saga]) as store:
             assert store.start(saga, "one").wait(120).ok
             child = os.fork()
             if child == 0:
@@ -727,19 +762,21 @@ def test_a_program_that_forks_under_an_open_store(tmp_path: pathlib.Path, place:
             print([row.key for row in store.list()])
     """
     process = script(tmp_path / "forks.py", program)
-    told, _ = process.communicate(timeout=240)
+    output, _ = process.communicate(timeout=240)
     assert (
-        told.splitlines() == ["the child's status: 7", "['one', 'three']"]
+        output.splitlines() == ["the child's status: 7", "['one', 'three']"]
         and process.returncode == 0
     )
 
 
-def test_a_store_that_is_entered_twice(place: str) -> None:
-    """The second entry is an error that says so, and the first goes on; one that was closed is opened again."""
+def test_a_store_that_is_entered_twice(location: str) -> None:
+    """The second entry is an error that says so, and the first one continues; a closed store is
+    opened again.
+    """
     saga = simple(lambda task: 1)
 
     async def main() -> None:
-        store = sagas.open(place, [saga])
+        store = sagas.open(location, [saga])
         async with store:
             with pytest.raises(RuntimeError, match="the store is already open. Enter it once"):
                 async with store:
@@ -749,7 +786,7 @@ def test_a_store_that_is_entered_twice(place: str) -> None:
             assert (await ended(store, saga, "two")).ok
 
     run(main())
-    store = sagas.open_sync(place, [saga])
+    store = sagas.open_sync(location, [saga])
     with store:
         with pytest.raises(RuntimeError, match="the store is already open. Enter it once"), store:
             pass
@@ -760,8 +797,10 @@ def test_a_store_that_is_entered_twice(place: str) -> None:
 
 
 @pytest.mark.parametrize("in_thread", [False, True])
-def test_a_fork_that_comes_back(place: str, in_thread: bool) -> None:
-    """A function forks, and its child returns from it too: the child ends there, and does nothing to the saga."""
+def test_a_fork_that_comes_back(location: str, in_thread: bool) -> None:
+    """A function forks, and its child returns from it too: the child ends there, and does nothing
+    to the saga.
+    """
     children_of_functions: list[int] = []
 
     def fork(task: Task) -> str:
@@ -775,7 +814,7 @@ def test_a_fork_that_comes_back(place: str, in_thread: bool) -> None:
 
     async def main() -> None:
         saga = simple(fork if in_thread else fork_in_loop)
-        async with sagas.open(place, [saga]) as store:
+        async with sagas.open(location, [saga]) as store:
             assert (await ended(store, saga)).results == {"a": "parent"}
         (child,) = children_of_functions
         try:
@@ -788,8 +827,10 @@ def test_a_fork_that_comes_back(place: str, in_thread: bool) -> None:
     run(main())
 
 
-def test_a_fork_that_comes_back_calls_nothing_else(place: str, tmp_path: pathlib.Path) -> None:
-    """Of functions that are called in a row one forks: its child ends before the next one is called, and nothing that it did counts."""
+def test_a_fork_that_comes_back_calls_nothing_else(location: str, tmp_path: pathlib.Path) -> None:
+    """One of the functions that are called in a row forks: its child ends before the next one is
+    called, and none of its work counts.
+    """
     called = tmp_path / "called"
     ends_of_children: list[int] = []
 
@@ -803,7 +844,7 @@ def test_a_fork_that_comes_back_calls_nothing_else(place: str, tmp_path: pathlib
 
     async def main() -> None:
         saga = simple(fork)
-        async with sagas.open(place, [saga]) as store:
+        async with sagas.open(location, [saga]) as store:
             ends = await asyncio.gather(*(ended(store, saga, f"k{number}") for number in range(6)))
             assert all(end.results == {"a": os.getpid()} for end in ends)
         assert ends_of_children == [70]
@@ -812,8 +853,8 @@ def test_a_fork_that_comes_back_calls_nothing_else(place: str, tmp_path: pathlib
     run(main())
 
 
-def test_the_child_is_killed_again_and_again(place: str) -> None:
-    """It is started again from the database; what was asked and not committed never was."""
+def test_the_child_is_killed_again_and_again(location: str) -> None:
+    """It is started again from the database; uncommitted requests never happened."""
     tokens: Counter[str] = Counter()
 
     async def main() -> None:
@@ -831,7 +872,10 @@ def test_the_child_is_killed_again_and_again(place: str) -> None:
             return task.result_of(a) + 1
 
         async def surely_new(store: sagas.Store, key: str) -> sagas.SagaResult:
-            """One that is refused, as its shard is killed while it is read, has started nothing."""
+            """Start a saga until it succeeds.
+
+            A start that is refused, as its shard is killed while it is read, has started nothing.
+            """
             while True:
                 try:
                     run = await store.start(saga, key)
@@ -843,7 +887,7 @@ def test_the_child_is_killed_again_and_again(place: str) -> None:
                     return await run.wait()
 
         others = set(children(os.getpid()))  # servers that other tests use
-        async with sagas.open(place, [saga]) as store:
+        async with sagas.open(location, [saga]) as store:
             work = [asyncio.create_task(surely_new(store, f"k{number}")) for number in range(60)]
             for _ in range(8):
                 await asyncio.sleep(0.03)
@@ -852,14 +896,13 @@ def test_the_child_is_killed_again_and_again(place: str) -> None:
             assert {end.results["b"] for end in await asyncio.gather(*work)} == {2}
 
     run(main())
-    assert len(tokens) == 120 and set(tokens.values()) == {
-        1
-    }  # this program lived: each function was called once
+    # this program was not killed: each function was called once
+    assert len(tokens) == 120 and set(tokens.values()) == {1}
 
 
 @contextlib.contextmanager
 def no_descriptors() -> Iterator[None]:
-    """This process can open no further file, until the block ends."""
+    """Prevent this process from opening files until the block ends."""
     limits = resource.getrlimit(resource.RLIMIT_NOFILE)
     resource.setrlimit(resource.RLIMIT_NOFILE, (3, limits[1]))
     try:
@@ -869,13 +912,13 @@ def no_descriptors() -> Iterator[None]:
 
 
 @pytest.mark.parametrize("idle", [0.01, 60], ids=["let go", "killed"])
-def test_the_child_cannot_be_started_for_a_while(place: str, idle: float) -> None:
-    """Who starts a saga meanwhile is told; once it can be started, its log goes on."""
+def test_the_child_cannot_be_started_for_a_while(location: str, idle: float) -> None:
+    """Callers that start a saga get the error; once it can be started, its log continues."""
 
     async def main() -> None:
         saga, others = simple(lambda task: task.key), set(children(os.getpid()))
         saga.approval(name="ok", needs=["a"])(lambda task: None)
-        async with sagas.open(place, [saga], idle=idle) as store:
+        async with sagas.open(location, [saga], idle=idle) as store:
             first = await store.start(saga, "first")
             await until(lambda: "ok" in (one.step for one in store.active_attempts("first")))
             if idle < 1:
@@ -895,13 +938,13 @@ def test_the_child_cannot_be_started_for_a_while(place: str, idle: float) -> Non
     run(main())
 
 
-def test_the_child_hangs(place: str, monkeypatch: pytest.MonkeyPatch) -> None:
-    """One that does not answer for long is ended, and another one goes on with its log."""
+def test_the_child_hangs(location: str, monkeypatch: pytest.MonkeyPatch) -> None:
+    """An engine that does not reply for long is ended, and another one continues with its log."""
     monkeypatch.setattr("sagas.engine.process.HUNG", 0.5)
     saga, others = simple(lambda task: 1), set(children(os.getpid()))
 
     async def main() -> None:
-        async with sagas.open(place, [saga]) as store:
+        async with sagas.open(location, [saga]) as store:
             assert (await ended(store, saga, "before")).ok
             (child,) = set(children(os.getpid())) - others
             os.kill(child, signal.SIGSTOP)
@@ -915,7 +958,8 @@ import json, os, subprocess, sys
 if sys.argv[1] != "drive":
     os.execv({program!r}, [{program!r}, *sys.argv[1:]])
 fds = [int(word.rsplit("/", 1)[1]) for word in sys.argv if word.startswith("/proc/self/fd/")]
-drive = subprocess.Popen([{program!r}, *sys.argv[1:]], stdin=subprocess.PIPE, stdout=subprocess.PIPE, pass_fds=fds)
+pipes = {{"stdin": subprocess.PIPE, "stdout": subprocess.PIPE}}
+drive = subprocess.Popen([{program!r}, *sys.argv[1:]], pass_fds=fds, **pipes)
 for line in sys.stdin.buffer:
     drive.stdin.write(line)
     drive.stdin.flush()
@@ -926,7 +970,7 @@ for line in sys.stdin.buffer:
         try:
             os.unlink({once!r})
             os.write(1, b"".join(lines[:-1]))
-            os._exit(9)  # it is decided, and nobody is told
+            os._exit(9)  # the event is written, and the reply is not
         except FileNotFoundError:
             pass
     os.write(1, b"".join(lines))
@@ -935,9 +979,11 @@ for line in sys.stdin.buffer:
 
 @pytest.mark.parametrize("event", ["open", "missed", "commit", "fail", "undone", "abort"])
 def test_the_child_dies_between_log_and_reply(
-    tmp_path: pathlib.Path, place: str, event: str
+    tmp_path: pathlib.Path, location: str, event: str
 ) -> None:
-    """It has decided, and dies before it says so: the outcome is reported again, for the attempt that it is of."""
+    """It has decided, and dies before it replies: the outcome is reported again, for its
+    attempt.
+    """
     between, once = tmp_path / "between", tmp_path / "once"
     between.write_text(BETWEEN.format(program=program(), event=event, once=str(once)))
     between.chmod(0o755)
@@ -964,7 +1010,7 @@ def test_the_child_dies_between_log_and_reply(
         return 2
 
     async def main() -> sagas.SagaResult:
-        async with sagas.open(place, [saga], program=str(between)) as store:
+        async with sagas.open(location, [saga], program=str(between)) as store:
             wanted = {"fail": "fails", "undone": "fails", "abort": "waits"}.get(event)
             run = await store.start(saga, key="k", input=wanted)
             if event == "abort":
@@ -981,14 +1027,16 @@ def test_the_child_dies_between_log_and_reply(
     assert max(Counter(calls).values()) == 1
 
 
-# -- functions -------------------------------------------------------------------------------------------------------
+# -- functions
 
 
 @pytest.mark.parametrize("refused", ["other-attempt", "no-such-step"])
 def test_a_report_that_the_child_does_not_know(
-    place: str, monkeypatch: pytest.MonkeyPatch, caplog: pytest.LogCaptureFixture, refused: str
+    location: str, monkeypatch: pytest.MonkeyPatch, caplog: pytest.LogCaptureFixture, refused: str
 ) -> None:
-    """The log is begun again from the store; what the function returned is reported then, and it is not called again."""
+    """The log is recovered from the store; then the function's result is reported, and it is not
+    called again.
+    """
     right, spoilt = protocol.report_line, 0
 
     def report_line(saga: int, step: int, task: str, attempt: int, ok: bool) -> str:
@@ -1006,15 +1054,17 @@ def test_a_report_that_the_child_does_not_know(
 
     async def main() -> sagas.SagaResult:
         saga = simple(lambda task: calls.append(task.attempt_id))
-        async with sagas.open(place, [saga]) as store:
+        async with sagas.open(location, [saga]) as store:
             return await ended(store, saga)
 
     assert run(main()).ok and len(calls) == 1
     assert refused in caplog.text and "Recovering" in caplog.text
 
 
-def test_a_function_hangs(place: str) -> None:
-    """Nobody knows what it did: the same attempt again, with the same token; nobody else waits for it."""
+def test_a_function_hangs(location: str) -> None:
+    """Its outcome is unknown: the same attempt runs again, with the same token; no other saga waits
+    for it.
+    """
     tokens: list[str] = []
 
     async def main() -> None:
@@ -1026,7 +1076,7 @@ def test_a_function_hangs(place: str) -> None:
 
         slow, quick = simple(hang, timeout=0.1), sagas.Saga("quick")
         quick.step(name="a")(lambda task: 1)
-        async with sagas.open(place, [slow, quick], concurrency=1) as store:
+        async with sagas.open(location, [slow, quick], concurrency=1) as store:
             first = await store.start(slow, key="slow")
             assert (await ended(store, quick, "quick")).phase == "completed"
             assert (await first.wait()).results == {"a": 1}
@@ -1035,8 +1085,8 @@ def test_a_function_hangs(place: str) -> None:
     assert len(tokens) == 3 and len(set(tokens)) == 1
 
 
-def test_a_thread_ends_after_its_time(place: str) -> None:
-    """A thread that ends well after its time is done, and is not called again."""
+def test_a_thread_ends_after_its_time(location: str) -> None:
+    """A thread that ends well after its time has succeeded, and is not called again."""
     calls: list[int] = []
 
     def late(task: Task) -> int:
@@ -1046,15 +1096,15 @@ def test_a_thread_ends_after_its_time(place: str) -> None:
 
     async def main() -> None:
         saga = simple(late, timeout=0.05)
-        async with sagas.open(place, [saga]) as store:
+        async with sagas.open(location, [saga]) as store:
             assert (await ended(store, saga)).results == {"a": 7}
 
     run(main())
     assert calls == [1]
 
 
-def test_a_function_blocks_the_loop(place: str) -> None:
-    """All else is late, and nothing is lost."""
+def test_a_function_blocks_the_loop(location: str) -> None:
+    """Everything else is late, and nothing is lost."""
 
     async def block(task: Task) -> int:
         time.sleep(0.2)
@@ -1062,7 +1112,7 @@ def test_a_function_blocks_the_loop(place: str) -> None:
 
     async def main() -> None:
         saga = simple(block, timeout=0.1)
-        async with sagas.open(place, [saga]) as store:
+        async with sagas.open(location, [saga]) as store:
             ends = await asyncio.gather(*(ended(store, saga, f"k{number}") for number in range(5)))
             assert {end.phase for end in ends} <= {"completed", "recovered"}
 
@@ -1073,12 +1123,14 @@ ODD = (SystemExit, KeyboardInterrupt, GeneratorExit, asyncio.CancelledError, Sto
 
 
 @pytest.mark.parametrize(
-    "place, kind, in_thread", pairs(PLACES, ODD, (False, True)), indirect=["place"]
+    "location, kind, in_thread", pairs(PLACES, ODD, (False, True)), indirect=["location"]
 )
-def test_a_function_raises_what_it_should_not(
-    place: str, kind: type[BaseException], in_thread: bool
+def test_a_function_raises_a_base_exception(
+    location: str, kind: type[BaseException], in_thread: bool
 ) -> None:
-    """The program goes on; the attempt is made again with its token, or fails where that was an exception as others are."""
+    """The program continues; the attempt is made again with its token, or fails if the exception is
+    an ordinary one.
+    """
     tokens: list[str] = []
 
     def odd(task: Task) -> int:
@@ -1092,18 +1144,18 @@ def test_a_function_raises_what_it_should_not(
 
     async def main() -> None:
         saga = simple(odd if in_thread else odd_in_loop, tries=2)
-        async with sagas.open(place, [saga]) as store:
+        async with sagas.open(location, [saga]) as store:
             assert (await ended(store, saga)).results == {"a": 1}
 
     run(main())
     assert len(tokens) == 2 and len(set(tokens)) == 1
 
 
-# -- clocks, disks, closing ------------------------------------------------------------------------------------------
+# -- clocks, disks, closing
 
 
 class Jumping:
-    """A clock that can be put forward and back."""
+    """A clock that can be set forward and back."""
 
     def __init__(self) -> None:
         self.by = 0.0
@@ -1113,8 +1165,10 @@ class Jumping:
 
 
 @pytest.mark.parametrize("jump", [-7 * 86400.0, 7 * 86400.0])
-def test_a_clock_that_jumps(place: str, jump: float) -> None:
-    """It is put forward or back by a week between tries and programs: nothing waits a week, and nothing is made again."""
+def test_a_clock_that_jumps(location: str, jump: float) -> None:
+    """It is set forward or back by a week between tries and programs: no attempt waits a week, and
+    none is repeated.
+    """
     clock, calls = Jumping(), Counter[str]()
 
     async def fails(task: Task) -> int:
@@ -1126,17 +1180,17 @@ def test_a_clock_that_jumps(place: str, jump: float) -> None:
 
     async def main() -> None:
         saga = simple(fails, tries=3)
-        async with sagas.open(place, [saga], clock=clock) as store:
+        async with sagas.open(location, [saga], clock=clock) as store:
             assert (await ended(store, saga, "one")).phase == "completed"
         clock.by += jump
-        async with sagas.open(place, [saga], clock=clock) as store:
+        async with sagas.open(location, [saga], clock=clock) as store:
             assert (await ended(store, saga, "two")).phase == "completed"
 
     run(main())
     assert len(calls) == 6 and set(calls.values()) == {1}
 
 
-def test_a_wait_is_over_while_nothing_runs(place: str) -> None:
+def test_a_wait_is_over_while_nothing_runs(location: str) -> None:
     """Three days pass between two programs; the wait is over when the second opens the store."""
     clock, called = Jumping(), asyncio.Event()
     saga = sagas.Saga("late")
@@ -1147,11 +1201,11 @@ def test_a_wait_is_over_while_nothing_runs(place: str) -> None:
         return "waited"
 
     async def main() -> None:
-        async with sagas.open(place, [saga], clock=clock) as store:
+        async with sagas.open(location, [saga], clock=clock) as store:
             await store.start(saga, key="k")
         assert not called.is_set()
         clock.by = 3 * 86400
-        async with sagas.open(place, [saga], clock=clock) as store:
+        async with sagas.open(location, [saga], clock=clock) as store:
             assert (await store.wait("k")).results == {"wait": "waited"}
 
     run(main())
@@ -1159,7 +1213,7 @@ def test_a_wait_is_over_while_nothing_runs(place: str) -> None:
 
 @contextlib.contextmanager
 def full(size: int = 1) -> Iterator[None]:
-    """No file of this program is written behind so many bytes."""
+    """Limit the files of this program to this many bytes."""
     least, most = resource.getrlimit(resource.RLIMIT_FSIZE)
     resource.setrlimit(resource.RLIMIT_FSIZE, (size, most))
     try:
@@ -1169,7 +1223,9 @@ def full(size: int = 1) -> Iterator[None]:
 
 
 def test_the_disk_is_full(tmp_path: pathlib.Path) -> None:
-    """`start` raises StoreUnavailable and nothing was begun; results wait for room; nothing is called twice by this program."""
+    """`start` raises StoreUnavailable and nothing was started; results wait for space; this program
+    calls no function twice.
+    """
     calls: Counter[str] = Counter()
     gate = asyncio.Event()
 
@@ -1194,30 +1250,33 @@ def test_the_disk_is_full(tmp_path: pathlib.Path) -> None:
     run(main())
 
 
-@pytest.mark.parametrize("words", [("list",), ("abort", "k")])
+@pytest.mark.parametrize("arguments", [("list",), ("abort", "k")])
 def test_the_command_on_a_full_disk(
-    tmp_path: pathlib.Path, capsys: pytest.CaptureFixture[str], words: tuple[str, ...]
+    tmp_path: pathlib.Path, capsys: pytest.CaptureFixture[str], arguments: tuple[str, ...]
 ) -> None:
-    """It says what the disk says, and not that the file is no store."""
-    saga, place = simple(lambda task: 1), tmp_path / "store.db"
+    """It reports the disk's error, and not that the file is not a store."""
+    saga, location = simple(lambda task: 1), tmp_path / "store.db"
 
     async def main() -> None:
-        async with sagas.open(place, [saga]) as store:
+        async with sagas.open(location, [saga]) as store:
             assert (await ended(store, saga, "k")).ok
 
     run(main())
     with full(0):
-        assert store_command.main([str(place), *words]) == 4
+        assert store_command.main([str(location), *arguments]) == 4
     assert (
         capsys.readouterr().err
-        == f"sagas store: {place}: disk I/O error. Make room if the disk is full, and check it otherwise\n"
+        == f"sagas store: {location}: disk I/O error. Make room if the disk is full, and check it"
+        " otherwise\n"
     )
 
 
 @pytest.mark.parametrize("size", [None, 1 << 20])
 def test_the_wal_is_as_long_as_it_becomes(tmp_path: pathlib.Path, size: int | None) -> None:
-    """From the opening on, so that no commit has to lengthen it; where there is no room for that, it grows with what is written. A store that is opened
-    again behind a kill finds what was written before the zeros."""
+    """It has its size from the opening on, so that no commit has to lengthen it; if there is no
+    space for that, it grows with the data. A store that is opened again after a kill finds the data
+    before the zeros.
+    """
     saga, wal = simple(lambda task: 1), tmp_path / "store.db-wal"
 
     async def main() -> None:
@@ -1234,9 +1293,8 @@ def test_the_wal_is_as_long_as_it_becomes(tmp_path: pathlib.Path, size: int | No
                     assert (await ended(store, saga, f"k{number}")).ok
                 assert size or wal.stat().st_size == length
                 (tmp_path / "copy").mkdir()
-                subprocess.run(
-                    ["cp", tmp_path / "store.db", wal, tmp_path / "copy"], check=True
-                )  # as a machine that fails leaves them
+                # as a machine that fails leaves them
+                subprocess.run(["cp", tmp_path / "store.db", wal, tmp_path / "copy"], check=True)
         async with sagas.open(tmp_path / "copy" / "store.db", [saga]) as store:
             assert len(await store.list(phase="completed")) == 21
             assert not (await store.start(saga, "k7")).new
@@ -1264,17 +1322,16 @@ def test_a_commit_fails_again_and_again(
             going = await store.start(saga, "k")
             with full():
                 gate.set()
-                await until(
-                    lambda: tries["commit_failed"] + tries["engine_died"] > 12, 30
-                )  # with pauses that went on growing, minutes
+                # with growing pauses, minutes
+                await until(lambda: tries["commit_failed"] + tries["engine_died"] > 12, 30)
             assert (await going.wait()).ok
 
     run(main())
 
 
-def test_a_failure_for_good_is_not_kept_at_first(tmp_path: pathlib.Path) -> None:
-    """The commit that has it fails: it is reported again, and the step is not called again."""
-    gate, told, calls = asyncio.Event(), Counter[str](), list[int]()
+def test_the_commit_of_a_permanent_failure_fails(tmp_path: pathlib.Path) -> None:
+    """Its commit fails: the failure is reported again, and the step is not called again."""
+    gate, event_counts, calls = asyncio.Event(), Counter[str](), list[int]()
     saga = sagas.Saga("one")
 
     @saga.step(tries=3)
@@ -1285,21 +1342,23 @@ def test_a_failure_for_good_is_not_kept_at_first(tmp_path: pathlib.Path) -> None
 
     async def main() -> None:
         async with sagas.open(
-            tmp_path / "store.db", [saga], on_event=lambda event: told.update([event.name])
+            tmp_path / "store.db", [saga], on_event=lambda event: event_counts.update([event.name])
         ) as store:
             going = await store.start(saga, "k")
             await until(lambda: calls)
             with full():
                 gate.set()
-                await until(lambda: told["commit_failed"])
+                await until(lambda: event_counts["commit_failed"])
             assert (await going.wait()).states == {"once": "failed"}
 
     run(main())
     assert calls == [1]
 
 
-def test_closing(place: str) -> None:
-    """Nothing new begins, what runs ends and is kept, who still waits gets Closed; the next program goes on."""
+def test_closing(location: str) -> None:
+    """No attempt starts, running functions end and their results are stored, waiting callers get
+    Closed; the next program continues.
+    """
     begun, gate = asyncio.Event(), asyncio.Event()
     calls: list[str] = []
     saga = sagas.Saga("row")
@@ -1317,7 +1376,7 @@ def test_closing(place: str) -> None:
         return 2
 
     async def main() -> None:
-        async with sagas.open(place, [saga]) as store:
+        async with sagas.open(location, [saga]) as store:
             run = await store.start(saga, key="k")
             waiter = asyncio.create_task(run.wait())
             await begun.wait()
@@ -1327,9 +1386,9 @@ def test_closing(place: str) -> None:
         with pytest.raises(sagas.Closed):
             await store.start(saga, key="late")
         assert calls == ["a"]
-        kept = records.read(place)
+        kept = records.read(location)
         assert [result.outcome for result in kept.results.values()] == ["commit"]
-        async with sagas.open(place, [saga]) as store:
+        async with sagas.open(location, [saga]) as store:
             assert (await store.wait("k")).results == {"a": 1, "b": 2}
         assert calls == ["a", "b"]
 
@@ -1337,28 +1396,30 @@ def test_closing(place: str) -> None:
 
 
 def test_closing_writes_what_waits_for_a_commit(
-    place: str, monkeypatch: pytest.MonkeyPatch
+    location: str, monkeypatch: pytest.MonkeyPatch
 ) -> None:
-    """Also if nobody waits for it any more: no commit fails because the database is closed."""
-    told: list[sagas.Event] = []
+    """This holds also if no caller waits for it any more: no commit fails because the database is
+    closed.
+    """
+    events: list[sagas.Event] = []
     monkeypatch.setattr("sagas.storage.sqlite.writer.AT_ONCE", 0.0)
 
     async def main() -> None:
         saga = simple(lambda task: None)
-        async with sagas.open(place, [saga], on_event=told.append) as store:
+        async with sagas.open(location, [saga], on_event=events.append) as store:
             jobs = [asyncio.create_task(store.deliveries.due("shop")) for _ in range(3)]
             await asyncio.sleep(0)
             for job in jobs:
                 job.cancel()
 
     run(main())
-    assert [event for event in told if event.name == "commit_failed"] == []
+    assert [event for event in events if event.name == "commit_failed"] == []
 
 
 def test_an_abort_of_a_saga_that_ends_is_answered(
-    place: str, monkeypatch: pytest.MonkeyPatch
+    location: str, monkeypatch: pytest.MonkeyPatch
 ) -> None:
-    """Also if its shard is closed meanwhile."""
+    """This holds also if its shard is closed in the meantime."""
     monkeypatch.setattr("sagas.definition.shelf.SHARD_CAPACITY", 1)
     jobs: list[asyncio.Task[bool]] = []
 
@@ -1369,7 +1430,7 @@ def test_an_abort_of_a_saga_that_ends_is_answered(
                 await asyncio.sleep(0)
 
         saga = simple(work)
-        async with sagas.open(place, [saga], concurrency=1) as store:
+        async with sagas.open(location, [saga], concurrency=1) as store:
             ends = [await ended(store, saga, str(number)) for number in range(12)]
             aborted = await asyncio.gather(*jobs)
         assert aborted == [end.aborted for end in ends]
@@ -1377,8 +1438,10 @@ def test_an_abort_of_a_saga_that_ends_is_answered(
     run(main())
 
 
-def test_closing_while_starts_wait(place: str, monkeypatch: pytest.MonkeyPatch) -> None:
-    """Sagas that wait for a log, and logs that wait for a child, keep nobody: who was not told of a start gets Closed."""
+def test_closing_while_starts_wait(location: str, monkeypatch: pytest.MonkeyPatch) -> None:
+    """Sagas that wait for a log, and logs that wait for an engine, do not delay it: callers whose
+    start was not acknowledged get Closed.
+    """
     monkeypatch.setattr("sagas.definition.shelf.SHARD_CAPACITY", 4)
     saga = sagas.Saga("pair")
     begun, gate = asyncio.Event(), asyncio.Event()
@@ -1394,7 +1457,7 @@ def test_closing_while_starts_wait(place: str, monkeypatch: pytest.MonkeyPatch) 
         return 2
 
     async def main() -> None:
-        async with sagas.open(place, [saga], concurrency=1, engine_processes=2) as store:
+        async with sagas.open(location, [saga], concurrency=1, engine_processes=2) as store:
             starts = [
                 asyncio.create_task(store.start(saga, key=f"k{number}")) for number in range(60)
             ]
@@ -1402,20 +1465,20 @@ def test_closing_while_starts_wait(place: str, monkeypatch: pytest.MonkeyPatch) 
             gate.set()
             async with asyncio.timeout(20):
                 await store.close()
-            told = await asyncio.gather(*starts, return_exceptions=True)
-        assert all(isinstance(one, (sagas.Run, sagas.Closed)) for one in told)
-        kept = records.read(place)
+            results = await asyncio.gather(*starts, return_exceptions=True)
+        assert all(isinstance(one, (sagas.Run, sagas.Closed)) for one in results)
+        kept = records.read(location)
         assert {
-            f"k{number}" for number, one in enumerate(told) if isinstance(one, sagas.Run)
+            f"k{number}" for number, one in enumerate(results) if isinstance(one, sagas.Run)
         } <= set(kept.sagas)
 
     run(main())
 
 
-def test_closing_says_what_it_waits_for(
+def test_closing_logs_what_it_waits_for(
     tmp_path: pathlib.Path, caplog: pytest.LogCaptureFixture, monkeypatch: pytest.MonkeyPatch
 ) -> None:
-    """A function that runs for long: closing waits for its end, and says so."""
+    """A function runs for long: closing waits for its end, and logs that."""
     monkeypatch.setattr(coordinator, "QUIET", 0.01)
 
     async def main() -> None:
@@ -1441,8 +1504,10 @@ def test_closing_says_what_it_waits_for(
 
 
 @pytest.mark.parametrize("seconds", [None, 0])
-def test_closing_goes_on_where_its_caller_is_cancelled(place: str, seconds: int | None) -> None:
-    """A further call waits for that, or cancels what runs; then the store is free for others. Who waits until no saga is open hears that it is closed."""
+def test_closing_continues_after_a_cancelled_call(location: str, seconds: int | None) -> None:
+    """A further call waits for that, or cancels the running functions; then the store is free for
+    other programs. A caller that waits until no saga is open is notified that it is closed.
+    """
     begun, gate, calls = asyncio.Event(), asyncio.Event(), list[str]()
 
     async def slow(task: Task) -> int:
@@ -1454,7 +1519,7 @@ def test_closing_goes_on_where_its_caller_is_cancelled(place: str, seconds: int 
     async def main() -> None:
         kind = simple(slow)
         kind.step(name="b", external=True, needs=[kind.parts[0]])
-        async with sagas.open(place, [kind]) as store:
+        async with sagas.open(location, [kind]) as store:
             await store.start(kind, "k")
             await begun.wait()
             idle, closing = asyncio.create_task(store.wait_idle()), asyncio.create_task(
@@ -1474,17 +1539,19 @@ def test_closing_goes_on_where_its_caller_is_cancelled(place: str, seconds: int 
             with pytest.raises(sagas.Closed):
                 await idle
         gate.set()
-        async with sagas.open(place, [kind]) as store:
+        async with sagas.open(location, [kind]) as store:
             await until(lambda: [one for one in store.active_attempts("k") if one.step == "b"])
         assert calls == (["k"] if seconds is None else ["k", "k"])
 
     run(main())
 
 
-def test_a_retry_that_cannot_be_stored_hears_that_the_store_is_closed(
+def test_a_retry_that_cannot_be_stored_raises_when_the_store_closes(
     tmp_path: pathlib.Path, monkeypatch: pytest.MonkeyPatch
 ) -> None:
-    """Another program holds the file: nothing is written until the store is closed, and who asked is not left alone."""
+    """Another program holds the file: nothing is written until the store is closed, and the caller
+    gets an error.
+    """
     monkeypatch.setattr(writer, "BUSY", 20)
     failed = asyncio.Event()
 
@@ -1499,29 +1566,31 @@ def test_a_retry_that_cannot_be_stored_hears_that_the_store_is_closed(
         kind = simple(unknown, max_unknown=0)
         async with sagas.open(tmp_path / "store.db", [kind], on_event=hears) as store:
             await store.start(kind, "k")
-            await until(lambda: asked_of(store))
+            await until(lambda: attempts_to_report(store))
             with contextlib.closing(
                 sqlite3.connect(tmp_path / "store.db", isolation_level=None)
             ) as other:
                 other.execute("BEGIN IMMEDIATE")
-                asked = asyncio.create_task(store.retry("k", "a"))
+                retrying = asyncio.create_task(store.retry("k", "a"))
                 await failed.wait()
                 await store.close()
             async with asyncio.timeout(60):
                 with pytest.raises(sagas.Closed):
-                    await asked
+                    await retrying
 
     run(main())
 
 
 def test_a_closing_that_is_refused_closes_nothing(tmp_path: pathlib.Path) -> None:
-    """Without async: with a time that is none, or in the store's own thread, which would wait for itself."""
-    said: list[str] = []
+    """Without async: with an invalid time, or in the store's own thread, which would wait for
+    itself.
+    """
+    keys: list[str] = []
 
     async def closes(task: Task) -> int:
         with pytest.raises(RuntimeError, match="would wait for its own event loop"):
             store.close()
-        said.append(task.key)
+        keys.append(task.key)
         return 1
 
     kind = simple(closes)
@@ -1531,11 +1600,11 @@ def test_a_closing_that_is_refused_closes_nothing(tmp_path: pathlib.Path) -> Non
         assert store.start(kind, "k").wait(60).ok
     with sagas.open_sync(tmp_path / "store.db", [kind]) as store:
         assert store.start(kind, "k").wait(60).ok
-    assert said == ["k"]
+    assert keys == ["k"]
 
 
-def test_closing_cancels_after_its_grace(place: str) -> None:
-    """What was cancelled runs again, with its token, when the store is opened again."""
+def test_closing_cancels_after_its_grace(location: str) -> None:
+    """A cancelled function runs again, with its token, when the store is opened again."""
     tokens: list[str] = []
 
     async def hang(task: Task) -> int:
@@ -1546,10 +1615,10 @@ def test_closing_cancels_after_its_grace(place: str) -> None:
     async def main() -> None:
         saga = simple(hang)
         began = time.monotonic()
-        async with sagas.open(place, [saga], shutdown_timeout=0.1) as store:
+        async with sagas.open(location, [saga], shutdown_timeout=0.1) as store:
             await store.start(saga, key="k")
         assert time.monotonic() - began < 20
-        async with sagas.open(place, [saga]) as store:
+        async with sagas.open(location, [saga]) as store:
             assert (await store.wait("k")).ok
 
     run(main())
@@ -1557,8 +1626,10 @@ def test_closing_cancels_after_its_grace(place: str) -> None:
 
 
 @pytest.mark.parametrize("must", [False, True])
-def test_a_compensation_fails_for_good(place: str, must: bool) -> None:
-    """The plan goes on with the step fixed; or no plan is left, and the saga is stuck with its chain until a person resolves it."""
+def test_a_compensation_fails_permanently(location: str, must: bool) -> None:
+    """The plan continues with the step kept; or no plan is left, and the saga is stuck with its
+    chain until an operator resolves it.
+    """
     saga = sagas.Saga("row")
 
     @saga.step(keep=sagas.NEVER if must else 5)
@@ -1574,7 +1645,7 @@ def test_a_compensation_fails_for_good(place: str, must: bool) -> None:
         raise sagas.Fail("no")
 
     async def main() -> None:
-        async with sagas.open(place, [saga]) as store:
+        async with sagas.open(location, [saga]) as store:
             end = await ended(store, saga)
             assert end.states == {"a": "undo_failed", "b": "failed"} and end.results == {"a": 1}
             if must:
@@ -1589,7 +1660,7 @@ def test_a_compensation_fails_for_good(place: str, must: bool) -> None:
     run(main())
 
 
-def test_a_fork_while_a_program_is_started(place: str, monkeypatch: pytest.MonkeyPatch) -> None:
+def test_a_fork_while_a_program_is_started(location: str, monkeypatch: pytest.MonkeyPatch) -> None:
     """It waits. So its child keeps no pipe of an engine or of an audit open."""
     alive, leave = os.pipe()
     forked: list[int] = []
@@ -1604,17 +1675,17 @@ def test_a_fork_while_a_program_is_started(place: str, monkeypatch: pytest.Monke
             os._exit(0)
         forked.append(child)
 
-    def started(*words: Any, **more: Any) -> None:  # the pipes are there
+    def started(*arguments: Any, **more: Any) -> None:  # the pipes are there
         forks.append(threading.Thread(target=fork))
         forks[-1].start()
         forks[-1].join(0.2)
-        start(*words, **more)
+        start(*arguments, **more)
 
     async def main() -> None:
         saga = simple(lambda task: 1)
-        async with sagas.open(place, [saga]) as store:
+        async with sagas.open(location, [saga]) as store:
             assert (await ended(store, saga)).phase == "completed"
-            assert all(told.startswith("yes") for told in (await store.audit()).values())
+            assert all(verdict.startswith("yes") for verdict in (await store.audit()).values())
 
     monkeypatch.setattr(subprocess.Popen, "_execute_child", started)
     try:

@@ -1,4 +1,4 @@
-"""Filters select the same over both databases, and say what may be misspelt in them."""
+"""Filters select the same over both databases, and errors name misspelt parts of them."""
 
 from __future__ import annotations
 
@@ -76,7 +76,7 @@ def ask(task: Task) -> None:
 
 
 async def ask_people(store: sagas.Store, count: int) -> None:
-    """Wait until so many attempts are used up."""
+    """Wait until this many attempts are used up."""
 
     async def is_there() -> bool:
         return len(await store.attention()) == count
@@ -85,7 +85,7 @@ async def ask_people(store: sagas.Store, count: int) -> None:
 
 
 def definitions() -> dict[str, sagas.Saga]:
-    """One fails for good, one asks a person, and one goes on."""
+    """Return sagas: one fails permanently, one needs an operator, and one continues."""
     fails, asks, waits = sagas.Saga("fails"), sagas.Saga("asks"), sagas.Saga("waits")
     fails.step(ask, name="a", undo=0)
     asks.step(ask, name="a", undo=0, on_exhausted="ask")
@@ -94,57 +94,57 @@ def definitions() -> dict[str, sagas.Saga]:
 
 
 def drawn(draw: random.Random) -> Filter:
-    """A filter."""
-    words: dict[str, Any] = {}
+    """Draw a filter."""
+    options: dict[str, Any] = {}
     if draw.random() < 0.4:
-        words["labels"] = {draw.choice("cr"): draw.choice((*VALUES, "x", "y"))}
+        options["labels"] = {draw.choice("cr"): draw.choice((*VALUES, "x", "y"))}
     if draw.random() < 0.5:
-        words["search"] = draw.choice(PARTS)
+        options["search"] = draw.choice(PARTS)
     if draw.random() < 0.5:
-        words["error"] = draw.choice(PARTS)
+        options["error"] = draw.choice(PARTS)
     if draw.random() < 0.3:
-        words["saga"] = draw.choice(("fails", "asks", "waits"))
-    return Filter(**words)
+        options["saga"] = draw.choice(("fails", "asks", "waits"))
+    return Filter(**options)
 
 
-def is_selected(of: Filter, key: str, told: dict[str, Any]) -> bool:
-    """What a filter means."""
-    has_labels = all(told["labels"].get(name) == value for name, value in of.labels.items())
-    has_error = of.error is None or (told["saga"] != "waits" and of.error in told["error"])
-    is_of = of.saga in (None, told["saga"])
+def is_selected(of: Filter, key: str, row: dict[str, Any]) -> bool:
+    """Return whether a filter selects an item."""
+    has_labels = all(row["labels"].get(name) == value for name, value in of.labels.items())
+    has_error = of.error is None or (row["saga"] != "waits" and of.error in row["error"])
+    is_of = of.saga in (None, row["saga"])
     return has_labels and has_error and is_of and (of.search is None or of.search in key)
 
 
-def test_filters_mean_the_same_over_both_databases(place: str) -> None:
+def test_filters_mean_the_same_over_both_databases(location: str) -> None:
     """400 of them, each in the three ways in which its condition is written."""
     draw, kinds, rows = random.Random(3), definitions(), dict[str, dict[str, Any]]()
 
     async def main() -> None:
-        async with sagas.open(place, kinds.values()) as store:
+        async with sagas.open(location, kinds.values()) as store:
             for number in range(3 * len(ODD)):
                 labels = {"c": draw.choice(VALUES), "r": draw.choice("xy")}
                 name, error = draw.choice([*kinds]), draw.choice(ERRORS)
                 key = f"{ODD[number % len(ODD)]}~{number}"
                 rows[key] = {"saga": name, "labels": labels, "error": f"ValueError: {error}"}
                 await store.start(kinds[name], key, {"error": error}, labels=labels)
-            for key, told in rows.items():
-                if told["saga"] == "fails":
+            for key, row in rows.items():
+                if row["saga"] == "fails":
                     await store.wait(key)
-            await ask_people(store, sum(told["saga"] == "asks" for told in rows.values()))
+            await ask_people(store, sum(row["saga"] == "asks" for row in rows.values()))
 
     run(main())
-    with contextlib.closing(admin.connect(place)) as link:
+    with contextlib.closing(admin.connect(location)) as link:
         for number in range(400):
             of = drawn(draw)
-            wanted = sorted(key for key, told in rows.items() if is_selected(of, key, told))
+            wanted = sorted(key for key, row in rows.items() if is_selected(of, key, row))
             for few, in_order in ((False, False), (True, False), (False, True)):
-                where, words = of.where(of_few=few, in_order=in_order)
-                found = link.ask(f"SELECT key FROM sagas s WHERE {where}", *words)
-                assert sorted(key for key, in found) == wanted, (number, of)
+                where, parameters = of.where(of_few=few, in_order=in_order)
+                selected = link.ask(f"SELECT key FROM sagas s WHERE {where}", *parameters)
+                assert sorted(key for key, in selected) == wanted, (number, of)
 
 
 def shop() -> tuple[sagas.Saga, list[bool]]:
-    """A saga whose items ask a person, and so does a step of an included saga."""
+    """Return a saga whose items need an operator, and so does a step of an included saga."""
     works = list[bool]()
 
     def work(task: Task) -> None:
@@ -159,14 +159,16 @@ def shop() -> tuple[sagas.Saga, list[bool]]:
 
 
 def test_a_filter_that_selects_nothing_by_mistake(
-    place: str, caplog: pytest.LogCaptureFixture, capsys: pytest.CaptureFixture[str]
+    location: str, caplog: pytest.LogCaptureFixture, capsys: pytest.CaptureFixture[str]
 ) -> None:
-    """An empty one is refused; a step with items means all of them; what nothing has is said."""
+    """An empty one is refused; a step with items means all of them; names that nothing has are
+    reported.
+    """
     saga, works = shop()
-    shell = Shell(place, capsys)
+    shell = Shell(location, capsys)
 
     async def main() -> None:
-        async with sagas.open(place, [saga]) as store:
+        async with sagas.open(location, [saga]) as store:
             label = {"customer": "7"}
             await store.start(saga, "k", {"items": [1, 2]}, labels=label)
             await ask_people(store, 3)
@@ -179,10 +181,10 @@ def test_a_filter_that_selects_nothing_by_mistake(
                 await store.fail_all("no", labels={})
             assert await store.retry_all(step="shp") == 0
             assert "no definition has a step 'shp'; did you mean 'ship'?" in caplog.text
-            found = await store.abort_all(labels={"custmer": "7"})
-            assert found.warnings == ["no saga has a label 'custmer'; did you mean 'customer'?"]
-            found = await store.resolve_all("seen", labels={"customer": "8"})
-            assert found.warnings == ["no saga has the label customer='8'"]
+            outcome = await store.abort_all(labels={"custmer": "7"})
+            assert outcome.warnings == ["no saga has a label 'custmer'; did you mean 'customer'?"]
+            outcome = await store.resolve_all("seen", labels={"customer": "8"})
+            assert outcome.warnings == ["no saga has the label customer='8'"]
             assert not (await store.resolve_all("seen", labels=label)).warnings
             assert await store.fail_all("no", labels={"customer": "8"}) == 0
             assert [record.message for record in caplog.records if "label" in record.message] == [
@@ -201,9 +203,9 @@ def test_a_filter_that_selects_nothing_by_mistake(
 
     run(main())
     assert shell("retry", "--all", "--step", "ship") == "0 steps\n"
-    said = [("retry", "--step", "shp", "no definition has a step 'shp'; did you mean 'ship'")]
+    cases = [("retry", "--step", "shp", "no definition has a step 'shp'; did you mean 'ship'")]
     label = "--label", "custmer=7", "no saga has a label 'custmer'; did you mean 'customer'"
-    said += [("abort", *label), ("retry", *label), ("resolve", "--note", "seen", *label)]
-    for word, *words, text in said:
-        assert store_command.main([place, word, "--all", *words]) == 0
+    cases += [("abort", *label), ("retry", *label), ("resolve", "--note", "seen", *label)]
+    for word, *arguments, text in cases:
+        assert store_command.main([location, word, "--all", *arguments]) == 0
         assert text in capsys.readouterr().err

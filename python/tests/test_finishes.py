@@ -1,4 +1,4 @@
-"""An answer that is given twice is one; another one is told that the first counts."""
+"""An answer that is given twice is one; a different one gets the error that the first counts."""
 
 from __future__ import annotations
 
@@ -19,8 +19,9 @@ Say = Callable[..., Any]
 
 
 def signed() -> sagas.Saga:
-    """A step that is done elsewhere, an approval with tries, and one more approval, which keeps the
-    saga open."""
+    """Return a saga with an external step, an approval with tries, and one more approval, which
+    keeps it open.
+    """
     saga = sagas.Saga("signed")
     first = saga.step(external=True, name="print")
     sign = saga.approval(name="sign", needs=[first], backoff=QUICK)(lambda task: None)
@@ -33,30 +34,30 @@ def has_begun(store: sagas.Store, step: str) -> bool:
     return any(one.step == step and one.waits in waits for one in store.active_attempts("k"))
 
 
-async def asked(store: sagas.Store, step: str) -> None:
-    """The step waits for somebody's word."""
+async def waiting_for_report(store: sagas.Store, step: str) -> None:
+    """Wait until the step needs a report."""
     await until(lambda: has_begun(store, step))
 
 
 by_anybody = pytest.mark.parametrize(
-    ("place", "who"),
+    ("location", "who"),
     [("sqlite", "store"), *(("postgresql", who) for who in ("store", "node", "client"))],
-    indirect=["place"],
+    indirect=["location"],
 )
-"""Who says it: the program that has the saga, another one, or a client; a file is one program's."""
+"""The caller: the program that has the saga, another one, or a client; a file is one program's."""
 
 
-async def teller(stack: AsyncExitStack, who: str, place: str, store: sagas.Store) -> Say:
+async def teller(stack: AsyncExitStack, who: str, location: str, store: sagas.Store) -> Say:
     if who == "store":
         return saying(store)
     if who == "client":
-        return saying(await stack.enter_async_context(sagas.Client(place)))
-    node = sagas.open(place, [signed()], node="other")
+        return saying(await stack.enter_async_context(sagas.Client(location)))
+    node = sagas.open(location, [signed()], node="other")
     return saying(await stack.enter_async_context(node))
 
 
 def saying(who: sagas.Store | sagas.Client) -> Say:
-    """Reports by `complete`, or by `fail` where it is told why."""
+    """Report by `complete`, or by `fail` if there is a reason."""
 
     async def say(
         key: str, step: str, *result: Any, error: str | None = None, early: bool = True
@@ -70,26 +71,26 @@ def saying(who: sagas.Store | sagas.Client) -> Say:
 
 
 @by_anybody
-def test_the_same_again_is_one(place: str, who: str) -> None:
-    """At once, while the saga goes on, and when it is over; done or failed."""
+def test_the_same_again_is_one(location: str, who: str) -> None:
+    """Concurrently, while the saga continues, and when it is over; success or failure."""
     saga = signed()
 
-    async def differs(say: Say, step: str, told: str, *words: Any, **more: Any) -> None:
+    async def differs(say: Say, step: str, message: str, *arguments: Any, **more: Any) -> None:
         with pytest.raises(
-            sagas.ConflictingReport, match=f"'{step}': {told}. This is a different outcome"
+            sagas.ConflictingReport, match=f"'{step}': {message}. This is a different outcome"
         ) as error:
-            await say("k", step, *words, **more)
+            await say("k", step, *arguments, **more)
         assert isinstance(error.value, sagas.StepNotWaiting) and "secret" not in str(error.value)
 
     async def main() -> None:
         async with AsyncExitStack() as stack:
-            store = await stack.enter_async_context(sagas.open(place, [saga]))
+            store = await stack.enter_async_context(sagas.open(location, [saga]))
             await store.start(saga, "k")
-            await asked(store, "print")
-            say = await teller(stack, who, place, store)
+            await waiting_for_report(store, "print")
+            say = await teller(stack, who, location, store)
             twice = await asyncio.gather(*(say("k", "print", {"page": 1}) for _ in range(3)))
             assert twice == [None] * 3
-            await asked(store, "sign")
+            await waiting_for_report(store, "sign")
             await say("k", "print", {"page": 1})
             await differs(say, "print", "it has succeeded", {"page": "secret"})
             await differs(say, "print", "it has succeeded", error="secret")
@@ -111,16 +112,16 @@ def test_the_same_again_is_one(place: str, who: str) -> None:
 
 
 @by_anybody
-def test_two_answers_at_once(place: str, who: str) -> None:
-    """One of them counts, and the other one is told so."""
+def test_two_answers_at_once(location: str, who: str) -> None:
+    """One of them counts, and the other one gets that as its error."""
     saga = signed()
 
     async def main() -> None:
         async with AsyncExitStack() as stack:
-            store = await stack.enter_async_context(sagas.open(place, [saga]))
+            store = await stack.enter_async_context(sagas.open(location, [saga]))
             await store.start(saga, "k")
-            await asked(store, "print")
-            say = await teller(stack, who, place, store)
+            await waiting_for_report(store, "print")
+            say = await teller(stack, who, location, store)
             both = await asyncio.gather(
                 *(say("k", "print", n) for n in range(2)), return_exceptions=True
             )
@@ -130,14 +131,14 @@ def test_two_answers_at_once(place: str, who: str) -> None:
 
 
 def is_stopped(url: str) -> bool:
-    """Whether a statement waits for a lock."""
+    """Return whether a statement waits for a lock."""
     asks = "SELECT 1 FROM pg_stat_activity WHERE wait_event_type = 'Lock' AND datname = "
     with psycopg.connect(url) as link:
         return bool(link.execute(asks + "current_database()").fetchall())
 
 
 def is_kept(url: str, step: int) -> bool:
-    """Whether the store has how a step ended, or what was said of it before."""
+    """Return whether the store has the outcome of a step, or an early report of it."""
     asks = (
         "SELECT FROM sagas.attempts WHERE step = %(step)s UNION ALL "
         "SELECT FROM sagas.suspensions WHERE step = %(step)s AND number = 0"
@@ -148,8 +149,9 @@ def is_kept(url: str, step: int) -> bool:
 
 @contextlib.contextmanager
 def held(url: str, *, lost: bool = False) -> Iterator[Callable[[], Awaitable[None]]]:
-    """Nothing is stored of any shard until the block ends; then the shards are `lost`: another
-    node had them, and has left them. What it gives waits until something is to be stored."""
+    """Store nothing of any shard until the block ends; then the shards are `lost`: another node had
+    them, and has left them. The returned function waits until a statement stores something.
+    """
     raised = "epoch = epoch + 1, owner = NULL" if lost else "epoch = epoch"
     with psycopg.connect(url) as stranger:
         stranger.execute(f"UPDATE sagas.shards SET {raised}")
@@ -158,7 +160,7 @@ def held(url: str, *, lost: bool = False) -> Iterator[Callable[[], Awaitable[Non
 
 @contextlib.asynccontextmanager
 async def busy(store: sagas.Store, saga: sagas.Saga) -> AsyncIterator[None]:
-    """The engine of the one shard does not answer until the block ends, and is asked nothing."""
+    """Stop the engine of the one shard until the block ends, without new questions."""
     [runner] = store._access.coordinator.shards.runners.values()
     assert runner.engine
     process = runner.engine.process
@@ -178,17 +180,18 @@ async def busy(store: sagas.Store, saga: sagas.Saga) -> AsyncIterator[None]:
 def test_the_second_of_two_is_answered_once_the_first_is_stored(
     url: str, step: str, where: str, lost: bool
 ) -> None:
-    """Also where the shard moves before that, with the first on its way to the store, or to the
-    engine: then both are said again of where it is."""
+    """It holds also if the shard moves before that, with the first one in progress to the store, or
+    to the engine: then both are repeated at its new node.
+    """
     saga, places = signed(), {"print": 0, "sign": 1}
 
     async def main() -> None:
         async with sagas.open(url, [saga], lease=2) as store:
             await store.start(saga, "k")
-            await asked(store, "print")
+            await waiting_for_report(store, "print")
             if step == "sign":
                 await store.complete("k", "print", 1)
-                await asked(store, "sign")
+                await waiting_for_report(store, "sign")
 
             async def say() -> bool:
                 await store.complete("k", step, "yes")
@@ -210,8 +213,10 @@ def test_the_second_of_two_is_answered_once_the_first_is_stored(
 
 
 @pytest.mark.parametrize("same", [True, False], ids=["same", "other"])
-def test_what_the_function_said_is_told_once_it_is_stored(url: str, same: bool) -> None:
-    """Whoever reports a step while its function runs waits for it; it answers itself."""
+def test_a_report_waits_for_the_stored_outcome_of_the_function(url: str, same: bool) -> None:
+    """A report that comes while the step's function runs waits for it; the function gives the
+    outcome.
+    """
     saga, gate, calls = sagas.Saga("asks"), asyncio.Event(), list[str]()
 
     @saga.approval(name="sign")
@@ -241,8 +246,8 @@ def test_what_the_function_said_is_told_once_it_is_stored(url: str, same: bool) 
     run(main())
 
 
-def test_a_refusal_is_told_once_what_it_rests_on_is_stored(url: str) -> None:
-    """A step that does not start any more, because another one failed."""
+def test_a_refusal_waits_until_its_reason_is_stored(url: str) -> None:
+    """The step does not start any more, because another one failed."""
     saga, gate, calls = sagas.Saga("fails"), asyncio.Event(), list[str]()
 
     @saga.step(skip=9)
@@ -270,8 +275,8 @@ def test_a_refusal_is_told_once_what_it_rests_on_is_stored(url: str) -> None:
 
 
 @pytest.mark.parametrize("on_its_way", ["retry", "failure"])
-def test_a_retry_is_said_again_of_where_the_shard_is(url: str, on_its_way: str) -> None:
-    """It was on its way to the store when the shard moved, or waited for what failed before it."""
+def test_a_retry_follows_its_shard(url: str, on_its_way: str) -> None:
+    """It was in progress to the store when the shard moved, or waited for the failure before it."""
     saga, calls, may_fail = sagas.Saga("retried"), list[str](), asyncio.Event()
 
     @saga.step(on_exhausted="ask")
@@ -310,13 +315,13 @@ def test_a_retry_is_said_again_of_where_the_shard_is(url: str, on_its_way: str) 
 
 @pytest.mark.parametrize("size", [1, 100_000])
 def test_a_retry_is_called_whatever_is_stored_first(url: str, size: int) -> None:
-    """The tenant of its saga is asked for, and the input read for that, while its row is on its way
-    to the store.
+    """The tenant of its saga is computed, and the input read for that, while its row is being
+    stored.
     """
-    asked, calls = list[str](), list[int]()
+    waiting_for_report, calls = list[str](), list[int]()
 
     def tenant(given: dict[str, str]) -> str:
-        asked.append(given["of"])
+        waiting_for_report.append(given["of"])
         return given["of"]
 
     saga = sagas.Saga("retried", fair_by=tenant)
@@ -333,13 +338,13 @@ def test_a_retry_is_called_whatever_is_stored_first(url: str, size: int) -> None
             await store.start(saga, "k", {"of": "a", "fill": "x" * size})
             while not await store.attention():
                 await asyncio.sleep(0.01)
-        asked.clear()
+        waiting_for_report.clear()
         async with sagas.open(url, [saga]) as store:
             with held(url) as reached:
                 says = asyncio.create_task(store.retry("k", "call"))
                 await reached()
-                await until(lambda: bool(asked))
-                await asyncio.sleep(0.1)  # the answer is there by then, or soon after
+                await until(lambda: bool(waiting_for_report))
+                await asyncio.sleep(0.1)  # the reply exists by then, or soon after
             await asyncio.wait_for(says, 60)
             assert (await store.wait("k", 60)).results["call"] == "done"
 

@@ -1,4 +1,7 @@
-"""Limits and rates of a step over all nodes: never exceeded, given back by whoever is gone, and nobody else is kept back."""
+"""Limits and rates of a step over all nodes.
+
+They are never exceeded, dead nodes release their slots, and no other step waits.
+"""
 
 from __future__ import annotations
 
@@ -30,16 +33,16 @@ HERE = pathlib.Path(__file__).resolve().parent
 
 
 class Count:
-    """How many are inside at once, and in all."""
+    """How many calls are inside at once, and in all."""
 
     def __init__(self) -> None:
         self.now = self.most = 0
-        self.least = 0  # who is inside stays until so many are at once
+        self.least = 0  # a call inside stays until this many are at once
         self.by: Counter[str] = Counter()
         self.at: list[float] = []
 
     async def inside(self, name: str, seconds: float = 0.005) -> None:
-        """Is inside for so long."""
+        """Stay inside for this time."""
         self.at.append(time.monotonic())
         self.now += 1
         self.by[name] += 1
@@ -50,22 +53,24 @@ class Count:
         self.now -= 1
 
 
-def counted(count: Count, name: str = "here", seconds: float = 0.005, **words: Any) -> sagas.Saga:
-    """A step that is counted while it runs."""
+def counted(count: Count, name: str = "here", seconds: float = 0.005, **options: Any) -> sagas.Saga:
+    """Return a step that is counted while it runs."""
 
     async def step(task: Task) -> None:
         await count.inside(name, seconds)
 
-    return simple(step, **words)
+    return simple(step, **options)
 
 
-def test_no_more_than_its_limit_at_once(place: str) -> None:
-    """Of one program, in a file and in a database; all places are used, and each call gets one in the end."""
+def test_no_more_than_its_limit_at_once(location: str) -> None:
+    """Of one program, in a file and in a database; all slots are used, and each call gets one in
+    the end.
+    """
     count = Count()
     kind = counted(count, fleet_concurrency=3)
 
     async def main() -> None:
-        async with sagas.open(place, [kind], concurrency=16) as store:
+        async with sagas.open(location, [kind], concurrency=16) as store:
             ends = await asyncio.gather(*(ended(store, kind, f"k{number}") for number in range(40)))
             assert all(end.ok for end in ends)
 
@@ -74,7 +79,9 @@ def test_no_more_than_its_limit_at_once(place: str) -> None:
 
 
 def test_a_limit_holds_over_all_nodes(url: str) -> None:
-    """Three nodes with more work than places: together no more than the limit, all places are used, and each node has its turns."""
+    """Three nodes have more work than slots: together no more than the limit run, all slots are
+    used, and each node has its turns.
+    """
     count = Count()
     count.least = 4
     kinds = [counted(count, f"n{number}", fleet_concurrency=4) for number in range(3)]
@@ -97,8 +104,10 @@ def test_a_limit_holds_over_all_nodes(url: str) -> None:
     assert count.most == 4 and count.by == {f"n{number}": 20 for number in range(3)}
 
 
-def test_a_held_step_keeps_nobody_back(place: str) -> None:
-    """All that wait for a place take no slot: another step runs past them with the only other one."""
+def test_a_step_at_its_fleet_limit_takes_no_slot(location: str) -> None:
+    """Attempts that wait for a slot of the limit take no slot of the program: another step runs
+    past them with the only other one.
+    """
     gate = asyncio.Event()
 
     async def wait(task: Task) -> None:
@@ -108,7 +117,7 @@ def test_a_held_step_keeps_nobody_back(place: str) -> None:
     quick.step(name="a")(lambda task: 1)
 
     async def main() -> None:
-        async with sagas.open(place, [slow, quick], concurrency=2) as store:
+        async with sagas.open(location, [slow, quick], concurrency=2) as store:
             held = [await store.start(slow, f"slow-{number}") for number in range(10)]
             await asyncio.gather(*(ended(store, quick, f"quick-{number}") for number in range(10)))
             assert await held[9].abort() and (await held[9].wait()).aborted  # it was never called
@@ -133,8 +142,8 @@ NODE = """
 """
 
 
-def test_a_killed_nodes_places_are_free_after_its_lease(url: str, tmp_path: pathlib.Path) -> None:
-    """While it lives its place is its own; when it is killed, another node's step has it."""
+def test_a_killed_nodes_slots_are_free_after_its_lease(url: str, tmp_path: pathlib.Path) -> None:
+    """While the node lives its slot is its own; when it is killed, another node's step has it."""
     script = tmp_path / "node.py"
     script.write_text(textwrap.dedent(NODE.format(url=url)))
     environment = os.environ | {"PYTHONPATH": str(HERE.parent / "src"), "SAGAS_PROGRAM": program()}
@@ -164,8 +173,10 @@ def test_a_killed_nodes_places_are_free_after_its_lease(url: str, tmp_path: path
 PERIOD = 0.6
 
 
-def test_no_more_than_its_rate(place: str) -> None:
-    """In any period no more calls begin than its rate says, tries too, also where the program is started again in between."""
+def test_no_more_than_its_rate(location: str) -> None:
+    """In any period no more calls start than its rate, including retries and a restart of the
+    program.
+    """
     count = Count()
 
     async def step(task: Task) -> None:
@@ -176,24 +187,21 @@ def test_no_more_than_its_rate(place: str) -> None:
     kind = simple(step, rate_limit=(4, PERIOD), tries=2, backoff=QUICK)
 
     async def main() -> None:
-        async with sagas.open(place, [kind]) as store:
+        async with sagas.open(location, [kind]) as store:
             await asyncio.gather(*(ended(store, kind, f"k{number}") for number in range(2)))
-        async with sagas.open(place, [kind]) as store:
+        async with sagas.open(location, [kind]) as store:
             await asyncio.gather(*(ended(store, kind, f"more-{number}") for number in range(4)))
 
     began = time.monotonic()
     run(main())
     assert len(count.at) == 12 and time.monotonic() - began >= 2 * PERIOD
     for first, fifth in zip(count.at, count.at[4:]):
-        assert (
-            fifth - first > PERIOD / 2
-        ), (
-            count.at
-        )  # counted when the place is given, which is before the call by as much as this machine is busy
+        # counted when the slot is granted, before the call; the delay depends on the machine's load
+        assert fifth - first > PERIOD / 2, count.at
 
 
 def test_a_rate_holds_over_all_nodes(url: str) -> None:
-    """Two nodes, and a limit beside it."""
+    """Two nodes, and a limit with it."""
     count = Count()
     kinds = [
         counted(count, f"n{number}", seconds=0.05, rate_limit=(6, PERIOD), fleet_concurrency=2)
@@ -215,24 +223,23 @@ def test_a_rate_holds_over_all_nodes(url: str) -> None:
     began = time.monotonic()
     run(main())
     assert sum(count.by.values()) == 20 and count.most <= 2
-    assert (
-        time.monotonic() - began >= 2.75 * PERIOD
-    )  # three of them by the server's clock, which may be set a little meanwhile
+    # three of them by the server's clock, which may be adjusted a little in the meantime
+    assert time.monotonic() - began >= 2.75 * PERIOD
 
 
-def test_a_clock_that_jumped_back_stops_no_rate(place: str) -> None:
-    """Places that are taken until a time past any period are free."""
+def test_a_clock_that_jumped_back_stops_no_rate(location: str) -> None:
+    """Slots that are taken until a time beyond any period are free."""
     kind = counted(Count(), rate_limit=(2, 3.0))
 
     async def main() -> None:
-        async with sagas.open(place, [kind]) as store:
+        async with sagas.open(location, [kind]) as store:
             await asyncio.gather(*(ended(store, kind, f"k{number}") for number in range(2)))
             statement = "UPDATE limit_slots SET until = until + 86400 WHERE kind = 'rate'"
-            if place.startswith("postgresql:"):
-                with psycopg.connect(place, options="-csearch_path=sagas") as link:
+            if location.startswith("postgresql:"):
+                with psycopg.connect(location, options="-csearch_path=sagas") as link:
                     link.execute(statement)
             else:
-                with contextlib.closing(sqlite3.connect(place)) as db:
+                with contextlib.closing(sqlite3.connect(location)) as db:
                     db.execute(statement)
                     db.commit()
             async with asyncio.timeout(2.5):
@@ -241,14 +248,16 @@ def test_a_clock_that_jumped_back_stops_no_rate(place: str) -> None:
     run(main())
 
 
-def test_places_are_not_lost_with_their_answers(url: str, monkeypatch: pytest.MonkeyPatch) -> None:
-    """Statements are done and their answers lost: the limit holds, all sagas end, and each place is free again."""
+def test_slots_are_not_lost_with_their_replies(url: str, monkeypatch: pytest.MonkeyPatch) -> None:
+    """Statements are done and their replies lost: the limit holds, all sagas end, and each slot is
+    free again.
+    """
     count, turns = Count(), iter(range(1000))
     kind = counted(count, fleet_concurrency=2)
     right = LimitSlots.take
 
-    async def take(self: LimitSlots, *words: Any) -> Grant:
-        grant = await right(self, *words)
+    async def take(self: LimitSlots, *arguments: Any) -> Grant:
+        grant = await right(self, *arguments)
         if next(turns) in (0, 4, 9):
             raise sagas.StoreUnavailable("the answer is lost")
         return grant
@@ -271,20 +280,22 @@ def test_places_are_not_lost_with_their_answers(url: str, monkeypatch: pytest.Mo
     assert count.most <= 2
 
 
-def test_what_is_in_doubt_is_told_by_its_own_gate(
+def test_a_lost_reply_is_resolved_by_its_own_gate(
     url: str, monkeypatch: pytest.MonkeyPatch
 ) -> None:
-    """An answer for a key is lost, and other keys come meanwhile: what is told of that later gives back no place of the key's next call."""
-    monkeypatch.setattr(fleet_limits, "MAX_GATES", 1)
+    """The reply for a key is lost, and other keys come in the meantime: a later report of it
+    releases no slot of the key's next call.
+    """
+    monkeypatch.setattr(fleet_limits, "MOST_GATES", 1)
     monkeypatch.setattr(fleet_limits, "LOOK", 0.05)
     monkeypatch.setattr(fleet_limits, "DOUBT", 1.0)
-    told: list[tuple[str, int]] = []
+    takes: list[tuple[str, int]] = []
     right = LimitSlots.take
 
     async def take(self: LimitSlots, name: str, bounds: Bounds, want: int, *more: Any) -> Grant:
         grant = await right(self, name, bounds, want, *more)
-        told.append((name, want))
-        if len(told) == 1:
+        takes.append((name, want))
+        if len(takes) == 1:
             raise sagas.StoreUnavailable("the answer is lost")
         return grant
 
@@ -299,8 +310,8 @@ def test_what_is_in_doubt_is_told_by_its_own_gate(
 
     async def step(task: Task) -> None:
         if task.key == "second":
-            begun = len(told)
-            await until(lambda: (told[0][0], 0) in told[begun:], 30)
+            begun = len(takes)
+            await until(lambda: (takes[0][0], 0) in takes[begun:], 30)
             assert is_taken()
 
     kind = simple(step, fleet_concurrency=1, concurrency_by=lambda key: key)
@@ -314,17 +325,17 @@ def test_what_is_in_doubt_is_told_by_its_own_gate(
     run(main())
 
 
-def test_what_is_no_limit_is_refused() -> None:
-    """Told by step, with what is allowed."""
-    for words, said in (
+def test_invalid_limits_are_refused() -> None:
+    """The error has the step, and the allowed values."""
+    for options, message in (
         ({"fleet_concurrency": 0}, "fleet_concurrency=0"),
         ({"fleet_concurrency": True}, "fleet_concurrency=True"),
         ({"rate_limit": (10, 0)}, "rate_limit="),
         ({"rate_limit": 5}, "rate_limit=5"),
         ({"rate_limit": (10_001, 60)}, "10,000 calls"),
     ):
-        with pytest.raises(sagas.DefinitionError, match=said):
-            simple(lambda task: 1, **words)
+        with pytest.raises(sagas.DefinitionError, match=message):
+            simple(lambda task: 1, **options)
     saga = sagas.Saga("elsewhere")
     with pytest.raises(
         sagas.DefinitionError, match="step is external.* Remove fleet_concurrency and rate_limit"

@@ -30,19 +30,19 @@ async def done(task: Task) -> str:
     return "done"
 
 
-def words_of(path: pathlib.Path) -> list[list[str]]:
-    """The lines of a record, each as its words."""
+def fields_of(path: pathlib.Path) -> list[list[str]]:
+    """Return the lines of a record, each split into its fields."""
     return [line.split(" ") for line in path.read_text().splitlines()]
 
 
-def told(path: pathlib.Path) -> set[str]:
-    """The edges at which something was acknowledged."""
-    return {words[-1] for words in words_of(path) if words[0] in ("told", "seen")}
+def edges_of(path: pathlib.Path) -> set[str]:
+    """Return the edges at which something was acknowledged."""
+    return {fields[-1] for fields in fields_of(path) if fields[0] in ("told", "seen")}
 
 
 @pytest.fixture
 def store(url: str, tmp_path: pathlib.Path) -> str:
-    """A store in which two sagas are over; its node's record is `node`."""
+    """Return a store in which two sagas are over; its node's record is `node`."""
 
     async def main() -> None:
         kind = simple(done)
@@ -58,19 +58,19 @@ def store(url: str, tmp_path: pathlib.Path) -> str:
 def judge(
     store: str, tmp_path: pathlib.Path, capsys: pytest.CaptureFixture[str]
 ) -> Callable[..., list[Json]]:
-    """The command over that store, with what it prints for programs."""
+    """Return the command over that store, with its output for programs."""
 
-    def call(*words: str, status: int = 0) -> list[Json]:
+    def call(*arguments: str, status: int = 0) -> list[Json]:
         capsys.readouterr()
-        assert store_command.main([store, "record", "--json", *words]) == status
-        found: list[Json] = json.loads(capsys.readouterr().out)
-        return found
+        assert store_command.main([store, "record", "--json", *arguments]) == status
+        shards: list[Json] = json.loads(capsys.readouterr().out)
+        return shards
 
     return call
 
 
 def test_the_program_judges_records() -> None:
-    """So that every record of these tests is judged by it, and not by the model alone."""
+    """So that every record of these tests is judged by the program, and not only by the model."""
     assert fleet.has_program()
 
 
@@ -89,7 +89,7 @@ def test_a_record_is_judged(
     (alone,) = judge()
     assert alone["good"] and alone["events"] < one["events"]
     assert (
-        told(path) == {"call", "wake"}
+        edges_of(path) == {"call", "wake"}
         and "secret" not in path.read_text()
         and "done" not in path.read_text()
     )
@@ -128,7 +128,10 @@ def test_a_database_that_differs(
             "a commit follows event .*, and the previous one ends at 0",
         ),
         (
-            "DELETE FROM event_log WHERE first_seq = (SELECT min(first_seq) FROM event_log WHERE first_seq > 0)",
+            (
+                "DELETE FROM event_log WHERE first_seq = (SELECT min(first_seq) FROM event_log"
+                " WHERE first_seq > 0)"
+            ),
             "a commit follows event .*",
         ),
         (
@@ -144,7 +147,7 @@ def test_a_log_with_a_gap(
     text: str,
     gap: str,
 ) -> None:
-    """Without files, too: each commit says how many events are before it."""
+    """This holds without files, too: each commit has the number of events before it."""
     assert judge()[0]["gaps"] == []
     change(store, text)
     (one,) = judge(status=1)
@@ -156,13 +159,13 @@ def test_a_log_with_a_gap(
     assert "  NO    yes sessions " in shown and f"shard 0: gap: {one['gaps'][0]}" in shown
 
 
-def test_an_end_that_was_told_and_is_not_there(
+def test_an_acknowledged_end_that_is_missing(
     store: str,
     judge: Callable[..., list[Json]],
     tmp_path: pathlib.Path,
     capsys: pytest.CaptureFixture[str],
 ) -> None:
-    """A client was told it, whose record has the number of the saga."""
+    """A client got it, whose record has the number of the saga."""
 
     async def main() -> None:
         async with sagas.Client(store, record=tmp_path / "client") as client:
@@ -170,7 +173,7 @@ def test_an_end_that_was_told_and_is_not_there(
 
     run(main())
     files = [str(tmp_path / "node"), str(tmp_path / "client")]
-    assert judge(*files)[0]["good"] and words_of(tmp_path / "client")[1][2:] == ["1", "client"]
+    assert judge(*files)[0]["good"] and fields_of(tmp_path / "client")[1][2:] == ["1", "client"]
     change(store, "UPDATE sagas SET phase = NULL WHERE key = 'secret-2'")
     (one,) = judge(*files, status=1)
     assert one["good"] and one["ends_lost"] == [1]
@@ -178,23 +181,25 @@ def test_an_end_that_was_told_and_is_not_there(
     assert "shard 0: lost: the acknowledged ends of the sagas 1" in capsys.readouterr().out
 
 
-def test_what_a_service_acknowledges(url: str, tmp_path: pathlib.Path, receiver: Receiver) -> None:
-    """Starts by its replies, ends by its webhooks, and to those who wait."""
-    words = [
+def test_acknowledgements_of_a_service(
+    url: str, tmp_path: pathlib.Path, receiver: Receiver
+) -> None:
+    """Starts by its replies, ends by its webhooks, and to waiting callers."""
+    options = [
         "--local-webhooks",
         "--webhooks",
         written(tmp_path, table(receiver.url)),
         "--record",
         str(tmp_path / "record"),
     ]
-    with served(tmp_path, DEFINITIONS, *words, store=url) as service, service.client() as client:
+    with served(tmp_path, DEFINITIONS, *options, store=url) as service, service.client() as client:
         assert start(client, "trip", "t").status_code == 201
         all_done(client, "trip/flight", "trip/car", "trip/tour")
         assert client.get("/v1/sagas/t/wait").json()["over"]
         receiver.wait(1)
     shards, faults = fleet.judged(url, [tmp_path / "record"])
     assert len(shards) == 1 and faults == []
-    assert {"wake", "reply", "webhook"} <= told(tmp_path / "record")
+    assert {"wake", "reply", "webhook"} <= edges_of(tmp_path / "record")
 
 
 def test_a_shard_that_was_deleted_is_not_judged(url: str, tmp_path: pathlib.Path) -> None:
@@ -209,12 +214,12 @@ def test_a_shard_that_was_deleted_is_not_judged(url: str, tmp_path: pathlib.Path
                 await asyncio.sleep(0.05)
 
     run(main())
-    assert any(words[0] == "closed" for words in words_of(tmp_path / "record"))
+    assert any(fields[0] == "closed" for fields in fields_of(tmp_path / "record"))
     assert fleet.judged(url, [tmp_path / "record"]) == ([], [])
 
 
 def test_a_record_that_cannot_be_written(url: str, caplog: pytest.LogCaptureFixture) -> None:
-    """Is told once, and holds up no saga."""
+    """The error is logged once, and blocks no saga."""
 
     async def main() -> None:
         kind = simple(done)
@@ -228,7 +233,7 @@ def test_a_record_that_cannot_be_written(url: str, caplog: pytest.LogCaptureFixt
 def test_records_that_cannot_be(
     url: str, tmp_path: pathlib.Path, monkeypatch: pytest.MonkeyPatch
 ) -> None:
-    """Each is refused with what to do. The environment is for stores over PostgreSQL alone."""
+    """Each error says what to do. The environment is only for stores over PostgreSQL."""
     kind, file, missing = simple(done), tmp_path / "store.db", tmp_path / "missing" / "record"
 
     async def opens(path: str | pathlib.Path, record: Any) -> None:
@@ -251,25 +256,25 @@ def test_records_that_cannot_be(
 
 
 @pytest.mark.parametrize(
-    ("text", "told"),
+    ("text", "edges_of"),
     [
         (None, "No such file or directory. Pass the file of a record"),
         ("sagas-record 1 a\nwhat\n", "line 2: it is no event. Name a file that a program wrote"),
         ("sagas-record 2 a\n", "line 1: its format is not 1"),
     ],
 )
-def test_files_that_are_none(
+def test_invalid_files(
     store: str,
     tmp_path: pathlib.Path,
     capsys: pytest.CaptureFixture[str],
     text: str | None,
-    told: str,
+    edges_of: str,
 ) -> None:
     path = tmp_path / "other"
     if text is not None:
         path.write_text(text)
     assert store_command.main([store, "record", str(path)]) == 4
-    assert told in capsys.readouterr().err
+    assert edges_of in capsys.readouterr().err
 
 
 def test_a_last_line_that_is_not_whole(
@@ -301,8 +306,8 @@ def test_a_folder_that_cannot_be_written(
     assert "Not a directory. Pass a writable folder to --save" in capsys.readouterr().err
 
 
-def test_a_node_that_takes_up_what_another_left(url: str, tmp_path: pathlib.Path) -> None:
-    """And that goes on behind it, so that the epochs of one record are in the other's."""
+def test_a_node_that_takes_over_shards(url: str, tmp_path: pathlib.Path) -> None:
+    """The node continues after it, so that the epochs of one record are in the other one."""
     gate, calls = asyncio.Event(), list[str]()
 
     async def waits(task: Task) -> None:
@@ -325,10 +330,13 @@ def test_a_node_that_takes_up_what_another_left(url: str, tmp_path: pathlib.Path
 
 
 @pytest.mark.parametrize("ends", [False, True])
-def test_an_abort_is_answered_behind_what_it_rests_on(
+def test_an_abort_is_answered_after_the_commit_of_its_reason(
     url: str, tmp_path: pathlib.Path, ends: bool
 ) -> None:
-    """An abort that comes too late writes nothing. It is answered once the store has its reason."""
+    """An abort that comes too late writes nothing.
+
+    Its reply comes once the store has its reason.
+    """
     gate, calls = asyncio.Event(), list[str]()
 
     async def waits(task: Task) -> None:
@@ -370,7 +378,7 @@ def test_an_abort_is_answered_behind_what_it_rests_on(
 
 
 def test_an_answer_of_an_older_epoch_that_comes_late(tmp_path: pathlib.Path) -> None:
-    """It is no takeover, and what is read again after it is none either."""
+    """It is not a takeover, and neither is a later read."""
     record = RecordFile(str(tmp_path / "record"), "run")
     record.open()
     line = "00000001"
@@ -380,8 +388,8 @@ def test_an_answer_of_an_older_epoch_that_comes_late(tmp_path: pathlib.Path) -> 
     record.read((7, 10, line), 2, "a\nb\n")
     record.read((7, 10, "00000002"), 2, "a\nb\n")  # of another server: its session is not known
     record.close()
-    found = [words for words in words_of(tmp_path / "record") if words[0] in ("took", "told")]
-    assert [(words[0], words[3], words[4]) for words in found] == [
+    edges = [fields for fields in fields_of(tmp_path / "record") if fields[0] in ("took", "told")]
+    assert [(fields[0], fields[3], fields[4]) for fields in edges] == [
         ("took", "9", line),
         ("took", "10", line),
         ("told", "9", line),

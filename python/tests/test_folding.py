@@ -1,5 +1,7 @@
-"""Pictures and tables of many steps: equal parallel ones are one box, none is lost, and what failed
-comes first."""
+"""Pictures and tables of many steps.
+
+Equal parallel steps are one box, none is lost, and failed ones come first.
+"""
 
 from __future__ import annotations
 
@@ -19,7 +21,7 @@ FAILED = StepDisplay("failed", "", False, "failed", "failed")
 
 
 def test_equal_steps_are_one_box() -> None:
-    """Between a first and a last one; one that failed stands apart."""
+    """They are between a first and a last one; a failed step has its own box."""
     needs = [[], *([0] for _ in range(20)), [*range(1, 21)]]
     looks = ["x"] * 22
     looks[7] = "failed"
@@ -40,16 +42,16 @@ def test_none_is_lost(data: st.DataObject) -> None:
     looks = data.draw(st.lists(st.sampled_from("ab"), min_size=count, max_size=count))
     boxes = folded(needs, looks)
     assert sorted(step for one in boxes for step in one.steps) == [*range(count)]
-    place = {step: number for number, one in enumerate(boxes) for step in one.steps}
+    box_of = {step: number for number, one in enumerate(boxes) for step in one.steps}
     for one in boxes:
         assert len(one.steps) == 1 or len(one.steps) >= FEW
         for step in one.steps:
-            assert {place[need] for need in needs[step]} == set(one.needs)
+            assert {box_of[need] for need in needs[step]} == set(one.needs)
             assert looks[step] == looks[one.steps[0]]
 
 
 def test_a_thousand_steps_are_drawn() -> None:
-    """In less than a second of the processor, as chains and as one wide layer."""
+    """It takes less than a second of the processor, as chains and as one wide layer."""
     wide = [("first", list[str]())]
     wide += [(f"s{number}", ["first"]) for number in range(1022)]
     wide.append(("last", [name for name, _ in wide[1:]]))
@@ -67,8 +69,10 @@ def test_a_thousand_steps_are_drawn() -> None:
     )
 
 
-def test_what_failed_comes_first() -> None:
-    """In its layer of the picture, in a table of which most rows are folded, and in a timeline."""
+def test_failed_steps_come_first() -> None:
+    """It is first in its layer of the picture, in a table of which most rows are folded, and in a
+    timeline.
+    """
     needs = [[], *([0] for _ in range(5)), [*range(1, 6)]]
     displays = [FAILED if number == 4 else PLAIN for number in range(7)]
     corners = picture.ordered(needs, displays).corners

@@ -1,4 +1,4 @@
-"""Hypothesis drives random definitions, failures and aborts through `sagas drive`, against the follower of the rules."""
+"""Random definitions, failures and aborts in `sagas drive`, compared with the reference model."""
 
 from __future__ import annotations
 
@@ -24,7 +24,7 @@ EXAMPLES = settings(
 
 
 def request(draw: st.DataObject, follower: Follower) -> Json:
-    """A request that is mostly one that may be granted."""
+    """Return a request that is mostly one that may be granted."""
     busy = follower.busy()
     many = len(follower.sagas)
     do = draw.draw(
@@ -56,7 +56,7 @@ def request(draw: st.DataObject, follower: Follower) -> Json:
 
 
 def finish(drive: Drive, follower: Follower) -> None:
-    """Drives until all is settled, with every task done well."""
+    """Drive until all is finished, with every task succeeding."""
     while True:
         ask: Json = {"do": "next"}
         (reply,) = drive.ask(ask)
@@ -74,12 +74,14 @@ def finish(drive: Drive, follower: Follower) -> None:
 
 @EXAMPLES
 @given(st.lists(steps(), min_size=1, max_size=2), st.data())
-def test_drive_does_what_the_rules_say(shelf: list[Any], data: st.DataObject) -> None:
-    """Each reply is the follower's; the log is the replies' events; an audit and a restart agree with both."""
+def test_drive_follows_the_rules(definitions: list[Any], data: st.DataObject) -> None:
+    """Each reply is the model's; the log is the replies' events; an audit and a restart agree with
+    both.
+    """
     with tempfile.TemporaryDirectory() as name:
         folder = pathlib.Path(name)
         log = folder / "log"
-        texts = [toml(f"d{number}", drawn) for number, drawn in enumerate(shelf)]
+        texts = [toml(f"d{number}", drawn) for number, drawn in enumerate(definitions)]
         follower = Follower([Definition.read(text) for text in texts])
         events: list[Json] = []
         with Drive(folder, texts, log) as drive:
@@ -98,8 +100,11 @@ def test_drive_does_what_the_rules_say(shelf: list[Any], data: st.DataObject) ->
         again = follow(texts, lines)
         assert [saga.states for saga in again.sagas] == [saga.states for saga in follower.sagas]
         ended = sum(saga.phase == "ended" for saga in again.sagas)
-        said = f"yes sagas {len(again.sagas)} ended {ended} stuck {len(again.sagas) - ended} events {len(lines) - 1}"
-        assert audit(log, sorted(folder.glob("*.toml"))) == said
+        verdict = (
+            f"yes sagas {len(again.sagas)} ended {ended} stuck {len(again.sagas) - ended} events"
+            f" {len(lines) - 1}"
+        )
+        assert audit(log, sorted(folder.glob("*.toml"))) == verdict
 
 
 TRIP = """format = 2
@@ -117,8 +122,8 @@ tries = 2
 
 
 def trip_log() -> list[Json]:
-    """A whole history of the trip, with a miss."""
-    words = [
+    """Return a whole history of the trip, with a failed attempt."""
+    steps = [
         ("start_run", 0),
         ("commit", 0),
         ("start_run", 1),
@@ -127,7 +132,7 @@ def trip_log() -> list[Json]:
         ("commit", 1),
     ]
     return [{"def": 0, "event": "open", "saga": 0}] + [
-        {"event": word, "saga": 0, "step": step} for word, step in words
+        {"event": word, "saga": 0, "step": step} for word, step in steps
     ]
 
 
@@ -138,7 +143,7 @@ def test_the_follower_follows_a_history() -> None:
 
 @pytest.mark.parametrize("number", range(7))
 def test_the_follower_finds_an_event_left_out(number: int) -> None:
-    """Each event left out makes a later one illegal, or the saga not ended."""
+    """Each missing event makes a later one illegal, or the saga not ended."""
     log = trip_log()
     del log[number]
     try:
@@ -169,7 +174,7 @@ def test_the_follower_finds_an_event_doubled(number: int) -> None:
     ],
 )
 def test_the_follower_finds_a_plan_that_is_not_right(change: Json) -> None:
-    """The trip is aborted once all is done: all is kept for 3, and no other answer will do."""
+    """The trip is aborted once all is done: all is kept for 3, and no other answer is right."""
     right: Json = {
         "cost": 3,
         "kept": [0, 1],

@@ -1,4 +1,7 @@
-"""Starts that begin without a look for their keys: a key that is taken is answered as if it had been looked for."""
+"""Starts that begin without a look for their keys.
+
+A start of an existing key gets the same reply as if the key had been looked for.
+"""
 
 from __future__ import annotations
 
@@ -26,7 +29,7 @@ from sagas.storage.sqlite.storage import Sqlite
 
 @pytest.fixture
 def looks(monkeypatch: pytest.MonkeyPatch) -> list[str]:
-    """The keys that were looked for. No commit may be refused for its keys."""
+    """Return the keys that were looked for. No commit may be refused for its keys."""
     keys: list[str] = []
     find = PostgreSQL.find
 
@@ -34,7 +37,7 @@ def looks(monkeypatch: pytest.MonkeyPatch) -> list[str]:
         keys.append(key)
         return await find(self, key)
 
-    async def refused(self: Writer, *words: Any) -> None:
+    async def refused(self: Writer, *arguments: Any) -> None:
         raise AssertionError("a key was refused by the server")
 
     here, many = Sqlite.find, Sqlite.find_many
@@ -55,7 +58,7 @@ def looks(monkeypatch: pytest.MonkeyPatch) -> list[str]:
 
 
 def step(gate: asyncio.Event | None = None) -> sagas.Saga:
-    """A saga of one step, which waits for a gate where one is given."""
+    """Return a saga of one step, which waits for a gate if there is one."""
 
     async def a(task: Task) -> Any:
         if gate:
@@ -65,17 +68,17 @@ def step(gate: asyncio.Event | None = None) -> sagas.Saga:
     return simple(a)
 
 
-def count(place: str) -> int:
-    """How many sagas there are."""
-    return len(records.read(place).sagas)
+def count(location: str) -> int:
+    """Return how many sagas there are."""
+    return len(records.read(location).sagas)
 
 
-def test_a_new_key_is_not_looked_for(place: str, looks: list[str]) -> None:
+def test_a_new_key_is_not_looked_for(location: str, looks: list[str]) -> None:
     """A lone start's, and those of many at once."""
     kind = step()
 
     async def main() -> None:
-        async with sagas.open(place, [kind]) as store:
+        async with sagas.open(location, [kind]) as store:
             for number in range(5):
                 assert (await ended(store, kind, f"k{number}", number)).results == {"a": number}
             ends = await asyncio.gather(
@@ -85,12 +88,16 @@ def test_a_new_key_is_not_looked_for(place: str, looks: list[str]) -> None:
             assert looks == []
 
     run(main())
-    assert count(place) == 205
+    assert count(location) == 205
 
 
 @pytest.mark.parametrize("old", [1, 20])
-def test_keys_that_are_there_among_new_ones(place: str, looks: list[str], old: int) -> None:
-    """They are given their sagas; the others are begun, and what was open beside them goes on: nothing is called twice, and no key is refused."""
+def test_keys_that_are_there_among_new_ones(location: str, looks: list[str], old: int) -> None:
+    """They return their sagas.
+
+    The others are started, and open sagas next to them continue: no function is called twice, and
+    no key is refused.
+    """
     gate, calls = asyncio.Event(), Counter[str]()
 
     async def a(task: Task) -> Any:
@@ -102,11 +109,11 @@ def test_keys_that_are_there_among_new_ones(place: str, looks: list[str], old: i
     kind = simple(a)
 
     async def main() -> None:
-        async with sagas.open(place, [kind]) as store:
+        async with sagas.open(location, [kind]) as store:
             await asyncio.gather(
                 *(ended(store, kind, f"old-{number}", number) for number in range(old))
             )
-        async with sagas.open(place, [kind]) as store:
+        async with sagas.open(location, [kind]) as store:
             waiting = [await store.start(kind, f"open-{number}", "waits") for number in range(10)]
             keys = [f"new-{number}" for number in range(30)] + [
                 f"old-{number}" for number in range(old)
@@ -119,21 +126,25 @@ def test_keys_that_are_there_among_new_ones(place: str, looks: list[str], old: i
             gate.set()
             assert [(await run.wait()).results["a"] for run in runs] == given
             assert [(await run.wait()).results["a"] for run in waiting] == ["waits"] * 10
-            assert all(said.startswith("yes") for said in (await store.audit()).values())
+            assert all(verdict.startswith("yes") for verdict in (await store.audit()).values())
 
     run(main())
-    assert count(place) == old + 40 and len(calls) == old + 40 and set(calls.values()) == {1}
+    assert count(location) == old + 40 and len(calls) == old + 40 and set(calls.values()) == {1}
 
 
-def test_a_key_that_is_over(place: str, looks: list[str], monkeypatch: pytest.MonkeyPatch) -> None:
-    """It is in the same log: its saga is given, the next keys are looked for, and after enough new ones no more. A store that is opened again the same."""
+def test_a_key_that_is_over(
+    location: str, looks: list[str], monkeypatch: pytest.MonkeyPatch
+) -> None:
+    """It is in the same log: its saga is returned, the next keys are looked for, and after enough
+    new ones no more. It is the same after a restart.
+    """
     monkeypatch.setattr(key_lookup, "AGAIN", 3)
     kind = step()
 
     async def main() -> None:
-        async with sagas.open(place, [kind]) as store:
+        async with sagas.open(location, [kind]) as store:
             assert (await ended(store, kind, "k", 1)).results == {"a": 1}
-        async with sagas.open(place, [kind]) as store:
+        async with sagas.open(location, [kind]) as store:
             for _ in range(2):
                 again = await store.start(kind, "k", 1)
                 assert not again.new and (await again.wait()).results == {"a": 1}
@@ -145,14 +156,17 @@ def test_a_key_that_is_over(place: str, looks: list[str], monkeypatch: pytest.Mo
             with pytest.raises(sagas.KeyConflict, match="another input"):
                 await store.start(kind, "k", 2)
             await ended(store, kind, "last")
-            assert all(said.startswith("yes") for said in (await store.audit()).values())
+            assert all(verdict.startswith("yes") for verdict in (await store.audit()).values())
 
     run(main())
-    assert count(place) == 7
+    assert count(location) == 7
 
 
 def test_a_key_of_another_node(url: str, looks: list[str]) -> None:
-    """It is open there: who starts it here hears of its end. Another saga with that key is a conflict."""
+    """It is open there: a caller that starts it here gets its end.
+
+    Another saga with that key is a conflict.
+    """
     gate = asyncio.Event()
     kinds, other = [step(gate), step()], sagas.Saga("other")
 
@@ -177,8 +191,8 @@ def test_a_key_of_another_node(url: str, looks: list[str]) -> None:
     assert count(url) == 2
 
 
-def test_what_a_refused_commit_offered(url: str, looks: list[str]) -> None:
-    """Its sagas are opened again, in other places: what is offered then is theirs, and nothing else is."""
+def test_offers_of_a_refused_commit(url: str, looks: list[str]) -> None:
+    """Its sagas are opened again, in other slots: only what is offered then is theirs."""
     kinds = [outside(), outside()]
 
     async def main() -> None:
@@ -194,21 +208,26 @@ def test_what_a_refused_commit_offered(url: str, looks: list[str]) -> None:
 
 
 def outside() -> sagas.Saga:
-    """A saga whose step others do."""
+    """Return a saga with an external step."""
     saga = sagas.Saga("outside")
     saga.step(name="a", external=True)
     return saga
 
 
 def offered(url: str) -> list[tuple[str, str]]:
-    """The attempts that are offered, each with its saga's own id."""
-    text = "SELECT attempt, coalesce(name || '-' || s.id % 1000, '') FROM external_attempts e LEFT JOIN (sagas s JOIN shards l ON l.shard = s.id / 1000) ON s.id = e.id"
+    """Return the attempts that are offered, each with its saga's own id."""
+    text = (
+        "SELECT attempt, coalesce(name || '-' || s.id % 1000, '') FROM external_attempts e LEFT"
+        " JOIN (sagas s JOIN shards l ON l.shard = s.id / 1000) ON s.id = e.id"
+    )
     with psycopg.connect(url, options="-csearch_path=sagas") as link:
         return link.execute(text).fetchall()
 
 
 def test_a_key_that_a_client_started(url: str, looks: list[str]) -> None:
-    """No node has its saga: it waits, and a node's start of the key is one of that saga's, or a conflict."""
+    """No node has its saga: it waits, and a node's start of the key is one of that saga's, or a
+    conflict.
+    """
     kind, other = step(), sagas.Saga("other")
 
     @other.step
@@ -226,8 +245,10 @@ def test_a_key_that_a_client_started(url: str, looks: list[str]) -> None:
     assert count(url) == 1
 
 
-def test_who_asks_meanwhile(url: str, looks: list[str]) -> None:
-    """While a guess is on its way to the store, who aborts, waits for or starts its key waits, and hears of the saga that has it."""
+def test_requests_during_a_guess(url: str, looks: list[str]) -> None:
+    """While a guess is being stored, a caller that aborts, waits for or starts its key waits, and
+    gets the saga that has it.
+    """
     kind = step()
 
     async def main() -> None:
@@ -235,9 +256,9 @@ def test_who_asks_meanwhile(url: str, looks: list[str]) -> None:
             await ended(store, kind, "k", 1)
         async with sagas.open(url, [kind]) as store:
             starting = asyncio.create_task(store.start(kind, "k", 1))
-            await asyncio.sleep(0)  # it has begun
+            await asyncio.sleep(0)  # it has started
             assert store._coordinator and "k" in store._coordinator.sagas.by_key
-            told = await asyncio.gather(
+            replies = await asyncio.gather(
                 store.abort("k"),
                 store.wait("k"),
                 store.start(kind, "k", 2),
@@ -246,18 +267,20 @@ def test_who_asks_meanwhile(url: str, looks: list[str]) -> None:
                 return_exceptions=True,
             )
             assert (
-                told[0] is False
-                and isinstance(told[1], sagas.SagaResult)
-                and told[1].results == {"a": 1}
+                replies[0] is False
+                and isinstance(replies[1], sagas.SagaResult)
+                and replies[1].results == {"a": 1}
             )
             assert (
-                isinstance(told[2], sagas.KeyConflict)
-                and isinstance(told[3], sagas.Run)
-                and not told[3].new
+                isinstance(replies[2], sagas.KeyConflict)
+                and isinstance(replies[3], sagas.Run)
+                and not replies[3].new
             )
-            assert isinstance(told[4], sagas.StepNotWaiting) and "it has succeeded" in str(told[4])
+            assert isinstance(replies[4], sagas.StepNotWaiting) and "it has succeeded" in str(
+                replies[4]
+            )
             assert not (await starting).new
-            assert all(said.startswith("yes") for said in (await store.audit()).values())
+            assert all(verdict.startswith("yes") for verdict in (await store.audit()).values())
 
     run(main())
     assert count(url) == 1
@@ -266,7 +289,9 @@ def test_who_asks_meanwhile(url: str, looks: list[str]) -> None:
 def test_an_answer_that_is_lost(
     url: str, looks: list[str], monkeypatch: pytest.MonkeyPatch
 ) -> None:
-    """The commit of each start is done, and the answer to it lost: the saga is there once, and its start is answered."""
+    """The commit of each start is done, and its reply lost: the saga exists once, and its start has
+    its reply.
+    """
     kind, lost, read = step(), list[str](), Writer._read
 
     def loses(self: Writer, commit: Commit, rows: Any, fault: Any, began: float) -> Any:
@@ -291,17 +316,19 @@ def test_an_answer_that_is_lost(
 def test_a_wrong_guess_in_a_file(
     tmp_path: pathlib.Path, looks: list[str], monkeypatch: pytest.MonkeyPatch, fast: bool
 ) -> None:
-    """Of its log nothing is written, by the loop as by the thread, and the other logs of that commit are; then all its sagas are begun."""
+    """Nothing of its log is written, by the loop as by the thread, and the other logs of that
+    commit are; then all its sagas are started.
+    """
     monkeypatch.setattr("sagas.definition.shelf.SHARD_CAPACITY", 10)
     monkeypatch.setattr(writer, "AT_ONCE", 60.0 if fast else 0.0)
     path, kind, lost = str(tmp_path / "store.db"), step(), set[int]()
     put = writer.Writer._put
 
     def noted(self: writer.Writer, batches: Sequence[Batch], patient: bool) -> Any:
-        told = put(self, batches, patient)
-        lost.update(told[1])
-        assert not told[1] & told[0].keys()
-        return told
+        result = put(self, batches, patient)
+        lost.update(result[1])
+        assert not result[1] & result[0].keys()
+        return result
 
     monkeypatch.setattr(writer.Writer, "_put", noted)
 
@@ -315,14 +342,14 @@ def test_a_wrong_guess_in_a_file(
             )
             assert [end.results["a"] for end in ends] == [*range(35), 1]
             assert lost and looks
-            assert all(said.startswith("yes") for said in (await store.audit()).values())
+            assert all(verdict.startswith("yes") for verdict in (await store.audit()).values())
 
     run(main())
     assert count(path) == 36
 
 
 def test_a_store_that_takes_nothing(url: str, looks: list[str]) -> None:
-    """A key that is there is answered, and a new one is not begun."""
+    """A start of an existing key gets its reply, and a new one is not started."""
     kind = step()
 
     async def main() -> None:
@@ -331,13 +358,16 @@ def test_a_store_that_takes_nothing(url: str, looks: list[str]) -> None:
         async with sagas.open(url, [kind]) as store:
             with psycopg.connect(url, autocommit=True) as link:
                 link.execute(
-                    "CREATE FUNCTION refuse() RETURNS trigger LANGUAGE plpgsql AS $$ BEGIN RAISE EXCEPTION 'full'; END $$"
+                    "CREATE FUNCTION refuse() RETURNS trigger LANGUAGE plpgsql AS $$ BEGIN RAISE"
+                    " EXCEPTION 'full'; END $$"
                 )
                 link.execute(
-                    "CREATE TRIGGER refuse BEFORE INSERT OR UPDATE ON sagas.shards FOR EACH ROW EXECUTE FUNCTION refuse()"
+                    "CREATE TRIGGER refuse BEFORE INSERT OR UPDATE ON sagas.shards FOR EACH ROW"
+                    " EXECUTE FUNCTION refuse()"
                 )
                 link.execute(
-                    "CREATE TRIGGER refuse BEFORE INSERT ON sagas.event_log FOR EACH ROW EXECUTE FUNCTION refuse()"
+                    "CREATE TRIGGER refuse BEFORE INSERT ON sagas.event_log FOR EACH ROW EXECUTE"
+                    " FUNCTION refuse()"
                 )
             again = await store.start(kind, "k", 1)
             assert not again.new and (await again.wait()).results == {"a": 1}

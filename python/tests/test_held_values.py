@@ -1,5 +1,7 @@
-"""Large values of open sagas: they are held only while a function may read them, and are read from
-the store when one needs them."""
+"""Large values of open sagas are held only while a function may read them.
+
+They are read from the store when a function needs them.
+"""
 
 from __future__ import annotations
 
@@ -20,7 +22,7 @@ GIVEN = {"who": "ann", "big": BIG, "parcels": {"x": BIG, "y": "small"}}
 
 
 def kinds() -> list[sagas.Saga]:
-    """Sagas whose functions read large values after others of them have waited."""
+    """Return sagas whose functions read large values after others of them have waited."""
     inner, shaped = sagas.Saga("inner"), sagas.Saga("shaped")
     inner.step(lambda task: task.input, name="echo", undo=0)
 
@@ -48,27 +50,27 @@ def kinds() -> list[sagas.Saga]:
 
 
 def held(store: sagas.Store) -> list[str]:
-    """What the program holds of its sagas."""
-    found = []
+    """Return the values that the program holds of its sagas."""
+    held_values = []
     for saga in store._access.coordinator.sagas.by_key.values():
-        found += [saga.text, saga.options.shape or "", *saga.results.values()]
+        held_values += [saga.text, saga.options.shape or "", *saga.results.values()]
         for attempt in saga.busy.values():
-            found += attempt.results.values()
-    return found
+            held_values += attempt.results.values()
+    return held_values
 
 
 @pytest.mark.parametrize("codec", [None, KNOWN], ids=["plain", "codec"])
 @pytest.mark.parametrize("has_blobs", [False, True], ids=["rows", "blobs"])
 def test_values_are_read_when_they_are_needed(
-    place: str, codec: Any, has_blobs: bool, tmp_path: pathlib.Path
+    location: str, codec: Any, has_blobs: bool, tmp_path: pathlib.Path
 ) -> None:
-    """Also by the next program, which loads none of them."""
+    """This holds also for the next program, which loads none of them."""
     inner, made, shaped = kinds()
     blobs = sagas.FolderBlobStore(tmp_path / "blobs") if has_blobs else None
-    words: dict[str, Any] = {"codec": codec, "blobs": blobs, "blob_threshold": 1000}
+    options: dict[str, Any] = {"codec": codec, "blobs": blobs, "blob_threshold": 1000}
 
     def opened() -> sagas.Store:
-        store = sagas.open(place, [inner, made, shaped], **words)
+        store = sagas.open(location, [inner, made, shaped], **options)
         store.leased = True
         return store
 
@@ -114,7 +116,9 @@ def test_values_are_read_when_they_are_needed(
 
 
 def test_a_queue_holds_nothing(tmp_path: pathlib.Path) -> None:
-    """What waits for a slot has its values read when it has one; an abort in between is as ever."""
+    """An attempt that waits for a slot has its values read when it has one; an abort in between
+    works as usual.
+    """
     made, gate = sagas.Saga("made"), asyncio.Event()
 
     @made.step(undo=0)
@@ -157,8 +161,8 @@ def test_one_claim_has_a_budget(url: str, monkeypatch: pytest.MonkeyPatch) -> No
                 await store.start(made, f"k{number}", BIG if number < 6 else 4 * BIG)
             seen: set[str] = set()
             while len(seen) < 7:
-                words = {"limit": 10, "wait": 30.0, "holder": "w"}
-                tasks = await store.workers.claim([("made", "a", "run")], **words)
+                options = {"limit": 10, "wait": 30.0, "holder": "w"}
+                tasks = await store.workers.claim([("made", "a", "run")], **options)
                 assert sum(len(one.task.input) for one in tasks) <= 5 * len(BIG) // 2 or (
                     len(tasks) <= 2 and len(tasks[-1].task.input) == 4 * len(BIG)
                 )

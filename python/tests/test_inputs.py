@@ -1,5 +1,7 @@
-"""What `start` says of an input: whether it is of its type, and whether it is the one that the key
-has. No value is in any text."""
+"""The checks of an input by `start`: whether it has its type, and whether it is that of the key.
+
+No value is in any text.
+"""
 
 from __future__ import annotations
 
@@ -57,7 +59,7 @@ class Order:
 
 
 def reads(hint: Any) -> sagas.Saga:
-    """A saga whose first step reads its input as this."""
+    """Return a saga whose first step reads its input as this type."""
 
     async def a(task: Task) -> None:
         assert task.input is not None
@@ -105,13 +107,14 @@ WELL: list[Any] = [
 ]
 
 
-def test_the_types_of_fields(place: str, caplog: pytest.LogCaptureFixture) -> None:
-    """Nested, optional, in lists and dicts, of unions, enums and times: each fault by its place,
-    and nothing is begun."""
+def test_the_types_of_fields(location: str, caplog: pytest.LogCaptureFixture) -> None:
+    """Nested, optional, in lists and dicts, of unions, enums and times: each error has its
+    location, and no saga is started.
+    """
     saga = reads(Order)
 
     async def main() -> None:
-        async with sagas.open(place, [saga]) as store:
+        async with sagas.open(location, [saga]) as store:
             for number, (given, text) in enumerate(WRONG):
                 with pytest.raises(sagas.InvalidInput) as error:
                     await store.start(saga, f"wrong-{number}", {"amount": 1} | given)
@@ -132,14 +135,14 @@ def test_the_types_of_fields(place: str, caplog: pytest.LogCaptureFixture) -> No
 
 @dataclasses.dataclass
 class Other:
-    """It looks as an order, and an order cannot be made of it."""
+    """An input that looks like an order, and cannot become one."""
 
     amount: int
     color: str
 
 
 class Pair(NamedTuple):
-    """No object, in JSON."""
+    """A value that is not an object in JSON."""
 
     amount: int
 
@@ -157,12 +160,14 @@ class Pair(NamedTuple):
     ],
     ids=lambda given: type(given).__name__,
 )
-def test_an_input_of_another_type(place: str, given: Any) -> None:
-    """Whatever it is in Python: what the first step would not read is refused, and not begun."""
+def test_an_input_of_another_type(location: str, given: Any) -> None:
+    """Whatever it is in Python: an input that the first step could not read is refused, and no saga
+    is started.
+    """
     saga = reads(Order)
 
     async def main() -> None:
-        async with sagas.open(place, [saga]) as store:
+        async with sagas.open(location, [saga]) as store:
             with pytest.raises(sagas.InvalidInput, match="saga 'simple', step 'a': input"):
                 await store.start(saga, "k", given)
             assert await store.get("k") is None
@@ -183,13 +188,15 @@ class Newer:
 
 
 @pytest.mark.parametrize(
-    ("place", "client"),
+    ("location", "client"),
     [("sqlite", False), ("postgresql", False), ("postgresql", True)],
-    indirect=["place"],
+    indirect=["location"],
 )
-def test_an_optional_field_that_was_added(place: str, client: bool) -> None:
-    """The same start again is the same saga; another value is another input, in what the type knows
-    and in what it does not."""
+def test_an_optional_field_that_was_added(location: str, client: bool) -> None:
+    """The same start again is the same saga.
+
+    Another value is another input, in fields that the type knows and in others.
+    """
     before, after = reads(Item), reads(Newer)
     raw = sagas.Saga("simple")
     raw.step(name="a")(after.steps[0].run.function)  # type: ignore[arg-type]
@@ -197,13 +204,13 @@ def test_an_optional_field_that_was_added(place: str, client: bool) -> None:
     given = {"name": "a", "price": 1}
 
     async def main() -> None:
-        async with sagas.open(place, [before]) as store:
+        async with sagas.open(location, [before]) as store:
             assert (await (await store.start(before, "k", Item("a", 1))).wait(timeout=60)).ok
             await store.start(before, "bare", given)
-        async with sagas.open(place, [after]) as store:
+        async with sagas.open(location, [after]) as store:
             starter: Any = store
             if client:
-                starter = await sagas.Client(place).__aenter__()
+                starter = await sagas.Client(location).__aenter__()
             for key in ("k", "bare"):
                 for same in (Newer("a", 1), given, {**given, "count": 1}, Item("a", 1)):
                     assert not (await starter.start(after, key, same)).new
@@ -213,18 +220,18 @@ def test_an_optional_field_that_was_added(place: str, client: bool) -> None:
                 ):
                     with pytest.raises(sagas.KeyConflict) as error:
                         await starter.start(after, key, other)
-                    told = (
+                    message = (
                         f"key {key!r} belongs to a saga with another input, which differs at {at}"
                     )
-                    assert str(error.value) == f"{told}. Use another key"
+                    assert str(error.value) == f"{message}. Use another key"
             if client:
                 await starter.close()
 
     run(main())
 
 
-def test_what_a_reader_without_a_type_sees_counts(place: str) -> None:
-    """Where a step reads the input as it is, a field that no type knows is a part of it."""
+def test_fields_count_for_a_reader_without_a_type(location: str) -> None:
+    """If a step reads the input without a type, a field that no type knows is a part of it."""
     saga = sagas.Saga("both")
 
     @saga.step
@@ -236,7 +243,7 @@ def test_what_a_reader_without_a_type_sees_counts(place: str) -> None:
         ...
 
     async def main() -> None:
-        async with sagas.open(place, [saga]) as store:
+        async with sagas.open(location, [saga]) as store:
             await store.start(saga, "k", {"name": "a", "price": 1, "x": [1, {"y": SECRET}]})
             same = {"name": "a", "price": 1, "count": 1, "x": [1, {"y": SECRET}]}
             assert not (await store.start(saga, "k", same)).new
@@ -244,7 +251,8 @@ def test_what_a_reader_without_a_type_sees_counts(place: str) -> None:
                 await store.start(saga, "k", {"name": "a", "price": 1, "x": [1, {"y": 2}, 3]})
             assert (
                 str(error.value)
-                == "key 'k' belongs to a saga with another input, which differs at .x[1].y, .x[2]. Use another key"
+                == "key 'k' belongs to a saga with another input, which differs at .x[1].y, .x[2]."
+                " Use another key"
             )
             await store.start(saga, "whole", {"name": "a", "price": 1})
             with pytest.raises(sagas.KeyConflict, match=r"differs at \.name"):
@@ -253,8 +261,8 @@ def test_what_a_reader_without_a_type_sees_counts(place: str) -> None:
     run(main())
 
 
-def test_conflicts_show_no_values(place: str) -> None:
-    """The whole, one of many parts, and names that are no words."""
+def test_conflicts_show_no_values(location: str) -> None:
+    """The whole input, one of many parts, and names that are not words."""
     saga = simple(lambda task: None)
     for_many = {f"f{number}": number for number in range(9)}
     conflicts: list[tuple[Any, Any, str]] = [
@@ -265,20 +273,20 @@ def test_conflicts_show_no_values(place: str) -> None:
     ]
 
     async def main() -> None:
-        async with sagas.open(place, [saga]) as store:
+        async with sagas.open(location, [saga]) as store:
             for number, (one, other, at) in enumerate(conflicts):
                 await store.start(saga, f"k{number}", one)
                 with pytest.raises(sagas.KeyConflict) as error:
                     await store.start(saga, f"k{number}", other)
-                told = (
+                message = (
                     f"key 'k{number}' belongs to a saga with another input, which differs at {at}"
                 )
-                assert str(error.value) == f"{told}. Use another key"
+                assert str(error.value) == f"{message}. Use another key"
 
     run(main())
 
 
-def test_how_long_a_value_is_said_to_be() -> None:
+def test_the_reported_length_of_a_value() -> None:
     """Its own letters, without the quotation marks of Python."""
     with pytest.raises(sagas.InvalidKey, match=r"\(513 characters\): must be a text of 1 to 512"):
         arguments.key("k" * 513)
@@ -287,13 +295,15 @@ def test_how_long_a_value_is_said_to_be() -> None:
     )
 
 
-def test_what_a_wait_gives_is_not_told(place: str, caplog: pytest.LogCaptureFixture) -> None:
-    """`until` may give what it read of the input."""
+def test_the_value_of_a_wait_is_not_reported(
+    location: str, caplog: pytest.LogCaptureFixture
+) -> None:
+    """`until` may return what it read of the input."""
     saga = sagas.Saga("waits")
     saga.wait(name="w", until=lambda task: task.input, tries=1)(lambda task: None)
 
     async def main() -> None:
-        async with sagas.open(place, [saga]) as store:
+        async with sagas.open(location, [saga]) as store:
             end = await (await store.start(saga, "k", SECRET)).wait(timeout=60)
             assert "until returned str: it must be a timedelta" in end.errors[
                 "w"

@@ -1,4 +1,7 @@
-"""The judge has teeth: a good store is spoilt in each way that has a name, and each is found by that name."""
+"""Mutation tests of the verifier: a good store is damaged in each way that has a fault's name.
+
+The verifier must find each by that name.
+"""
 
 from __future__ import annotations
 
@@ -19,19 +22,19 @@ COUNT = 24
 
 
 class Copy:
-    """A copy of a good store, to be spoilt."""
+    """A copy of a good store, to be damaged."""
 
     def __init__(self, folder: pathlib.Path) -> None:
         self.store, self.path = folder / "store.db", folder / "notes"
         self.notes: Notes = [json.loads(line) for line in self.path.read_text().splitlines()]
         self.db = sqlite3.connect(self.store, isolation_level=None)
 
-    def write(self, *words: Any) -> None:
-        """A change of the database, which has to change something."""
-        assert self.db.execute(*words).rowcount > 0, words
+    def write(self, *arguments: Any) -> None:
+        """Change the database, which must change something."""
+        assert self.db.execute(*arguments).rowcount > 0, arguments
 
     def first(self, **wanted: Any) -> Json:
-        """The first note that has these values."""
+        """Return the first note that has these values."""
         return next(
             note
             for note in self.notes
@@ -39,7 +42,7 @@ class Copy:
         )
 
     def names(self) -> set[str]:
-        """What the judge finds."""
+        """Return the faults that the verifier finds."""
         self.db.close()
         self.path.write_text("".join(json.dumps(note) + "\n" for note in self.notes))
         return judge(self.store, self.path, COUNT).names
@@ -51,7 +54,8 @@ def lose_a_key(copy: Copy) -> None:
 
 def lose_lines(copy: Copy) -> None:
     copy.write(
-        "DELETE FROM event_log WHERE first_seq = (SELECT min(first_seq) FROM event_log WHERE first_seq > 0)"
+        "DELETE FROM event_log WHERE first_seq = (SELECT min(first_seq) FROM event_log WHERE"
+        " first_seq > 0)"
     )
 
 
@@ -73,15 +77,16 @@ def change_an_end(copy: Copy) -> None:
 
 def lose_a_result(copy: Copy) -> None:
     copy.write(
-        "DELETE FROM attempts WHERE (id, step, action, number) IN (SELECT id, step, action, number FROM attempts LIMIT 1)"
+        "DELETE FROM attempts WHERE (id, step, action, number) IN (SELECT id, step, action, number"
+        " FROM attempts LIMIT 1)"
     )
 
 
-def tell_too_early(copy: Copy) -> None:
+def report_too_early(copy: Copy) -> None:
     copy.first(what="started")["there"] = False
 
 
-def tell_another_end(copy: Copy) -> None:
+def report_another_end(copy: Copy) -> None:
     note = copy.first(what="over")
     note["states"] = {step: "another" for step in note["states"]}
 
@@ -95,14 +100,15 @@ def change_a_token(copy: Copy) -> None:
 
 
 def lose_an_effect(copy: Copy) -> None:
-    """Each note of it: a function that was interrupted is called again under its token."""
+    """Remove each note of it: a function that was interrupted is called again under its token."""
     token = copy.first(what="effect")["token"]
     copy.notes = [note for note in copy.notes if note["what"] != "effect" or note["token"] != token]
 
 
 def miss_without_a_call(copy: Copy) -> None:
     failed = copy.db.execute(
-        "SELECT name || '-' || (id % 1000) FROM attempts JOIN shards ON shard = id / 1000 WHERE event = 'missed' LIMIT 1"
+        "SELECT name || '-' || (id % 1000) FROM attempts JOIN shards ON shard = id / 1000 WHERE"
+        " event = 'missed' LIMIT 1"
     ).fetchone()[0]
     copy.notes = [
         note
@@ -158,8 +164,8 @@ SPOILT: list[tuple[Callable[[Copy], None], str]] = [
     (change_an_end, "end"),
     (change_an_end, "told-otherwise"),
     (lose_a_result, "results"),
-    (tell_too_early, "told-early"),
-    (tell_another_end, "told-otherwise"),
+    (report_too_early, "told-early"),
+    (report_another_end, "told-otherwise"),
     (begin_too_early, "begun-early"),
     (change_a_token, "tokens"),
     (miss_without_a_call, "not-called"),
@@ -175,24 +181,24 @@ SPOILT: list[tuple[Callable[[Copy], None], str]] = [
 
 @pytest.fixture(scope="module")
 def good(tmp_path_factory: pytest.TempPathFactory) -> pathlib.Path:
-    """A store that nothing has struck, and its witness's notes."""
+    """Return a store without strikes, and its witness's notes."""
     folder = tmp_path_factory.mktemp("good")
     assert run_once(folder, COUNT) == 0
     return folder
 
 
 def test_a_good_store_is_good(good: pathlib.Path) -> None:
-    """Nothing is found where nothing is wrong."""
+    """A good store has no fault."""
     verdict = judge(good / "store.db", good / "notes", COUNT)
     assert not verdict.faults
     assert verdict.figures["committed"] > COUNT and verdict.figures["undone"] > 0
 
 
 @pytest.mark.parametrize("spoil, name", SPOILT)
-def test_what_is_spoilt_is_found(
+def test_damage_is_detected(
     good: pathlib.Path, tmp_path: pathlib.Path, spoil: Callable[[Copy], None], name: str
 ) -> None:
-    """Each fault by its name."""
+    """The verifier finds each fault by its name."""
     for path in good.iterdir():
         if path.name.startswith("store.db") or path.name == "notes":
             shutil.copy(path, tmp_path)
@@ -202,5 +208,5 @@ def test_what_is_spoilt_is_found(
 
 
 def test_each_name_is_tried() -> None:
-    """No fault has a name that nothing shows; a broken file is SQLite's own word."""
+    """Each fault has a damage that shows it; for a broken file SQLite's own word is used."""
     assert {name for _, name in SPOILT} | {"broken-file"} == set(FAULTS)

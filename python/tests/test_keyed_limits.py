@@ -37,7 +37,10 @@ class Order:
 
 
 class Inside:
-    """Who is in a function, by account, and how many at once. The first ones wait until there are as many as there may be."""
+    """The calls inside a function, by account, and the most at once.
+
+    The first ones wait until the allowed number is inside.
+    """
 
     def __init__(self, accounts: int) -> None:
         self.accounts, self.until = accounts, time.monotonic() + 60
@@ -47,7 +50,7 @@ class Inside:
         self.lock = threading.Lock()
 
     def is_first(self) -> bool:
-        """Whether others are to come in before anybody leaves."""
+        """Return whether other calls are expected before one leaves."""
         return self.all < self.accounts and time.monotonic() < self.until
 
     @contextlib.contextmanager
@@ -64,7 +67,7 @@ class Inside:
 
 
 def bank(inside: Inside, in_thread: bool, **limits: Any) -> sagas.Saga:
-    """A step that is called once at a time for each account."""
+    """Return a saga with a step that is called once at a time for each account."""
     saga = sagas.Saga("bank")
 
     def wait(task: sagas.Task[Order]) -> None:
@@ -86,17 +89,19 @@ def bank(inside: Inside, in_thread: bool, **limits: Any) -> sagas.Saga:
 
 
 @pytest.mark.parametrize(
-    "place, limit, in_thread",
+    "location, limit, in_thread",
     pairs(PLACES, ("concurrency", "fleet_concurrency"), (False, True)),
-    indirect=["place"],
+    indirect=["location"],
 )
-def test_a_limit_holds_for_each_key_by_itself(place: str, limit: str, in_thread: bool) -> None:
-    """Calls of one account go one behind the other, and those of others beside them; nothing of a key is kept behind it."""
+def test_a_limit_holds_for_each_key_by_itself(location: str, limit: str, in_thread: bool) -> None:
+    """Calls of one account run one after the other, and those of others in parallel; no state of a
+    key is kept after it.
+    """
     inside = Inside(3)
     saga = bank(inside, in_thread, **{limit: 1})
 
     async def main() -> None:
-        async with sagas.open(place, [saga], concurrency=8) as store:
+        async with sagas.open(location, [saga], concurrency=8) as store:
             runs = [await store.start(saga, f"k{n}", Order(f"a{n % 3}", n)) for n in range(12)]
             for one in runs:
                 assert (await one.wait()).ok
@@ -106,8 +111,8 @@ def test_a_limit_holds_for_each_key_by_itself(place: str, limit: str, in_thread:
 
     run(main())
     assert set(inside.most.values()) == {1} and inside.all == 3, inside.most
-    if place.startswith("postgresql") and limit == "fleet_concurrency":
-        with psycopg.connect(place) as link:
+    if location.startswith("postgresql") and limit == "fleet_concurrency":
+        with psycopg.connect(location) as link:
             assert link.execute("SELECT count(*) FROM sagas.limit_slots").fetchone() == (0,)
 
 
@@ -119,7 +124,11 @@ def rows_of(url: str) -> list[tuple[str, str | None]]:
 
 
 def test_rows_of_keys_are_those_of_calls(url: str) -> None:
-    """A key of any length has a row for each call, under a digest, and none behind it. What another node had that is gone, and what an older release kept, goes at the opening; a limit of the step itself keeps its rows."""
+    """A key of any length has a row for each call, under a digest, and none after it.
+
+    The opening deletes the rows of a dead node and of an older release; a limit of the step itself
+    keeps its rows.
+    """
     keys = [1, "IBAN DE89", "x" * 9000, ["\ud800", None]]
     inside, opened = Counter[str](), asyncio.Event()
     saga, plain = sagas.Saga("bank"), sagas.Saga("plain")
@@ -160,8 +169,8 @@ def test_rows_of_keys_are_those_of_calls(url: str) -> None:
     run(main())
 
 
-def test_a_place_of_a_node_that_is_gone_is_taken(url: str) -> None:
-    """Its rows do not hold up a key."""
+def test_a_slot_of_a_dead_node_is_taken(url: str) -> None:
+    """Its rows do not block a key."""
     inside = Inside(1)
     saga = bank(inside, False, fleet_concurrency=2)
 
@@ -198,7 +207,7 @@ def test_a_key_is_of_all_nodes(url: str) -> None:
     assert set(inside.most.values()) == {1} and inside.all == 2
 
 
-def test_a_key_that_cannot_be_said_fails_the_step(place: str) -> None:
+def test_an_error_in_the_key_of_a_limit_fails_the_step(location: str) -> None:
     """Its function is not called; a key is JSON."""
 
     def account(given: Any) -> Any:
@@ -213,7 +222,7 @@ def test_a_key_that_cannot_be_said_fails_the_step(place: str) -> None:
         assert task.input == {"account": None}
 
     async def main() -> None:
-        async with sagas.open(place, [saga]) as store:
+        async with sagas.open(location, [saga]) as store:
             errors = []
             for number, given in enumerate([{}, "odd", {"account": None}]):
                 end = await (await store.start(saga, f"k{number}", given)).wait()
@@ -227,7 +236,7 @@ def test_a_key_that_cannot_be_said_fails_the_step(place: str) -> None:
     run(main())
 
 
-def test_what_is_no_limit_with_a_key_is_refused() -> None:
+def test_invalid_limits_with_a_key_are_refused() -> None:
     """Each error says what to do."""
     saga = sagas.Saga("s")
 
@@ -237,7 +246,7 @@ def test_what_is_no_limit_with_a_key_is_refused() -> None:
     def by(given: Any) -> Any:
         ...
 
-    for words, text in [
+    for options, text in [
         ({"concurrency_by": "account", "concurrency": 1}, "a plain function of the input"),
         ({"concurrency_by": move, "concurrency": 1}, "a plain function of the input"),
         ({"concurrency_by": by}, "Set concurrency or fleet_concurrency"),
@@ -247,22 +256,26 @@ def test_what_is_no_limit_with_a_key_is_refused() -> None:
         ),
     ]:
         with pytest.raises(sagas.DefinitionError, match=text):
-            sagas.Saga("s").step(name="a", **words)(move)  # type: ignore[call-overload]
+            sagas.Saga("s").step(name="a", **options)(move)  # type: ignore[call-overload]
     with pytest.raises(sagas.DefinitionError, match="needs a function in this program"):
-        saga.step(name="b", external=True, concurrency=1, concurrency_by=by)  # type: ignore[call-overload]
+        wrong: dict[str, Any] = {"external": True, "concurrency": 1, "concurrency_by": by}
+        saga.step(name="b", **wrong)
     with pytest.raises(sagas.DefinitionError, match="fair_by=1: must be a plain function"):
         sagas.Saga("s", fair_by=1)  # type: ignore[arg-type]
 
 
 @pytest.mark.parametrize(
-    "place, again, codec",
+    "location, again, codec",
     pairs(PLACES, (False, True), (None, Encryption(a=OLD))),
-    indirect=["place"],
+    indirect=["location"],
 )
 def test_a_small_tenant_does_not_wait_for_a_large_one(
-    place: str, again: bool, codec: Encryption | None
+    location: str, again: bool, codec: Encryption | None
 ) -> None:
-    """Also where a store is opened again with what was begun. Sagas of one tenant go in their order."""
+    """This holds also after a restart with running attempts.
+
+    Sagas of one tenant run in their order.
+    """
     called: list[str] = []
     opened = asyncio.Event()
     saga = sagas.Saga("shop", fair_by=lambda given: given["tenant"])
@@ -285,12 +298,12 @@ def test_a_small_tenant_does_not_wait_for_a_large_one(
         nonlocal opened
         if again:
             async with sagas.open(
-                place, [saga], concurrency=1, shutdown_timeout=0, codec=codec
+                location, [saga], concurrency=1, shutdown_timeout=0, codec=codec
             ) as store:
                 await start(store)
                 await until(lambda: called)
             called.clear()
-        async with sagas.open(place, [saga], concurrency=1, codec=codec) as store:
+        async with sagas.open(location, [saga], concurrency=1, codec=codec) as store:
             if not again:
                 await start(store)
             await until(lambda: called and len(store._coordinator.slots._queued) == 10)
@@ -302,10 +315,10 @@ def test_a_small_tenant_does_not_wait_for_a_large_one(
     run(main())
 
 
-def test_whose_a_saga_is_cannot_be_said(
+def test_the_tenant_of_a_saga_cannot_be_computed(
     tmp_path: pathlib.Path, caplog: pytest.LogCaptureFixture
 ) -> None:
-    """It is nobody's, which the log says without the input."""
+    """Then the saga has no tenant; the log reports that without the input."""
     saga = sagas.Saga("shop", fair_by=lambda given: given["tenant"])
 
     @saga.step
@@ -345,8 +358,12 @@ asyncio.run(main())
 """
 
 
-def test_a_program_that_is_killed_while_keys_are_taken(place: str, tmp_path: pathlib.Path) -> None:
-    """No key stays taken, and in each run of the program one saga of an account is called at a time."""
+def test_a_program_that_is_killed_while_keys_are_taken(
+    location: str, tmp_path: pathlib.Path
+) -> None:
+    """No key stays taken, and in each run of the program one saga of an account is called at a
+    time.
+    """
     here = pathlib.Path(__file__).parent
     environment = os.environ | {
         "PYTHONPATH": f"{here.parent / 'src'}{os.pathsep}{here}",
@@ -356,8 +373,8 @@ def test_a_program_that_is_killed_while_keys_are_taken(place: str, tmp_path: pat
 
     async def main() -> None:
         for kill in (3, 9, None):
-            words = [sys.executable, "-c", KILLED, place, str(tmp_path / "witness")]
-            process = subprocess.Popen(words, env=environment)
+            command = [sys.executable, "-c", KILLED, location, str(tmp_path / "witness")]
+            process = subprocess.Popen(command, env=environment)
             if kill:
                 await until(lambda: sum(note["what"] == "end" for note in notes_of(notes)) >= kill)
                 process.send_signal(signal.SIGKILL)

@@ -1,6 +1,6 @@
-"""Kills at random moments: each store is driven to its end, whatever is struck, and the judge finds nothing.
+"""Kills at random moments: each store is run to its end, and the verifier finds no fault.
 
-`tests/kills.py --rounds N` makes as many as are wanted.
+`tests/kills.py --rounds N` makes N rounds.
 """
 
 from __future__ import annotations
@@ -9,18 +9,20 @@ import pytest
 from kills import KINDS, play
 
 AGAIN = 5
-"""Stores, until one of them is struck: a quick program may be done before its first moment."""
+"""Stores, until one of them is struck: a quick program may be done before its first strike."""
 ROUNDS = 3
-"""Stores a kind. A store meets up to twelve strikes, and each is at a moment of its own."""
+"""Stores of each kind. A store has up to twelve strikes, at different moments."""
 
 
 @pytest.mark.parametrize("number", range(ROUNDS))
 @pytest.mark.parametrize("kind", KINDS)
 def test_nothing_is_lost_and_nothing_is_done_twice(kind: str, number: int) -> None:
-    """The program or its child is killed, it is asked to close, its disk is full: witness, database and logs agree in the end."""
+    """The program or its engine is killed, it is asked to close, its disk is full: witness,
+    database and logs agree in the end.
+    """
     for again in range(AGAIN):
         one = play(kind, 1000 * number + 100 * again + KINDS.index(kind), 40)
-        assert not one.found, f"{one.folder}: {one.found[:5]}"
+        assert not one.problems, f"{one.folder}: {one.problems[:5]}"
         if one.kills:
             break
     assert sum(one.kills.values()) > 0

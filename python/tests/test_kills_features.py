@@ -1,7 +1,6 @@
-"""Faults over the features together: the judge finds nothing in right nodes, and wrong ones.
+"""Faults over the features together: right nodes pass the verifier, and wrong ones do not.
 
-`tests/kills_features.py --rounds N` makes as many rounds as are wanted, and `--wrong all` tries
-every wrong variant.
+`tests/kills_features.py --rounds N` makes N rounds, and `--wrong all` tries every wrong variant.
 """
 
 from __future__ import annotations
@@ -18,7 +17,7 @@ SOME = ("early_report_dropped", "plain_input_kept", "wrong_result_handed")
 
 @pytest.mark.parametrize("store", STORES)
 def test_forty_rounds_have_all_pairs(store: str) -> None:
-    """Each round has six features that the store can have together, wherever the seeds begin."""
+    """Each round has six features that the store can have together, whatever the first seed."""
     options = [one for one in OPTIONS if store == "postgresql" or one not in SERVED]
     for number in range(4):
         rows = block(store, number)
@@ -51,7 +50,7 @@ def test_there_are_enough_wrong_variants() -> None:
 
 
 @pytest.mark.parametrize("name", SOME)
-def test_a_wrong_variant_is_found(name: str) -> None:
-    """In one round without strikes."""
+def test_a_mutant_of_the_package_is_detected(name: str) -> None:
+    """One round without strikes finds it."""
     played = try_wrong(name)
     assert VARIANTS[name].finds in played.names, played.verdict.faults[:5]

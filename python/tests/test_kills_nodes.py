@@ -1,4 +1,7 @@
-"""Two nodes over one database, struck at random moments: the judge finds nothing. `tests/kills_nodes.py --rounds N` makes as many rounds as are wanted."""
+"""Two nodes over one database, struck at random moments: the verifier finds no fault.
+
+`tests/kills_nodes.py --rounds N` makes N rounds.
+"""
 
 from __future__ import annotations
 
@@ -7,9 +10,9 @@ from kills_nodes import KINDS, play
 from server import Server
 
 SAGAS = 21
-"""Of each kind of saga three; two are aborted."""
+"""Three of each kind of saga; two are aborted."""
 ROUNDS = 1
-"""Databases a kind; each meets up to twelve strikes."""
+"""Databases of each kind; each has up to twelve strikes."""
 
 
 @pytest.mark.parametrize("number", range(ROUNDS))
@@ -19,5 +22,5 @@ def test_nothing_is_lost_and_nothing_is_done_twice(
 ) -> None:
     """Witness, database and logs agree in the end."""
     one = play(kind, 1000 * number + KINDS.index(kind), SAGAS, postgresql)
-    assert not one.found, f"{one.folder}: {one.found[:5]}"
+    assert not one.problems, f"{one.folder}: {one.problems[:5]}"
     assert sum(one.kills.values()) > 0

@@ -28,7 +28,7 @@ CUSTOMER = {"customer": "7"}
 
 
 def must() -> sagas.Saga:
-    """Is stuck: what cannot be undone may not stand."""
+    """Return a saga that gets stuck: a step that cannot be undone must not be kept."""
     must = sagas.Saga("must")
 
     @must.step(undo=sagas.NEVER, keep=sagas.NEVER)
@@ -43,39 +43,41 @@ def must() -> sagas.Saga:
 
 
 def rows(path: str, query: str) -> list[tuple[Any, ...]]:
-    """What a store has, beside the programs."""
+    """Return rows of a store, read without its programs."""
     with contextlib.closing(admin.connect(path)) as link:
         return link.ask(query)
 
 
 def aborts(path: str) -> dict[str, int]:
-    """How often the event log of each saga has an abort."""
-    found = {key: 0 for (key,) in rows(path, "SELECT key FROM sagas")}
+    """Return how often the event log of each saga has an abort."""
+    counts = {key: 0 for (key,) in rows(path, "SELECT key FROM sagas")}
     keys = {id: key for id, key in rows(path, "SELECT id, key FROM sagas")}
     for shard, text in rows(path, "SELECT shard, text FROM event_log"):
         for event in map(json.loads, text.splitlines()):
-            found[keys[shard * 1000 + event["saga"]]] += event["event"] == "abort"
-    return found
+            counts[keys[shard * 1000 + event["saga"]]] += event["event"] == "abort"
+    return counts
 
 
-def test_sagas_are_found_by_their_labels(place: str) -> None:
-    """Also once the store is opened again; a second start of a key leaves those of the first."""
+def test_sagas_are_listed_by_their_labels(location: str) -> None:
+    """This holds also after a restart; a second start of a key keeps the labels of the first."""
 
     async def main() -> None:
-        async with sagas.open(place, [kind := signed()]) as store:
+        async with sagas.open(location, [kind := signed()]) as store:
             await store.start(kind, "a", labels=CUSTOMER | {"region": "north"})
             await store.start(kind, "b", labels=CUSTOMER)
             await store.start(kind, "c", labels={"customer": "70", "a b": "q\"'%;?"})
             await store.start(kind, "d")
             assert not (await store.start(kind, "b", labels={"customer": "8"})).new
-        async with sagas.open(place, [kind]) as store:
-            found = await store.list(labels=CUSTOMER)
-            assert [(one.key, one.labels) for one in found] == [
+        async with sagas.open(location, [kind]) as store:
+            listed = await store.list(labels=CUSTOMER)
+            assert [(one.key, one.labels) for one in listed] == [
                 ("a", CUSTOMER | {"region": "north"}),
                 ("b", CUSTOMER),
             ]
             assert [one.key for one in await store.list(labels={"a b": "q\"'%;?"})] == ["c"]
-            assert [one.labels for one in await store.list(after=found[-1].id, limit=5)][1:] == [{}]
+            assert [one.labels for one in await store.list(after=listed[-1].id, limit=5)][1:] == [
+                {}
+            ]
             assert await store.count(labels=CUSTOMER, phase="open", saga="signed") == 2
             for none in (CUSTOMER | {"region": "south"}, {"Customer": "7"}):
                 assert await store.count(labels=none) == 0
@@ -100,8 +102,8 @@ def test_sagas_are_found_by_their_labels(place: str) -> None:
         ({str(number): "7" for number in range(17)}, "17 labels"),
     ],
 )
-def test_labels_that_are_none(tmp_path: pathlib.Path, labels: Any, text: str) -> None:
-    """Nothing is begun, and no filter has them."""
+def test_invalid_labels(tmp_path: pathlib.Path, labels: Any, text: str) -> None:
+    """No saga is started, and no filter accepts them."""
 
     async def main() -> None:
         async with sagas.open(tmp_path / "store.db", [kind := signed()]) as store:
@@ -140,14 +142,14 @@ def test_labels_leave_with_their_sagas(
 
 
 def test_all_sagas_of_a_filter_are_aborted_and_resolved(
-    place: str, monkeypatch: pytest.MonkeyPatch
+    location: str, monkeypatch: pytest.MonkeyPatch
 ) -> None:
-    """In several transactions; others stay as they are, and who did it is kept."""
+    """It takes several transactions; other sagas do not change, and the operator is recorded."""
     monkeypatch.setattr(batches, "MOST", 4)
     monkeypatch.setattr(operator_commands, "MAX_REQUESTS", 3)
 
     async def main() -> None:
-        async with sagas.open(place, [kind := signed(), stuck := must()]) as store:
+        async with sagas.open(location, [kind := signed(), stuck := must()]) as store:
             for number in range(11):
                 await store.start(kind, f"k{number}", labels=CUSTOMER)
                 await store.start(stuck, f"s{number}", labels=CUSTOMER if number % 2 else None)
@@ -155,46 +157,46 @@ def test_all_sagas_of_a_filter_are_aborted_and_resolved(
             for number in range(11):
                 await store.wait(f"s{number}")
             assert not (await store.abort_all(labels={"customer": "9"})).done
-            found = await store.abort_all(saga=kind, labels=CUSTOMER, by="ann", note="fraud")
-            assert sorted(found.done) == sorted(f"k{number}" for number in range(11))
-            assert not found.refused and not found.waiting
-            for key in found.done:
+            outcome = await store.abort_all(saga=kind, labels=CUSTOMER, by="ann", note="fraud")
+            assert sorted(outcome.done) == sorted(f"k{number}" for number in range(11))
+            assert not outcome.refused and not outcome.waiting
+            for key in outcome.done:
                 assert (await store.wait(key)).aborted
             assert [one.key for one in await store.list(phase="open")] == ["other"]
             with pytest.raises(ValueError):
                 await store.resolve_all(" ")
-            found = await store.resolve_all("called them", labels=CUSTOMER, by="ann")
-            assert sorted(found.done) == ["s1", "s3", "s5", "s7", "s9"]
+            outcome = await store.resolve_all("called them", labels=CUSTOMER, by="ann")
+            assert sorted(outcome.done) == ["s1", "s3", "s5", "s7", "s9"]
             assert (
                 await store.count(phase="stuck") == 6 and await store.count(phase="resolved") == 5
             )
             assert (await store.resolve_all("again", labels=CUSTOMER)).done == []
 
     run(main())
-    asked = "SELECT key, command, value, answer FROM operator_commands ORDER BY id"
-    told = [
+    query = "SELECT key, command, value, answer FROM operator_commands ORDER BY id"
+    stored = [
         (key, command, json.loads(value), answer)
-        for key, command, value, answer in rows(place, asked)
+        for key, command, value, answer in rows(location, query)
     ]
     note = {"by": "ann", "note": "fraud"}
-    assert told[:11] == [(f"k{number}", "abort", note, "true") for number in range(11)]
+    assert stored[:11] == [(f"k{number}", "abort", note, "true") for number in range(11)]
     note = {"by": "ann", "note": "called them"}
-    assert told[11:] == [(f"s{number}", "resolve", note, "true") for number in (1, 3, 5, 7, 9)]
+    assert stored[11:] == [(f"s{number}", "resolve", note, "true") for number in (1, 3, 5, 7, 9)]
 
 
-def test_the_command_counts_first(place: str, capsys: pytest.CaptureFixture[str]) -> None:
-    """What it asks while no program has the store is done by the next one."""
-    shell = Shell(place, capsys)
+def test_the_command_counts_first(location: str, capsys: pytest.CaptureFixture[str]) -> None:
+    """A command that comes while no program has the store is executed by the next one."""
+    shell = Shell(location, capsys)
 
     async def fill() -> None:
-        async with sagas.open(place, [kind := signed(), stuck := must()]) as store:
+        async with sagas.open(location, [kind := signed(), stuck := must()]) as store:
             for key in ("a", "b"):
                 await store.start(kind, key, labels=CUSTOMER)
             await store.start(kind, "c")
             await (await store.start(stuck, "s", labels=CUSTOMER)).wait()
 
     async def rest() -> None:
-        async with sagas.open(place, [signed(), must()]) as store:
+        async with sagas.open(location, [signed(), must()]) as store:
             assert [(await store.wait(key)).aborted for key in ("a", "b")] == [True] * 2
 
     run(fill())
@@ -226,14 +228,17 @@ def test_the_command_counts_first(place: str, capsys: pytest.CaptureFixture[str]
         == "1 saga: without --count resolves it\n"
     )
     assert shell("resolve", "--all", *label, "--note", "seen") == "s: resolved\n"
-    for words in ([], ["a", "--all"], ["a", *label], ["--all", "--label", "customer"]):
-        shell("abort", *words, status=2)
+    for arguments in ([], ["a", "--all"], ["a", *label], ["--all", "--label", "customer"]):
+        shell("abort", *arguments, status=2)
     shell("abort", "--all", *label, "--label", "customer=8", status=2)
     shell("list", "--label", "=8", status=2)
 
 
 def test_a_clients_start_has_its_labels(url: str) -> None:
-    """From its own row until a node opens it; one that no node has begun is withdrawn so."""
+    """They come from its own row until a node opens it.
+
+    A start that no node has taken is withdrawn by them.
+    """
 
     async def main() -> None:
         async with sagas.Client(url) as client:
@@ -248,8 +253,8 @@ def test_a_clients_start_has_its_labels(url: str) -> None:
                     ("c", {"customer": "8"})
                 ]
                 assert await client.count(labels={"customer": "8"}) == 1
-                found = await client.abort_all(by="ann")
-                assert found.done == ["c"] and (await store.wait("c")).aborted
+                outcome = await client.abort_all(by="ann")
+                assert outcome.done == ["c"] and (await store.wait("c")).aborted
 
     kind = signed()
     asyncio.run(sagas_of(url))
@@ -257,14 +262,14 @@ def test_a_clients_start_has_its_labels(url: str) -> None:
 
 
 async def sagas_of(url: str) -> None:
-    """Makes the tables."""
+    """Make the tables."""
     async with sagas.open(url, [signed()]):
         pass
 
 
-def test_without_async(place: str) -> None:
-    """The same calls, in a thread."""
-    with sagas.open_sync(place, [kind := signed()]) as store:
+def test_without_async(location: str) -> None:
+    """The same calls work in a thread."""
+    with sagas.open_sync(location, [kind := signed()]) as store:
         store.start(kind, "a", labels=CUSTOMER)
         assert [one.key for one in store.list(labels=CUSTOMER)] == ["a"] and store.count(
             labels=CUSTOMER
@@ -299,9 +304,9 @@ DRIVER = """
 """
 
 
-def child(file: pathlib.Path, text: str, **words: Any) -> subprocess.Popen[str]:
-    """A program of its own."""
-    file.write_text(textwrap.dedent(text.format(**words)))
+def child(file: pathlib.Path, text: str, **fields: Any) -> subprocess.Popen[str]:
+    """Start a separate program."""
+    file.write_text(textwrap.dedent(text.format(**fields)))
     environment = os.environ | {
         "PYTHONPATH": f"{HERE.parent / 'src'}:{HERE}",
         "SAGAS_PROGRAM": program(),
@@ -312,45 +317,46 @@ def child(file: pathlib.Path, text: str, **words: Any) -> subprocess.Popen[str]:
 
 
 def heard(process: subprocess.Popen[str], count: int) -> list[str]:
-    """What it says, so many lines; then it is killed."""
+    """Return `count` lines of its output; then kill it."""
     assert process.stdout and process.stdin
-    said = []
+    lines = []
     for _ in range(count):
-        said.append(process.stdout.readline().rstrip())
+        lines.append(process.stdout.readline().rstrip())
         with contextlib.suppress(OSError):
-            process.stdin.write("\n") if len(said) < count else None
+            process.stdin.write("\n") if len(lines) < count else None
             process.stdin.flush()
     process.kill()
     process.wait()
     process.stdout.close()
     with contextlib.suppress(OSError):
         process.stdin.close()
-    return said
+    return lines
 
 
-def test_a_batch_that_is_killed_goes_on(place: str, tmp_path: pathlib.Path) -> None:
-    """Killed are the program that starts sagas, the command behind its second transaction, and the
-    program that carries it out: no label is lost, and each saga is aborted once."""
+def test_a_killed_batch_continues(location: str, tmp_path: pathlib.Path) -> None:
+    """The program that starts sagas, the command after its second transaction, and the program that
+    executes it are killed: no label is lost, and each saga is aborted once.
+    """
     count = 18
-    began = heard(child(tmp_path / "driver.py", DRIVER, path=place, count=99), count)
+    began = heard(child(tmp_path / "driver.py", DRIVER, path=location, count=99), count)
     having = "SELECT key FROM sagas JOIN labels USING (id) WHERE name = 'customer' AND value = '7'"
-    with_labels = [key for (key,) in rows(place, having)]
+    with_labels = [key for (key,) in rows(location, having)]
     keys = [f"k{number}" for number in range(count)]
     assert began == [f"began {key}" for key in keys] and {*keys} <= {*with_labels}
     for table in ("sagas", "labels"):
-        assert rows(place, f"SELECT count(*) FROM {table}") == [(len(with_labels),)]
-    assert heard(child(tmp_path / "batch.py", BATCH, path=place), 2) == ["asked"] * 2
-    assert rows(place, "SELECT count(*) FROM operator_commands") == [(8,)]
-    killed = child(tmp_path / "driver.py", DRIVER, path=place, count=0)
-    while sum(aborts(place).values()) < 3:
+        assert rows(location, f"SELECT count(*) FROM {table}") == [(len(with_labels),)]
+    assert heard(child(tmp_path / "batch.py", BATCH, path=location), 2) == ["asked"] * 2
+    assert rows(location, "SELECT count(*) FROM operator_commands") == [(8,)]
+    killed = child(tmp_path / "driver.py", DRIVER, path=location, count=0)
+    while sum(aborts(location).values()) < 3:
         assert killed.poll() is None
     heard(killed, 0)
 
     async def main() -> None:
-        async with sagas.open(place, [signed()], lease=2.0) as store:
-            found = await store.abort_all(labels=CUSTOMER)
-            assert not found.refused and len(found.done) == len(with_labels) - 8
+        async with sagas.open(location, [signed()], lease=2.0) as store:
+            outcome = await store.abort_all(labels=CUSTOMER)
+            assert not outcome.refused and len(outcome.done) == len(with_labels) - 8
             await store.wait_idle()
 
     run(main())
-    assert aborts(place) == dict.fromkeys(with_labels, 1)
+    assert aborts(location) == dict.fromkeys(with_labels, 1)

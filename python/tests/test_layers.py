@@ -1,4 +1,4 @@
-"""The package's modules stand in layers: which may import which, and how large one may be."""
+"""The layers of the package's modules: which may import which, and how large one may be."""
 
 from __future__ import annotations
 
@@ -20,7 +20,7 @@ LAYERS = (
     "api testing",
     "cli server celery",
 )
-"""From the lowest: a module imports modules of its own layer and of lower ones."""
+"""From the lowest one: a module imports modules of its own layer and of lower ones."""
 RANK = {name: rank for rank, names in enumerate(LAYERS) for name in names.split()}
 APART = (
     "inspection runtime",
@@ -44,7 +44,9 @@ PURE = {
     "threading",
     "time",
 }
-"""What `core` does not import: it does no input and no output, and is given the time."""
+"""Modules that `core` does not import: it has no input and no output, and gets the time as an
+argument.
+"""
 DATABASES = {
     "psycopg": (
         "storage.postgresql",
@@ -56,18 +58,18 @@ DATABASES = {
     "psycopg_pool": ("storage.postgresql", "runtime.transactional"),
     "sqlite3": ("storage.sqlite", "storage.admin"),
 }
-"""Drivers of databases, and the only modules, or beginnings of them, that import one."""
+"""Drivers of databases, and the only modules (or their prefixes) that import them."""
 ADVERBS = set(
-    "active answering answered anywhere asking begun between called calling carried carrying doing elsewhere faults"
-    " forks given guarded guessing holding looks misfits moving news restoring sending sharing spoken starting"
-    " under_way unread unreadable waiting".split()
+    "active answering answered anywhere asking begun between called calling carried carrying doing"
+    " elsewhere faults forks given guarded guessing holding looks misfits moving news restoring"
+    " sending sharing spoken starting under_way unread unreadable waiting".split()
 )
-"""Names that no module has: it is named for the noun that it holds."""
+"""Names that no module has: a module is named for the noun that it holds."""
 MOST_LINES, MOST_COLUMNS, MOST_ATTRIBUTES, MOST_OF_FUNCTION = 800, 100, 24, 60
 
 
 def name_of(path: pathlib.Path) -> str:
-    """A module's name, without the package's: `core.plan`; of the package itself nothing."""
+    """Return a module's name, without the package's: `core.plan`; of the package itself nothing."""
     parts = path.relative_to(SRC).with_suffix("").parts
     return ".".join(parts[:-1] if parts[-1] == "__init__" else parts)
 
@@ -76,7 +78,7 @@ MODULES = {name_of(path): path for path in sorted(SRC.rglob("*.py"))}
 
 
 def imports(module: str, tree: ast.AST) -> Iterator[str]:
-    """All that a module imports, wherever it does that: for types alone and in functions, too."""
+    """Return all that a module imports, also for types only and in functions."""
     for node in ast.walk(tree):
         if isinstance(node, ast.Import):
             yield from (alias.name for alias in node.names)
@@ -90,13 +92,15 @@ def imports(module: str, tree: ast.AST) -> Iterator[str]:
 
 
 def is_apart(package: str, other: str) -> bool:
-    """Whether a package has to do without another one that is not above it."""
+    """Return whether a package must not import another one that is not above it."""
     return any(package == (of := names.split())[0] and other in of[1:] for names in APART)
 
 
 def import_faults(module: str, tree: ast.AST) -> Iterator[str]:
-    """The imports that a module may not have. Those at the top, `sagas` and `sagas.__main__`, may
-    have all."""
+    """Return the imports that a module may not have.
+
+    Those at the top, `sagas` and `sagas.__main__`, may have all.
+    """
     package = module.partition(".")[0]
     for name in imports(module, tree):
         first, _, rest = name.partition(".")
@@ -113,8 +117,10 @@ def import_faults(module: str, tree: ast.AST) -> Iterator[str]:
 
 
 def attributes(node: ast.ClassDef) -> set[str]:
-    """What a class declares, and what is set of `self` in its own functions."""
-    found = {
+    """Return the attributes that a class declares, and those of `self` that its own
+    functions set.
+    """
+    declared = {
         one.target.id
         for one in node.body
         if isinstance(one, ast.AnnAssign) and isinstance(one.target, ast.Name)
@@ -122,18 +128,18 @@ def attributes(node: ast.ClassDef) -> set[str]:
     for one in ast.walk(node):
         if isinstance(one, ast.Attribute) and isinstance(one.ctx, ast.Store):
             if isinstance(one.value, ast.Name) and one.value.id == "self":
-                found.add(one.attr)
-    return found
+                declared.add(one.attr)
+    return declared
 
 
 def body_lines(node: ast.FunctionDef | ast.AsyncFunctionDef) -> int:
-    """How many lines a function has below its signature and its docstring."""
+    """Return how many lines a function has below its signature and its docstring."""
     first = node.body[ast.get_docstring(node) is not None :] or node.body
     return (node.end_lineno or 0) - first[0].lineno + 1
 
 
 def size_faults(module: str, text: str, tree: ast.AST) -> Iterator[str]:
-    """What is too large in a module."""
+    """Return what is too large in a module."""
     lines = text.splitlines()
     if len(lines) > MOST_LINES:
         yield f"over {MOST_LINES} lines"

@@ -21,7 +21,7 @@ TWO = '{"def":0,"event":"open","saga":0}\n{"def":1,"event":"open","saga":1}\n'
 
 @pytest.fixture(params=["library", "program"])
 def way(request: pytest.FixtureRequest, monkeypatch: pytest.MonkeyPatch) -> str:
-    """By the library, or, where that is not there, by the program."""
+    """Use the library, or, without it, the program."""
     if request.param == "program":
         monkeypatch.setenv("SAGAS_LIBRARY", "/nowhere/libsagas.so")
     else:
@@ -63,12 +63,12 @@ def test_a_chain(way: str) -> None:
 def test_texts_that_are_not_of_their_form(
     way: str, definition: str | bytes, case: str, line: str
 ) -> None:
-    with pytest.raises(sagas.InvalidText) as told:
+    with pytest.raises(sagas.InvalidText) as error:
         sagas.plan(definition, case)
-    assert str(told.value) == line
+    assert str(error.value) == line
 
 
-def test_definitions_are_told_by_their_places(way: str) -> None:
+def test_definitions_are_named_by_their_index(way: str) -> None:
     with pytest.raises(sagas.InvalidText, match="^sagas: definition 1: bad-format$"):
         sagas.audit("", DEFINITION, "")
     with pytest.raises(sagas.InvalidText, match="^sagas: too many definitions$"):
@@ -76,9 +76,9 @@ def test_definitions_are_told_by_their_places(way: str) -> None:
 
 
 def test_any_buffer() -> None:
-    place = library.path()
-    assert place is not None
-    loaded = library.loaded(place)
+    path = library.path()
+    assert path is not None
+    loaded = library.loaded(path)
     assert loaded is not None
     for size in (0, 1, len(ANSWER), len(ANSWER) + 1, len(ANSWER) + 2):
         assert library.call(
@@ -106,9 +106,9 @@ def test_many_threads() -> None:
 
     def work() -> None:
         for _ in range(100):
-            said = sagas.plan(DEFINITION, CASE)
-            if said != (True, ANSWER):
-                wrong.append(said)
+            result = sagas.plan(DEFINITION, CASE)
+            if result != (True, ANSWER):
+                wrong.append(result)
 
     threads = [threading.Thread(target=work) for _ in range(16)]
     for thread in threads:

@@ -1,4 +1,4 @@
-"""A step's limit in one program, while what runs is let go."""
+"""A step's limit in one program, while running calls are being released."""
 
 from __future__ import annotations
 
@@ -19,9 +19,10 @@ TAKEN = "UPDATE sagas.shards SET owner = 'other/1', epoch = epoch + 1"
 
 
 @pytest.mark.parametrize("in_thread", [False, True])
-def test_what_is_let_go_has_its_place_until_it_is_over(url: str, in_thread: bool) -> None:
-    """A log goes to another node while a function of it runs here, which cannot be stopped, or
-    takes its time to end: no further one begins before."""
+def test_a_released_call_keeps_its_slot_until_it_ends(url: str, in_thread: bool) -> None:
+    """A log goes to another node while one of its functions runs here, and cannot be stopped, or
+    takes time to end: no other call starts before.
+    """
     begun: list[str] = []
     gate, opened = threading.Event(), asyncio.Event()
 
@@ -47,7 +48,8 @@ def test_what_is_let_go_has_its_place_until_it_is_over(url: str, in_thread: bool
             with psycopg.connect(url) as link:
                 link.execute(OTHER)
                 link.execute(TAKEN)
-            abort = asyncio.create_task(store.abort("first"))  # its commit shows whose the log is
+            # its commit shows which node has the log
+            abort = asyncio.create_task(store.abort("first"))
             await until(lambda: not store.active_attempts("first"), 30)
             second = await store.start(kind, "second")
             await until(lambda: store.active_attempts("second"), 30)

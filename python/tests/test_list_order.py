@@ -1,5 +1,7 @@
-"""Lists are in the order of the starts, over any number of shards: in the store, in the command, in
-the service and in its dashboard."""
+"""Lists are in the order of the starts, over any number of shards.
+
+This holds in the store, in the command, in the service and in its dashboard.
+"""
 
 from __future__ import annotations
 
@@ -27,8 +29,9 @@ KEYS = [f"k{number}" for number in range(COUNT)]
 
 
 def kinds() -> list[sagas.Saga]:
-    """A saga whose steps come from its input, so that it has a shard of its own, and fixed ones: of
-    these one is stuck, and one has an undo that fails."""
+    """Return a saga whose steps come from its input, so that it has its own shard, and fixed ones:
+    one of these is stuck, and one has an undo that fails.
+    """
     many, fixed = sagas.Saga("many"), sagas.Saga("fixed")
     stuck, kept = sagas.Saga("stuck"), sagas.Saga("kept")
     many_stuck, many_kept = sagas.Saga("many-stuck"), sagas.Saga("many-kept")
@@ -40,31 +43,31 @@ def kinds() -> list[sagas.Saga]:
 
     stuck.step(name="a", undo=sagas.NEVER, skip=sagas.NEVER)(fails)
     many_stuck.step(name="a", for_each="items", undo=sagas.NEVER, skip=sagas.NEVER)(fails)
-    for one, words in ((kept, {}), (many_kept, {"for_each": "items"})):
-        first = one.step(name="a", undo=1, keep=9, **words)(lambda task: 1)
+    for one, options in ((kept, {}), (many_kept, {"for_each": "items"})):
+        first = one.step(name="a", undo=1, keep=9, **options)(lambda task: 1)
         first.compensation(on_exhausted="fail")(fails)
         one.step(name="b", needs=[first], undo=0)(fails)
     return [many, fixed, stuck, many_stuck, kept, many_kept]
 
 
-def of_both(place: str) -> Any:
-    """The ids, in the order of the starts."""
-    with contextlib.closing(admin.connect(place)) as link:
+def of_both(location: str) -> Any:
+    """Return the ids in the order of the starts."""
+    with contextlib.closing(admin.connect(location)) as link:
         return [id for (id,) in link.ask("SELECT id FROM sagas ORDER BY at")]
 
 
 async def begin(store: sagas.Store, some: list[sagas.Saga]) -> None:
-    """Starts sagas of two shards by turns."""
+    """Start sagas of two shards alternately."""
     for number, key in enumerate(KEYS):
         labels = {"half": str(number % 2), "all": "yes"}
         await store.start(some[number % 2], key, {"items": [1]}, labels=labels)
 
 
-def test_a_store_lists_by_the_start(place: str, capsys: pytest.CaptureFixture[str]) -> None:
-    """Pages by the last saga, or its id, of any filter; and so does the command."""
+def test_a_store_lists_by_the_start(location: str, capsys: pytest.CaptureFixture[str]) -> None:
+    """Pages start after a saga, or an id, of any filter; so it is with the command."""
 
     async def main() -> None:
-        async with sagas.open(place, some := kinds()) as store:
+        async with sagas.open(location, some := kinds()) as store:
             await begin(store, some)
             filters: list[dict[str, Any]] = [
                 {},
@@ -75,32 +78,32 @@ def test_a_store_lists_by_the_start(place: str, capsys: pytest.CaptureFixture[st
                 {"labels": {"half": "1"}},
                 {"phase": "stuck"},
             ]
-            for words in filters:
+            for filter_options in filters:
                 wanted = (
                     KEYS[0::2]
-                    if "saga" in words
+                    if "saga" in filter_options
                     else KEYS[1::2]
-                    if words.get("labels") == {"half": "1"}
+                    if filter_options.get("labels") == {"half": "1"}
                     else []
-                    if words.get("phase") == "stuck"
+                    if filter_options.get("phase") == "stuck"
                     else KEYS
                 )
-                assert [one.key for one in await store.list(**words)] == wanted
+                assert [one.key for one in await store.list(**filter_options)] == wanted
                 for by_id in (True, False):
-                    found, page = list[str](), await store.list(**words, limit=2)
+                    listed, page = list[str](), await store.list(**filter_options, limit=2)
                     while page:
-                        found += [one.key for one in page]
+                        listed += [one.key for one in page]
                         last: Any = page[-1].id if by_id else page[-1]
-                        page = await store.list(**words, after=last, limit=2)
-                    assert found == wanted
+                        page = await store.list(**filter_options, after=last, limit=2)
+                    assert listed == wanted
 
     run(main())
-    ids = of_both(place)
+    ids = of_both(location)
     assert len(ids) == COUNT and ids != sorted(ids)  # else this shows nothing
-    shell = Shell(place, capsys)
+    shell = Shell(location, capsys)
 
-    def keys(*words: str) -> list[str]:
-        return [one["key"] for one in shell.json("list", *words)]
+    def keys(*arguments: str) -> list[str]:
+        return [one["key"] for one in shell.json("list", *arguments)]
 
     assert keys() == KEYS and keys("--newest") == KEYS[::-1] and keys("--limit", "0") == KEYS
     assert keys("--after", "k3", "--limit", "2") == KEYS[4:6]
@@ -108,14 +111,14 @@ def test_a_store_lists_by_the_start(place: str, capsys: pytest.CaptureFixture[st
     assert keys("--saga", "many", "--newest", "--after", "k3") == [KEYS[2], KEYS[0]]
 
 
-def test_pages_go_on_when_their_last_saga_is_deleted(place: str) -> None:
-    """By the saga itself; of its id nobody knows any more where it was."""
+def test_pages_go_on_when_their_last_saga_is_deleted(location: str) -> None:
+    """Pages continue from the saga itself; the position of its id is unknown."""
 
     async def main() -> None:
-        async with sagas.open(place, some := kinds()) as store:
+        async with sagas.open(location, some := kinds()) as store:
             await begin(store, some)
             page = await store.list(limit=4)
-            with contextlib.closing(admin.connect(place, "rw")) as link, link.transaction():
+            with contextlib.closing(admin.connect(location, "rw")) as link, link.transaction():
                 link.changed("DELETE FROM sagas WHERE key = ?", page[-1].key)
             await store.start(some[0], "late", {"items": [1]})
             rest = await store.list(after=page[-1])
@@ -131,7 +134,7 @@ def test_pages_go_on_when_their_last_saga_is_deleted(place: str) -> None:
 
 
 def test_two_nodes_and_a_client_list_alike(url: str) -> None:
-    """Each node has a shard of its own."""
+    """Each node has its own shard."""
     kind = sagas.Saga("kind")
     kind.step(name="a", external=True)
 
@@ -144,20 +147,20 @@ def test_two_nodes_and_a_client_list_alike(url: str) -> None:
             for number, key in enumerate(KEYS):
                 await (one, two)[number % 2].start(kind, key)
             for store in (one, two, client):
-                assert [found.key for found in await store.list()] == KEYS
+                assert [summary.key for summary in await store.list()] == KEYS
                 page = await store.list(limit=5)
                 rest = await store.list(after=page[-1], limit=5)
-                assert [found.key for found in (*page, *rest)] == KEYS
+                assert [summary.key for summary in (*page, *rest)] == KEYS
 
     run(main())
     assert (ids := of_both(url)) != sorted(ids)
 
 
-def test_what_needs_a_person_is_by_age(place: str) -> None:
-    """The oldest are those that a limit leaves: stuck sagas, and undos that failed."""
+def test_attention_is_ordered_by_age(location: str) -> None:
+    """A limit returns the oldest ones: stuck sagas, and failed compensations."""
 
     async def main() -> None:
-        async with sagas.open(place, some := kinds()) as store:
+        async with sagas.open(location, some := kinds()) as store:
             for number, key in enumerate(KEYS):
                 await ended(store, some[2 + number % 2], key, {"items": [1]})
             assert [one.key for one in await store.stuck(limit=4)] == KEYS[:4]
@@ -165,8 +168,8 @@ def test_what_needs_a_person_is_by_age(place: str) -> None:
             await store.resolve_all("done")
             for number, key in enumerate(KEYS):
                 await ended(store, some[4 + number % 2], f"u{key}", {"items": [1]})
-            found = await store.attention(limit=4)
-            assert [one.key for one in found] == [f"u{key}" for key in KEYS[:4]]
+            entries = await store.attention(limit=4)
+            assert [one.key for one in entries] == [f"u{key}" for key in KEYS[:4]]
 
     run(main())
 
@@ -187,7 +190,7 @@ store = sagas.open("unused.db", [many, stuck, many_stuck])
 
 @pytest.fixture(scope="module")
 def client(tmp_path_factory: pytest.TempPathFactory) -> Iterator[httpx.Client]:
-    """Of a service with sagas of two shards, by turns, of which some are stuck."""
+    """Return a client of a service with sagas of two shards, alternately; some are stuck."""
     folder = tmp_path_factory.mktemp("order")
     (folder / "shop.py").write_text(SHOP)
     with served(folder, {"one.toml": ONE}, "--app", "shop:store") as service:
@@ -201,7 +204,7 @@ def client(tmp_path_factory: pytest.TempPathFactory) -> Iterator[httpx.Client]:
 
 
 def pages(client: httpx.Client, path: str, name: str) -> list[str]:
-    """The keys of all pages."""
+    """Return the keys of all pages."""
     keys, after = list[str](), ""
     while True:
         page = client.get(f"{path}&limit=2{after}").json()
@@ -212,14 +215,14 @@ def pages(client: httpx.Client, path: str, name: str) -> list[str]:
 
 
 @pytest.mark.parametrize(
-    "words", ["search=saga-", "phase=open", "search=saga-&phase=open", "error=never"]
+    "query", ["search=saga-", "phase=open", "search=saga-&phase=open", "error=never"]
 )
-def test_the_service_lists_the_newest_first(client: httpx.Client, words: str) -> None:
-    """Whatever shards they are of; also while others start."""
-    wanted = [f"stuck-{n}" for n in range(COUNT)] if "error" in words else OPEN
-    assert [*reversed(pages(client, f"/v1/sagas?{words}", "sagas"))] == wanted
+def test_the_service_lists_the_newest_first(client: httpx.Client, query: str) -> None:
+    """This holds for any shards, also while other sagas start."""
+    wanted = [f"stuck-{n}" for n in range(COUNT)] if "error" in query else OPEN
+    assert [*reversed(pages(client, f"/v1/sagas?{query}", "sagas"))] == wanted
     first = client.get("/v1/sagas?search=saga-&phase=open&limit=4").json()
-    start(client, "many", other := f"other-{len(words)}", {"items": [1]})
+    start(client, "many", other := f"other-{len(query)}", {"items": [1]})
     path = f"/v1/sagas?search=saga-&phase=open&after={first['next']}"
     rest = client.get(path).json()
     assert [one["key"] for one in (*first["sagas"], *rest["sagas"])] == OPEN[::-1]
@@ -228,7 +231,7 @@ def test_the_service_lists_the_newest_first(client: httpx.Client, words: str) ->
 
 
 def test_attention_is_by_age(client: httpx.Client) -> None:
-    """In either order, and by pages."""
+    """It works in either order, and by pages."""
     keys = [f"stuck-{number}" for number in range(COUNT)]
     assert pages(client, "/v1/attention?kind=stuck", "entries") == keys
     assert pages(client, "/v1/attention?kind=stuck&order=newest", "entries") == keys[::-1]
@@ -239,8 +242,8 @@ def test_attention_is_by_age(client: httpx.Client) -> None:
 
 
 @pytest.mark.parametrize("path", ["/v1/sagas", "/v1/attention"])
-def test_a_cursor_that_is_none(client: httpx.Client, path: str) -> None:
-    """As any word of a query that has another form."""
+def test_an_invalid_cursor(client: httpx.Client, path: str) -> None:
+    """It gets the same error as any invalid parameter of a query."""
     kind = "" if path == "/v1/sagas" else "stuck."
     step = kind and ".-1"
     for cursor in ("7", "x", "1e3-7", "1.5", "1.5-", "-7", "1.5-x", "1.5-7-", "nan-7", "inf-7"):
@@ -259,9 +262,9 @@ def test_the_dashboard_lists_the_newest_first(client: httpx.Client) -> None:
 
     def shown(path: str) -> tuple[list[str], dict[str, str]]:
         text = client.get(path).text
-        found = dict(re.findall(r'rel="(prev|next)" href="([^"]+)"', text))
+        links = dict(re.findall(r'rel="(prev|next)" href="([^"]+)"', text))
         keys = dict.fromkeys(re.findall(r"page-\d\d", text))
-        return [*keys], {rel: link.replace("&amp;", "&") for rel, link in found.items()}
+        return [*keys], {rel: link.replace("&amp;", "&") for rel, link in links.items()}
 
     keys, links = shown("/ui/sagas?search=page-")
     assert [*links] == ["next"] and keys == wanted[: len(keys)] and 10 < len(keys) < 60
@@ -272,21 +275,23 @@ def test_the_dashboard_lists_the_newest_first(client: httpx.Client) -> None:
     assert client.get("/ui/sagas?before=7").status_code == 422
 
 
-def has_index(place: str) -> bool:
-    """Whether the store has the index of the starts."""
-    if place.startswith("postgresql:"):
-        with psycopg.connect(place) as link:
-            found = link.execute("SELECT to_regclass('sagas.sagas_started') IS NOT NULL")
-            return found.fetchone() == (True,)
-    with contextlib.closing(sqlite3.connect(place)) as db:
+def has_index(location: str) -> bool:
+    """Return whether the store has the index of the starts."""
+    if location.startswith("postgresql:"):
+        with psycopg.connect(location) as link:
+            cursor = link.execute("SELECT to_regclass('sagas.sagas_started') IS NOT NULL")
+            return cursor.fetchone() == (True,)
+    with contextlib.closing(sqlite3.connect(location)) as db:
         return bool(
             db.execute("SELECT 1 FROM sqlite_schema WHERE name = 'sagas_started'").fetchall()
         )
 
 
-def test_an_older_store_gets_the_index(place: str, capsys: pytest.CaptureFixture[str]) -> None:
-    """When a program opens a file for writing; of a database when its owner does. A user without
-    rights opens it all the same."""
+def test_an_older_store_gets_the_index(location: str, capsys: pytest.CaptureFixture[str]) -> None:
+    """It gets it when a program opens a file for writing; over PostgreSQL, when the owner does.
+
+    A user without rights opens it anyway.
+    """
     kind = simple(lambda task: 7)
 
     async def once(where: str, key: str) -> None:
@@ -294,20 +299,20 @@ def test_an_older_store_gets_the_index(place: str, capsys: pytest.CaptureFixture
             assert (await ended(store, kind, key)).ok
             assert key in [one.key for one in await store.list()]
 
-    run(once(place, "a"))
-    assert has_index(place)
-    is_database = place.startswith("postgresql:")
-    owner = place.replace("app@", "owner@")
+    run(once(location, "a"))
+    assert has_index(location)
+    is_database = location.startswith("postgresql:")
+    owner = location.replace("app@", "owner@")
     if is_database:
         with psycopg.connect(owner) as link:
             link.execute("DROP INDEX sagas.sagas_started")
     else:
-        with contextlib.closing(sqlite3.connect(place)) as db:
+        with contextlib.closing(sqlite3.connect(location)) as db:
             db.execute("DROP INDEX sagas_started")
-    assert [one["key"] for one in Shell(place, capsys).json("list")] == ["a"]
-    assert not has_index(place)
-    run(once(place, "b"))
-    assert has_index(place) is not is_database
+    assert [one["key"] for one in Shell(location, capsys).json("list")] == ["a"]
+    assert not has_index(location)
+    run(once(location, "b"))
+    assert has_index(location) is not is_database
     if not is_database:
         return
     assert store_command.main([owner, "init"]) == 0 and has_index(owner)
@@ -317,28 +322,28 @@ def test_an_older_store_gets_the_index(place: str, capsys: pytest.CaptureFixture
     assert has_index(owner)
 
 
-def test_starts_round_trip(place: str) -> None:
+def test_starts_round_trip(location: str) -> None:
     """A start is read exactly as it was written: else pages would repeat sagas."""
     times = sorted(random.Random(7).uniform(1e9, 4e9) for _ in range(50))
 
     async def main() -> None:
-        async with sagas.open(place, some := kinds()) as store:
+        async with sagas.open(location, some := kinds()) as store:
             for number, at in enumerate(times):
                 await store.start(some[1], f"t{number:02}")
-            with contextlib.closing(admin.connect(place, "rw")) as link, link.transaction():
+            with contextlib.closing(admin.connect(location, "rw")) as link, link.transaction():
                 for number, at in enumerate(times):
                     link.changed("UPDATE sagas SET at = ? WHERE key = ?", at, f"t{number:02}")
-            found, page = list[sagas.Summary](), await store.list(limit=1)
+            listed, page = list[sagas.Summary](), await store.list(limit=1)
             while page:
-                found += page
+                listed += page
                 page = await store.list(limit=1, after=page[-1])
-            assert [one.started for one in found] == times
+            assert [one.started for one in listed] == times
 
     run(main())
 
 
 def test_the_index_does_not_wait_long(url: str, caplog: pytest.LogCaptureFixture) -> None:
-    """A transaction of somebody else holds it up: the store opens without it, and says so."""
+    """A transaction of another program blocks it: the store opens without it, and reports that."""
     kind = simple(lambda task: 7)
 
     async def once(key: str) -> None:

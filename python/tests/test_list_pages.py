@@ -51,12 +51,12 @@ FILTERS: dict[str, dict[str, Any]] = {
 }
 
 
-def fill(place: str) -> None:
-    """Sagas of some shards, of which some started at the same time."""
+def fill(location: str) -> None:
+    """Make sagas of some shards, of which some started at the same time."""
     chance = random.Random(7)
-    with contextlib.closing(admin.connect(place, "rw")) as link, link.transaction():
-        true, false = (True, False) if place.startswith("postgresql:") else (1, 0)
-        for shard in () if true is True else range(3):  # a file finds by them what is open
+    with contextlib.closing(admin.connect(location, "rw")) as link, link.transaction():
+        true, false = (True, False) if location.startswith("postgresql:") else (1, 0)
+        for shard in () if true is True else range(3):  # a file uses them to find open sagas
             link.changed("INSERT INTO shards(shard, name) VALUES(?, ?)", shard, f"s{shard}")
         for number in range(COUNT):
             id, at = 1000 * (number % 3) + number, 1_000_000.0 + chance.randrange(100)
@@ -83,53 +83,53 @@ def fill(place: str) -> None:
 
 
 def of_pages(reader: StoreReader, of: Filter, newest: bool, most: int) -> list[Summary]:
-    """All pages, one behind the other."""
-    found: list[Summary] = []
-    word, place = "before" if newest else "after", None
+    """Return all pages, one after the other."""
+    summaries: list[Summary] = []
+    word, cursor = "before" if newest else "after", None
     while True:
-        words: dict[str, Any] = {word: place}
-        page = reader.ask(pages.page(of=of, newest=newest, limit=most, **words))
-        found += page
+        options: dict[str, Any] = {word: cursor}
+        page = reader.ask(pages.page(of=of, newest=newest, limit=most, **options))
+        summaries += page
         if len(page) < most:
-            return found
-        place = filters.position_of(filters.cursor_of(pages.position_of(page[-1])))
+            return summaries
+        cursor = filters.position_of(filters.cursor_of(pages.position_of(page[-1])))
 
 
 @pytest.mark.parametrize("few, near, most_near", [(1, 2, 7), (60, 1, 40), (0, 100, 20_000)])
 def test_pages_of_any_filter(
-    place: str, few: int, near: int, most_near: int, monkeypatch: pytest.MonkeyPatch
+    location: str, few: int, near: int, most_near: int, monkeypatch: pytest.MonkeyPatch
 ) -> None:
-    """Whether those that are near are enough, or not, or all."""
+    """This holds whether the near ones are enough, or not, or all."""
     for name, value in (("FEW", few), ("NEAR", near), ("MOST_NEAR", most_near)):
         monkeypatch.setattr(pages, name, value)
 
     async def main() -> None:
-        async with sagas.open(place, [simple(lambda task: 7)]):
+        async with sagas.open(location, [simple(lambda task: 7)]):
             pass
 
     run(main())
-    fill(place)
-    is_database = place.startswith("postgresql:")
-    reader = StoreReader(DatabaseReader(place, "db") if is_database else FileReader(place))
+    fill(location)
+    is_database = location.startswith("postgresql:")
+    reader = StoreReader(DatabaseReader(location, "db") if is_database else FileReader(location))
     every = reader.ask(pages.page(limit=None))
     assert len(every) == COUNT and len({one.started for one in every}) <= 100
     assert every == sorted(every, key=lambda one: (one.started, one.id), reverse=True)
-    for name, words in FILTERS.items():
-        whole = reader.ask(pages.page(of=Filter(**words), limit=None))
+    for name, options in FILTERS.items():
+        whole = reader.ask(pages.page(of=Filter(**options), limit=None))
         ids = {one.id for one in whole}
-        assert len(ids) == reader_count(place, Filter(**words)), name
+        assert len(ids) == reader_count(location, Filter(**options)), name
         wanted = [one for one in every if one.id in ids]
         for most in (3, 50):
-            assert of_pages(reader, Filter(**words), True, most) == wanted, (name, most)
-            assert of_pages(reader, Filter(**words), False, most) == wanted[::-1], (name, most)
+            assert of_pages(reader, Filter(**options), True, most) == wanted, (name, most)
+            assert of_pages(reader, Filter(**options), False, most) == wanted[::-1], (name, most)
     reader.close()
 
 
-def reader_count(place: str, of: Filter) -> int:
-    """How many sagas of a filter there are."""
-    where, words = of.where()
-    with contextlib.closing(admin.connect(place)) as link:
-        return int(link.ask(f"SELECT count(*) FROM sagas s WHERE {where}", *words)[0][0])
+def reader_count(location: str, of: Filter) -> int:
+    """Return how many sagas of a filter there are."""
+    where, parameters = of.where()
+    with contextlib.closing(admin.connect(location)) as link:
+        return int(link.ask(f"SELECT count(*) FROM sagas s WHERE {where}", *parameters)[0][0])
 
 
 def test_cursors_round_trip() -> None:

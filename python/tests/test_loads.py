@@ -1,4 +1,4 @@
-"""How logs are taken up from PostgreSQL: many at once, and none of them holds back the others."""
+"""Loading logs from PostgreSQL: many at once, and none of them delays the others."""
 
 from __future__ import annotations
 
@@ -21,14 +21,18 @@ from sagas.storage.postgresql.writer import Writer
 LOGS, ROOM = 6, 3
 BORN = "another", [(0, "digest", "text")]
 REFUSES = """
-CREATE FUNCTION refuses() RETURNS trigger LANGUAGE plpgsql AS $$ BEGIN RAISE 'it is not read'; END $$;
-CREATE TRIGGER refuses BEFORE UPDATE ON sagas.shards FOR EACH ROW WHEN (NEW.shard = {}) EXECUTE FUNCTION refuses();
+CREATE FUNCTION refuses() RETURNS trigger LANGUAGE plpgsql AS
+    $$ BEGIN RAISE 'it is not read'; END $$;
+CREATE TRIGGER refuses BEFORE UPDATE ON sagas.shards
+    FOR EACH ROW WHEN (NEW.shard = {}) EXECUTE FUNCTION refuses();
 """
 
 
 @pytest.fixture
 def logs(url: str, monkeypatch: pytest.MonkeyPatch) -> list[int]:
-    """Logs of a node `me`, with sagas whose first step is over, at a whole second, and whose second one waits for a person."""
+    """Return logs of a node `me`, with sagas whose first step is over, at a whole second, and whose
+    second one waits for an operator.
+    """
     monkeypatch.setattr("sagas.definition.shelf.SHARD_CAPACITY", ROOM)
     kind, events = sagas.Saga("signed"), list[sagas.Event]()
 
@@ -59,18 +63,18 @@ def logs(url: str, monkeypatch: pytest.MonkeyPatch) -> list[int]:
 
 @contextlib.asynccontextmanager
 async def loading(url: str) -> AsyncIterator[ShardLoader]:
-    """As the node `me` does it."""
+    """Return a loader, as the node `me` uses it."""
     asker = connections.Asker(url, url, 3)
     await asker.open()
     yield ShardLoader(asker, "me", asyncio.get_running_loop().create_task)
     await asker.close()
 
 
-def is_whole(loaded: Loaded | None, place: int, epoch: int) -> bool:
-    """Whether this is all that this log has, under a new epoch."""
+def is_whole(loaded: Loaded | None, index: int, epoch: int) -> bool:
+    """Return whether the loaded log is complete, under a new epoch."""
     assert loaded
     ids = [id for id, *_ in loaded.open]
-    numbers = [*range(place * ROOM, place * ROOM + ROOM)]
+    numbers = [*range(index * ROOM, index * ROOM + ROOM)]
     open = [(key, json.loads(text), until) for _, key, _, text, until, *_ in loaded.open]
     assert open == [(f"k{number}", {"n": number}, 8200.0) for number in numbers]
     assert all(type(until) is float for *_, until, _, _ in loaded.open)
@@ -91,7 +95,10 @@ def is_whole(loaded: Loaded | None, place: int, epoch: int) -> bool:
 
 
 def test_all_that_are_wanted_go_together(url: str, logs: list[int]) -> None:
-    """What is there comes whole; what is another's, closed, or not there does not; and what is not born yet is empty."""
+    """Existing logs are loaded whole.
+
+    Logs of other nodes, closed and missing ones are not, and new ones are empty.
+    """
 
     async def main() -> None:
         with psycopg.connect(url, autocommit=True) as link:
@@ -103,7 +110,7 @@ def test_all_that_are_wanted_go_together(url: str, logs: list[int]) -> None:
                     *(loads.load(log, 0, None) for log in logs)
                 )
                 assert others is None and closed is None
-                assert all(is_whole(loaded, place, epoch) for place, loaded in enumerate(mine, 2))
+                assert all(is_whole(loaded, index, epoch) for index, loaded in enumerate(mine, 2))
             gone, unborn, there, born = await asyncio.gather(
                 loads.load(10**6, 7, None),
                 loads.load(10**6 + 1, 7, BORN),
@@ -123,10 +130,12 @@ def test_all_that_are_wanted_go_together(url: str, logs: list[int]) -> None:
 
 @pytest.mark.parametrize("together", [False, True])
 @pytest.mark.parametrize("has_lines", [False, True])
-def test_a_commit_behind_a_chunk_that_is_not_there(
+def test_a_commit_after_a_missing_chunk(
     url: str, logs: list[int], together: bool, has_lines: bool
 ) -> None:
-    """Nothing is written of a log whose last chunk the database lacks, or has otherwise; of the others all is written, alone and in one commit."""
+    """Nothing is written of a log whose last chunk is missing or different in the database; of the
+    others all is written, alone and in one commit.
+    """
     lacks, differs, *_ = logs
     last = "first_seq = (SELECT max(first_seq) FROM sagas.event_log WHERE shard = e.shard)"
 
@@ -150,12 +159,13 @@ def test_a_commit_behind_a_chunk_that_is_not_there(
         with psycopg.connect(url, autocommit=True) as link:
             link.execute(f"DELETE FROM sagas.event_log e WHERE shard = {lacks} AND {last}".encode())
             link.execute(
-                f"UPDATE sagas.event_log e SET committed_at = 0 WHERE shard = {differs} AND {last}".encode()
+                "UPDATE sagas.event_log e SET committed_at = 0"
+                f" WHERE shard = {differs} AND {last}".encode()
             )
         lost = set[int]()
-        for lot in [batches] if together else [[one] for one in batches]:
+        for group in [batches] if together else [[one] for one in batches]:
             written = asyncio.get_running_loop().create_future()
-            writer.commit(lot, lambda *told, written=written: written.set_result(told))
+            writer.commit(group, lambda *result, written=written: written.set_result(result))
             _, fault, refused = await written
             assert fault is None
             lost |= refused
@@ -175,8 +185,10 @@ def test_a_commit_behind_a_chunk_that_is_not_there(
         assert {log for (log,) in rows} == (written if has_lines else set())
 
 
-def test_a_log_whose_commit_is_under_way(url: str, logs: list[int]) -> None:
-    """It is taken up behind that; those that are wanted with it and after it are there before."""
+def test_loading_a_log_waits_for_its_commit(url: str, logs: list[int]) -> None:
+    """It is loaded after that commit; logs that are requested with it and after it are loaded
+    before.
+    """
 
     async def main() -> None:
         with psycopg.connect(url) as commit:
@@ -184,14 +196,16 @@ def test_a_log_whose_commit_is_under_way(url: str, logs: list[int]) -> None:
                 commit.execute("SELECT 1 FROM sagas.shards WHERE shard = %s FOR SHARE", (logs[2],))
                 waits = asyncio.create_task(loads.load(logs[2], 1, None))
                 rest = [log for log in logs if log != logs[2]]
-                async with asyncio.timeout(
-                    connections.PATIENCE / 2
-                ):  # else they came only once the server had given the first statement up
+                # else they came only once the server had given the first statement up
+                async with asyncio.timeout(connections.PATIENCE / 2):
                     assert all(await asyncio.gather(*(loads.load(log, 1, None) for log in rest)))
                     assert await loads.load(logs[0], 2, None)
                 assert not waits.done()
                 commit.execute(
-                    "INSERT INTO sagas.event_log SELECT shard, 1000, 0, text, epoch FROM sagas.event_log WHERE shard = %s AND first_seq = 0",
+                    (
+                        "INSERT INTO sagas.event_log SELECT shard, 1000, 0, text, epoch FROM"
+                        " sagas.event_log WHERE shard = %s AND first_seq = 0"
+                    ),
                     (logs[2],),
                 )
                 commit.commit()
@@ -201,42 +215,46 @@ def test_a_log_whose_commit_is_under_way(url: str, logs: list[int]) -> None:
     run(main())
 
 
-def test_locked_logs_hold_up_nobody(url: str, logs: list[int]) -> None:
-    """More of them than there are connections are wanted at once: whoever asks something else has one."""
+def test_locked_logs_delay_no_request(url: str, logs: list[int]) -> None:
+    """More of them than there are connections are requested at once: another request gets a
+    connection.
+    """
 
     async def main() -> None:
-        with psycopg.connect(url) as stranger, psycopg.connect(url, autocommit=True) as eye:
+        with psycopg.connect(url) as stranger, psycopg.connect(url, autocommit=True) as observer:
             async with loading(url) as loads:
                 stranger.execute("SELECT 1 FROM sagas.shards FOR UPDATE")
                 waits = [asyncio.create_task(loads.load(log, 1, None)) for log in logs]
                 await until(
-                    lambda: eye.execute(
-                        "SELECT 1 FROM pg_stat_activity WHERE datname = current_database() AND wait_event_type = 'Lock'"
+                    lambda: observer.execute(
+                        "SELECT 1 FROM pg_stat_activity WHERE datname = current_database() AND"
+                        " wait_event_type = 'Lock'"
                     ).fetchall()
                 )
-                assert await loads._asker.ask("SELECT 1") == [
-                    (1,)
-                ]  # else it is behind them, and the pool gives up
+                # else it is after them, and the pool gives up
+                assert await loads._asker.ask("SELECT 1") == [(1,)]
                 assert not any(wait.done() for wait in waits)
                 stranger.rollback()
-                assert all([is_whole(await wait, place, 2) for place, wait in enumerate(waits)])
+                assert all([is_whole(await wait, index, 2) for index, wait in enumerate(waits)])
 
     run(main())
 
 
 def test_a_log_that_cannot_be_taken_up(url: str, logs: list[int]) -> None:
-    """The others come."""
+    """The others are loaded."""
 
     async def main() -> None:
         with psycopg.connect(url, autocommit=True) as link:
             link.execute(REFUSES.format(logs[3]))
         async with loading(url) as loads:
-            found = await asyncio.gather(
+            loaded_logs = await asyncio.gather(
                 *(loads.load(log, 1, None) for log in logs), return_exceptions=True
             )
-            assert isinstance(found[3], StoreUnavailable) and "it is not read" in str(found[3])
+            assert isinstance(loaded_logs[3], StoreUnavailable) and "it is not read" in str(
+                loaded_logs[3]
+            )
             assert all(
-                is_whole(loaded, place, 2) for place, loaded in enumerate(found) if place != 3
+                is_whole(loaded, index, 2) for index, loaded in enumerate(loaded_logs) if index != 3
             )
             with psycopg.connect(url, autocommit=True) as link:
                 link.execute("DROP TRIGGER refuses ON sagas.shards")
@@ -246,7 +264,7 @@ def test_a_log_that_cannot_be_taken_up(url: str, logs: list[int]) -> None:
 
 
 def test_the_server_does_not_answer(url: str, logs: list[int]) -> None:
-    """Each who waits hears it, and who asks again has it."""
+    """Each waiting caller gets the error, and a repeated call succeeds."""
 
     async def main() -> None:
         async with loading(url) as loads, loading(url) as others:
@@ -257,8 +275,8 @@ def test_the_server_does_not_answer(url: str, logs: list[int]) -> None:
             assert [type(fault) for fault in faults] == [StoreUnavailable] * LOGS
             assert all(
                 [
-                    is_whole(await loads.load(log, 1, None), place, 2)
-                    for place, log in enumerate(logs)
+                    is_whole(await loads.load(log, 1, None), index, 2)
+                    for index, log in enumerate(logs)
                 ]
             )
 

@@ -1,4 +1,4 @@
-"""What somebody sees who looks at a store, and what is written down of who did what: the same over both databases."""
+"""Reads of a store, and the record of who did what: the same over both databases."""
 
 from __future__ import annotations
 
@@ -18,7 +18,7 @@ from sagas.server import json_views
 
 
 def asking() -> sagas.Saga:
-    """A step, and an approval behind it."""
+    """Return a saga with a step, and then an approval."""
     asking = sagas.Saga("asking")
 
     @asking.step
@@ -36,12 +36,14 @@ def asking() -> sagas.Saga:
     return asking
 
 
-def test_looks_and_who_did_what(place: str) -> None:
-    """Counts, pages, a search, what waits for a person, one saga, and the notes of an abort and of a finish."""
+def test_reads_and_the_record_of_operators(location: str) -> None:
+    """Check counts, pages, a search, what needs an operator, one saga, and the notes of an abort
+    and of a finish.
+    """
     kind = asking()
 
     async def main() -> None:
-        async with sagas.open(place, [kind]) as store:
+        async with sagas.open(location, [kind]) as store:
             looks = StoreReader(store.reader())
             try:
                 for key in ("one", "two", "t_ree"):
@@ -58,12 +60,12 @@ def test_looks_and_who_did_what(place: str) -> None:
                     "recovered",
                 )
                 assert not await store.abort("two", by="bob")
-                told: list[Any] = [
+                noted: list[Any] = [
                     (note.what, note.told["by"], note.told["note"], note.answer)
                     for key in ("one", "two")
                     for note in looks.ask(one_saga.notes(key))
                 ]
-                assert told == [
+                assert noted == [
                     ("complete", "ann", "seen", True),
                     ("abort", "bob", "no more", True),
                 ]
@@ -87,7 +89,7 @@ def test_looks_and_who_did_what(place: str) -> None:
 
 
 class Clock:
-    """It can be put forward and back."""
+    """A clock that can be set forward and back."""
 
     by = 0.0
 
@@ -95,9 +97,12 @@ class Clock:
         return time.time() + self.by
 
 
-def test_a_log_is_told_in_its_own_order(place: str) -> None:
-    """Its times step back, as where a clock is put back: its events stay as the log has them, each
-    with what came of it, and what somebody did stands before what followed."""
+def test_events_keep_the_order_of_their_log(location: str) -> None:
+    """Its times go back when a clock is set back.
+
+    Its events keep the order of the log, each with its effects, and an action of an operator comes
+    before its effects.
+    """
     kind, clock = sagas.Saga("order"), Clock()
 
     @kind.step(tries=3, backoff=QUICK)
@@ -116,7 +121,7 @@ def test_a_log_is_told_in_its_own_order(place: str) -> None:
         clock.by -= 60
 
     async def main() -> None:
-        async with sagas.open(place, [kind], clock=clock) as store:
+        async with sagas.open(location, [kind], clock=clock) as store:
             run = await store.start(kind, "k")
             looks = StoreReader(store.reader())
             try:
@@ -129,17 +134,17 @@ def test_a_log_is_told_in_its_own_order(place: str) -> None:
                 looks.close()
             assert view
             names = [step.name for step in kind.steps]
-            (kept,) = records.read(place).logs.values()
+            (kept,) = records.read(location).logs.values()
             steps = [names[one["step"]] if "step" in one else None for one in kept.events]
             wanted = [*zip([one["event"] for one in kept.events], steps)]
             times = [event.at for event in view.events]
             assert times != sorted(times) and times[-1] < times[0]
             assert [(one.event, one.step) for one in await store.log("k")] == wanted
-            told = [(one["event"], one["step"]) for one in json_views.log(view)]
-            note = told.index(("note", "agreed"))
-            assert told[note - 1] == ("start_run", "agreed")
-            assert told[note + 1] == ("commit", "agreed")
-            assert told[:note] + told[note + 1 :] == wanted
+            ordered = [(one["event"], one["step"]) for one in json_views.log(view)]
+            note = ordered.index(("note", "agreed"))
+            assert ordered[note - 1] == ("start_run", "agreed")
+            assert ordered[note + 1] == ("commit", "agreed")
+            assert ordered[:note] + ordered[note + 1 :] == wanted
             for events in (await store.log("k"), view.events):
                 errors = [event.value["error"] for event in events if event.event == "missed"]
                 assert errors == ["ValueError: try 1", "ValueError: try 2"]
@@ -148,22 +153,22 @@ def test_a_log_is_told_in_its_own_order(place: str) -> None:
 
 
 class Counting:
-    """A reader that counts the characters of what it read."""
+    """A reader that counts the characters that it read."""
 
     def __init__(self, reader: Any) -> None:
         self._reader, self.read = reader, 0
 
-    def rows(self, query: str, *words: Any) -> list[tuple[Any, ...]]:
-        found: list[tuple[Any, ...]] = self._reader.rows(query, *words)
-        self.read += sum(len(one) for row in found for one in row if isinstance(one, str))
-        return found
+    def rows(self, query: str, *parameters: Any) -> list[tuple[Any, ...]]:
+        rows_read: list[tuple[Any, ...]] = self._reader.rows(query, *parameters)
+        self.read += sum(len(one) for row in rows_read for one in row if isinstance(one, str))
+        return rows_read
 
     def close(self) -> None:
         self._reader.close()
 
 
-def test_one_saga_of_a_long_shard(place: str) -> None:
-    """Of the shard's event log only what names the saga is read."""
+def test_one_saga_of_a_long_shard(location: str) -> None:
+    """Only the parts of the shard's event log that name the saga are read."""
     kind = sagas.Saga("short")
 
     @kind.step
@@ -171,7 +176,7 @@ def test_one_saga_of_a_long_shard(place: str) -> None:
         ...
 
     async def main() -> None:
-        async with sagas.open(place, [kind]) as store:
+        async with sagas.open(location, [kind]) as store:
             for number in range(100):
                 assert (await (await store.start(kind, f"k{number}")).wait()).ok
             counting = Counting(store.reader())
@@ -181,7 +186,7 @@ def test_one_saga_of_a_long_shard(place: str) -> None:
             finally:
                 looks.close()
             assert view and [one.event for one in view.events] == ["open", "start_run", "commit"]
-            (kept,) = records.read(place).logs.values()
+            (kept,) = records.read(location).logs.values()
             whole = sum(len(text) for _, text in kept.chunks)
             assert counting.read < whole / 5
 
@@ -189,8 +194,9 @@ def test_one_saga_of_a_long_shard(place: str) -> None:
 
 
 def test_what_if_a_step_has_failed_permanently(tmp_path: pathlib.Path) -> None:
-    """While the saga waits for others, such a step is not told to be run, nor its compensation:
-    the answers are what then becomes of the saga."""
+    """While the saga waits for others, such a step is not reported as one to run, nor its
+    compensation: the answers are what then happens to the saga.
+    """
     run_fails, undo_fails = sagas.Saga("run"), sagas.Saga("undo")
     gate = asyncio.Event()
 
@@ -243,8 +249,8 @@ def test_what_if_a_step_has_failed_permanently(tmp_path: pathlib.Path) -> None:
                     what_if.describe_failure(view("run"), "hotel")
                     == "It would be stuck, because of visa"
                 )
-                told = what_if.of(view("undo"), done="hotel").plan
-                assert (told.cost, told.choices[0].decision) == (10, "stands")
+                supposed = what_if.of(view("undo"), done="hotel").plan
+                assert (supposed.cost, supposed.choices[0].decision) == (10, "stands")
                 await store.complete("run", "hotel", 1)
                 for key in ("run", "undo"):
                     await has(key, "hotel", "undoing")
@@ -252,7 +258,7 @@ def test_what_if_a_step_has_failed_permanently(tmp_path: pathlib.Path) -> None:
                 ends = [await store.wait(key) for key in ("run", "undo")]
                 assert [end.phase for end in ends] == ["stuck", "recovered"]
                 assert ends[1].states == {"take": "undo_failed", "car": "failed", "hotel": "undone"}
-                assert ends[1].cost == told.cost
+                assert ends[1].cost == supposed.cost
             finally:
                 looks.close()
 

@@ -1,4 +1,4 @@
-"""Several nodes over one database: what is owned, taken over, handed over and fenced."""
+"""Several nodes over one database: ownership, takeover, handover and fencing."""
 
 from __future__ import annotations
 
@@ -37,7 +37,10 @@ def pair(
     name: str = "pair",
     tokens: list[tuple[str, str]] | None = None,
 ) -> sagas.Saga:
-    """Two steps; the second waits for a gate, and each call of it is noted, with its token."""
+    """Return a saga of two steps.
+
+    The second waits for a gate, and each call of it is noted, with its token.
+    """
     pair = sagas.Saga(name)
 
     @pair.step
@@ -94,7 +97,7 @@ def node(
     lease: float = 2.0,
     seconds: float = 3600,
 ) -> Iterator[subprocess.Popen[str]]:
-    """A node in a process of its own, with sagas whose second step waits."""
+    """Return a node in its own process, with sagas whose second step waits."""
     file = path / f"{name}.py"
     file.write_text(
         textwrap.dedent(NODE.format(url=url, name=name, count=count, lease=lease, seconds=seconds))
@@ -114,24 +117,24 @@ def node(
 
 
 async def is_open(process: subprocess.Popen[str], called: int = 0) -> dict[str, str]:
-    """Returns once it has started its sagas, and so many second steps of them run: gives the tokens of those."""
+    """Wait until it has started its sagas, and `called` second steps run; return their tokens."""
     assert process.stdout
     opened, tokens = False, dict[str, str]()
     while line := await asyncio.to_thread(process.stdout.readline):
-        word, *told = line.split()
+        word, *fields = line.split()
         if word == "called":
-            tokens[told[0]] = told[1]
+            tokens[fields[0]] = fields[1]
         opened = opened or word == "open"
         if opened and len(tokens) >= called:
             return tokens
     raise AssertionError("it ended")
 
 
-# -- keys ------------------------------------------------------------------------------------------------------------
+# -- keys
 
 
 def test_a_key_is_unique_over_all_nodes(url: str) -> None:
-    """Three nodes start the same keys at once: each is there once, and all three are told of its end."""
+    """Three nodes start the same keys at once: each saga exists once, and all three get its end."""
     kind = pair()
 
     async def main() -> None:
@@ -153,8 +156,8 @@ def test_a_key_is_unique_over_all_nodes(url: str) -> None:
     assert set(kept.sagas) == {f"k{number}" for number in range(60)}
 
 
-def test_who_waits_elsewhere_hears_of_the_end(url: str) -> None:
-    """`wait`, `abort` and `finish` at a node that does not have the saga."""
+def test_a_caller_at_another_node_gets_the_end(url: str) -> None:
+    """`wait`, `abort` and `finish` work at a node that does not have the saga."""
     gate = asyncio.Event()
     kind = pair(gate)
     signed = sagas.Saga("signed")
@@ -184,7 +187,7 @@ def test_who_waits_elsewhere_hears_of_the_end(url: str) -> None:
     run(main())
 
 
-# -- takeover ----------------------------------------------------------------------------------------------------------
+# -- takeover
 
 
 def test_a_killed_nodes_sagas_go_on(tmp_path: pathlib.Path, url: str) -> None:
@@ -210,7 +213,10 @@ def test_a_killed_nodes_sagas_go_on(tmp_path: pathlib.Path, url: str) -> None:
 
 
 def test_a_node_that_slept_past_its_lease_writes_nothing(tmp_path: pathlib.Path, url: str) -> None:
-    """It is stopped while its steps run; another node ends them; when it goes on, its results are not recorded."""
+    """It is stopped while its steps run; another node ends them.
+
+    When it continues, its results are not recorded.
+    """
 
     async def main() -> None:
         with node(tmp_path, url, "sleeper", 5, lease=1.5, seconds=1.0) as process:
@@ -230,18 +236,20 @@ def test_a_node_that_slept_past_its_lease_writes_nothing(tmp_path: pathlib.Path,
                 assert {
                     key: row for key, row in after.sagas.items() if key != "after"
                 } == before.sagas
-                assert all(said.startswith("yes") for said in (await store.audit()).values())
+                assert all(verdict.startswith("yes") for verdict in (await store.audit()).values())
 
     run(main())
 
 
 def pair_of(store: sagas.Store) -> sagas.Saga:
-    """The saga that a store was opened with."""
+    """Return the saga that a store was opened with."""
     return next(iter(store._registry.sagas.values()))
 
 
 def test_sigterm_hands_over_at_once(tmp_path: pathlib.Path, url: str) -> None:
-    """Nothing new begins, what runs ends and is kept, and the logs are another node's long before the lease's end."""
+    """No attempt starts, running ones end and are stored, and another node has the logs long before
+    the lease's end.
+    """
     calls: list[str] = []
 
     async def main() -> None:
@@ -260,7 +268,9 @@ def test_sigterm_hands_over_at_once(tmp_path: pathlib.Path, url: str) -> None:
 
 
 def test_an_old_name_has_its_logs_at_once(url: str, tmp_path: pathlib.Path) -> None:
-    """A node that is started again under its name does not wait for the lease of its earlier run."""
+    """A node that is started again under its name does not wait for the lease of its
+    earlier run.
+    """
 
     async def main() -> None:
         with node(tmp_path, url, "web", 3, lease=600) as process:
@@ -279,15 +289,19 @@ def test_an_old_name_has_its_logs_at_once(url: str, tmp_path: pathlib.Path) -> N
 
 
 def test_a_node_that_opens_keeps_its_lease(url: str, tmp_path: pathlib.Path) -> None:
-    """Its context takes longer than a lease: no other node takes the shards that it has just taken."""
-    told, tell = list[str](), lambda event: told.append(event.name)
+    """Its context takes longer than a lease: no other node takes the shards that it has
+    just taken.
+    """
+    event_names, collect = list[str](), lambda event: event_names.append(event.name)
 
     async def main() -> None:
         with node(tmp_path, url, "web", 1, lease=600) as process:
             await is_open(process, called=1)
             process.kill()
             process.wait()
-            async with sagas.open(url, [pair()], node="other", lease=2.0, on_event=tell) as other:
+            async with sagas.open(
+                url, [pair()], node="other", lease=2.0, on_event=collect
+            ) as other:
                 beats = other._coordinator.store.lease  # type: ignore[attr-defined]
 
                 @contextlib.asynccontextmanager
@@ -297,16 +311,16 @@ def test_a_node_that_opens_keeps_its_lease(url: str, tmp_path: pathlib.Path) -> 
                     yield
 
                 async with sagas.open(
-                    url, [pair()], node="web", lease=2.0, context=slow, on_event=tell
+                    url, [pair()], node="web", lease=2.0, context=slow, on_event=collect
                 ) as store:
                     assert (await store.wait("web-0")).ok
 
     run(main())
-    assert not {"lease_expired", "shard_taken", "shard_lost"} & {*told}
+    assert not {"lease_expired", "shard_taken", "shard_lost"} & {*event_names}
 
 
 def test_two_nodes_of_one_name(url: str) -> None:
-    """The second has the first one's logs; both go on, and nothing is done twice by one of them."""
+    """The second has the first one's logs; both continue, and neither does anything twice."""
     gate = asyncio.Event()
     calls: list[list[str]] = [[], []]
     kinds = [pair(gate, calls[0]), pair(gate, calls[1])]
@@ -330,10 +344,12 @@ def test_two_nodes_of_one_name(url: str) -> None:
     assert all(row.phase == "ended" for row in records.read(url).sagas.values())
 
 
-def test_a_log_that_another_wrote_while_its_child_was_let_go(
+def test_a_log_that_another_node_wrote_in_the_meantime(
     url: str, caplog: pytest.LogCaptureFixture
 ) -> None:
-    """A node reports into a log that another has ended meanwhile: it hears that the log is not its own, before it asks its child anything."""
+    """A node reports into a log that another one has ended in the meantime: it finds that the log
+    is not its own, before it asks its engine anything.
+    """
     gates = asyncio.Event(), asyncio.Event()
     calls: list[list[str]] = [[], []]
     kinds = [pair(gate, of) for gate, of in zip(gates, calls)]
@@ -357,7 +373,9 @@ def test_a_log_that_another_wrote_while_its_child_was_let_go(
 
 
 def test_a_log_that_a_node_has_no_functions_for_is_left(url: str) -> None:
-    """It is shown by name, and driven by the node that has them: a deploy that rolls from one program to the next."""
+    """It is listed by name, and driven by the node that has the functions, as in a
+    rolling deploy.
+    """
     gate = asyncio.Event()
     calls: list[str] = []
     old, new = pair(gate, calls), simple(lambda task: 1)
@@ -377,7 +395,9 @@ def test_a_log_that_a_node_has_no_functions_for_is_left(url: str) -> None:
 
 
 def test_a_log_that_was_left_is_judged_again(url: str, caplog: pytest.LogCaptureFixture) -> None:
-    """Another node has ended the sagas whose functions this one lacks: once that node is gone, this one drives the others."""
+    """Another node has ended the sagas whose functions this one lacks: once that node is gone, this
+    one drives the others.
+    """
     gates, calls = {name: asyncio.Event() for name in ("goes", "stays")}, list[str]()
     goes, stays = (pair(gate, calls, name) for name, gate in gates.items())
 
@@ -400,15 +420,18 @@ def test_a_log_that_was_left_is_judged_again(url: str, caplog: pytest.LogCapture
     assert not [one for one in caplog.records if "no node executes" in one.getMessage()]
 
 
-def test_what_no_node_drives_is_told(url: str, caplog: pytest.LogCaptureFixture) -> None:
-    """A node that lacks the functions of open sagas says once which they are and how many, as soon
-    as nobody has driven them for a lease; to find that out it does not give up its own, where a
-    table is locked meanwhile. What was left is forgotten once it is closed."""
-    gate, calls, told = asyncio.Event(), list[str](), list[sagas.Event]()
+def test_sagas_without_a_driving_node_are_reported(
+    url: str, caplog: pytest.LogCaptureFixture
+) -> None:
+    """A node without the functions of open sagas reports once which they are and how many, as soon
+    as no node has driven them for a lease. To find that out it does not give up its own shards,
+    even if a table is locked. The report of a log that was left is dropped once it is closed.
+    """
+    gate, calls, events = asyncio.Event(), list[str](), list[sagas.Event]()
     old, new = pair(gate, calls), simple(lambda task: 1)
     says = (
-        f"/{url.rpartition('/')[2]}: no node executes 1 shard, because none has the functions of their "
-        "open sagas: pair (version 1): 3 sagas in 1 shard. Start a program that has them"
+        f"/{url.rpartition('/')[2]}: no node executes 1 shard, because none has the functions of"
+        " their open sagas: pair (version 1): 3 sagas in 1 shard. Start a program that has them"
     )
 
     def warnings() -> list[str]:
@@ -421,7 +444,7 @@ def test_what_no_node_drives_is_told(url: str, caplog: pytest.LogCaptureFixture)
             for number in range(3):
                 await store.start(old, f"old {number}")
             await until(lambda: len(calls) == 3)
-        async with sagas.open(url, [new], lease=6.0, on_event=told.append) as store:
+        async with sagas.open(url, [new], lease=6.0, on_event=events.append) as store:
             lease = store._coordinator.store.lease  # type: ignore[attr-defined]
             (log,) = lease.left
             with psycopg.connect(url) as stranger:
@@ -444,11 +467,11 @@ def test_what_no_node_drives_is_told(url: str, caplog: pytest.LogCaptureFixture)
             assert len(warnings()) == 1
 
     run(main())
-    assert "lease_expired" not in {event.name for event in told}
+    assert "lease_expired" not in {event.name for event in events}
 
 
 class Nowhere:
-    """A queue of a broker that no worker listens to."""
+    """A queue of a broker without a worker."""
 
     timeout = 0.05
 
@@ -463,7 +486,7 @@ class Nowhere:
 
 
 def test_nothing_is_kept_of_reports_that_another_node_waits_for(url: str) -> None:
-    """Attempts whose messages are out, and such of which nobody knows, go to another node."""
+    """Attempts whose messages are out, and attempts with an unknown outcome, go to another node."""
 
     def kind_of() -> sagas.Saga:
         kind, patient = sagas.Saga("ordered"), Nowhere()
@@ -485,7 +508,7 @@ def test_nothing_is_kept_of_reports_that_another_node_waits_for(url: str) -> Non
             for number in range(3):
                 await store.start(first, f"k{number}")
             waiting = store._coordinator.external._reports
-            await until(lambda: asked_all(store, 3))
+            await until(lambda: all_reported_unknown(store, 3))
             await until(lambda: len(waiting) == 3)
             tokens = {held.attempt_id for held in await store.unknown()}
             async with sagas.open(url, [second], node="same", shutdown_timeout=0.0) as other:
@@ -496,23 +519,23 @@ def test_nothing_is_kept_of_reports_that_another_node_waits_for(url: str) -> Non
     run(main())
 
 
-async def asked_all(store: sagas.Store, count: int) -> bool:
-    """Whether so many attempts are known to be unknown."""
+async def all_reported_unknown(store: sagas.Store, count: int) -> bool:
+    """Return whether `count` attempts are recorded as unknown."""
     return len(await store.unknown()) == count
 
 
-def test_a_lost_connection_is_no_childs_death(postgresql: Server, url: str) -> None:
-    """The server cannot be reached as logs are to be taken up: that is said of the database."""
-    gate, calls, told = asyncio.Event(), list[str](), list[sagas.Event]()
+def test_a_lost_connection_is_not_reported_as_a_dead_engine(postgresql: Server, url: str) -> None:
+    """The server cannot be reached as logs are to be loaded: the error names the database."""
+    gate, calls, events = asyncio.Event(), list[str](), list[sagas.Event]()
     kind = pair(gate, calls)
 
     def not_taken_up() -> int:
-        return sum("is not open yet" in (event.detail or "") for event in told)
+        return sum("is not open yet" in (event.detail or "") for event in events)
 
     async def main() -> None:
         with relaying(postgresql.port) as relay:
-            place = postgresql.url(url.rpartition("/")[2], port=relay.port)
-            async with sagas.open(place, [kind], lease=60, on_event=told.append) as store:
+            location = postgresql.url(url.rpartition("/")[2], port=relay.port)
+            async with sagas.open(location, [kind], lease=60, on_event=events.append) as store:
                 await store.start(kind, "k")
                 await until(lambda: calls)
                 relay.before = 1.0
@@ -523,12 +546,14 @@ def test_a_lost_connection_is_no_childs_death(postgresql: Server, url: str) -> N
                 assert (await store.wait("k")).ok
 
     run(main())
-    assert "engine_died" not in {event.name for event in told}
-    assert "commit_failed" in {event.name for event in told}
+    assert "engine_died" not in {event.name for event in events}
+    assert "commit_failed" in {event.name for event in events}
 
 
 def test_a_rolling_deploy_of_a_changed_definition(url: str) -> None:
-    """Sagas of the old definition go on with the old functions while their node is there, and then by that definition with the new ones."""
+    """Sagas of the old definition continue with the old functions while their node is up, and then
+    by that definition with the new ones.
+    """
     gates = {"stays": asyncio.Event(), "leaves": asyncio.Event()}
     called: list[str] = []
 
@@ -578,20 +603,22 @@ def test_a_rolling_deploy_of_a_changed_definition(url: str) -> None:
 def test_a_large_commit_is_taken_apart_piece_by_piece(
     url: str, monkeypatch: pytest.MonkeyPatch
 ) -> None:
-    """What is more than PostgreSQL takes apart at once goes by the other form of the statement, and is the same."""
+    """A commit with more rows than PostgreSQL can unnest at once uses the other form of the
+    statement, with the same result.
+    """
     monkeypatch.setattr(commit_statement, "MOST", 0)
     kind = simple(lambda task: 1)
 
     async def main() -> None:
         async with sagas.open(url, [kind]) as store:
             assert (await ended(store, kind, "k")).ok
-            assert all(said.startswith("yes") for said in (await store.audit()).values())
+            assert all(verdict.startswith("yes") for verdict in (await store.audit()).values())
 
     run(main())
 
 
 def test_a_lease_is_over_before_its_end() -> None:
-    """A node counts on its own clock, and leaves a tenth for what it began just before."""
+    """A node uses its own clock, and keeps a tenth of the lease as a margin for its last work."""
     lease = node_lease.Lease(None, "n", 10.0, "")  # type: ignore[arg-type]
     for left, held in ((10.0, True), (1.5, True), (0.9, False), (-1.0, False)):
         lease._until = node_lease.now() + left
@@ -599,8 +626,10 @@ def test_a_lease_is_over_before_its_end() -> None:
     assert not lease.fresh
 
 
-def test_no_function_begins_behind_the_lease(url: str) -> None:
-    """A node cannot say that it lives: what it has is kept still, and nothing begins until it has said so and looked at its logs."""
+def test_no_function_starts_after_the_lease(url: str) -> None:
+    """A node cannot renew its lease: its sagas pause, and no call starts until it has renewed it
+    and looked at its logs.
+    """
     gate, calls = asyncio.Event(), list[str]()
     kind = sagas.Saga("pair")
 
@@ -635,16 +664,24 @@ def test_no_function_begins_behind_the_lease(url: str) -> None:
     assert calls == ["a", "b"]
 
 
-OTHER = "INSERT INTO sagas.nodes(node, name, version, since, lease) VALUES ('other', 'other', '', now(), now() + interval '1 hour')"
-TAKEN = "UPDATE sagas.shards SET owner = 'other', epoch = epoch + 1 WHERE shard = (SELECT id / 1000 FROM sagas.sagas WHERE key = 'taken') RETURNING name"
+OTHER = (
+    "INSERT INTO sagas.nodes(node, name, version, since, lease) VALUES ('other', 'other', '',"
+    " now(), now() + interval '1 hour')"
+)
+TAKEN = (
+    "UPDATE sagas.shards SET owner = 'other', epoch = epoch + 1 WHERE shard = (SELECT id / 1000"
+    " FROM sagas.sagas WHERE key = 'taken') RETURNING name"
+)
 
 
-def test_behind_its_lease_a_node_keeps_what_is_still_its_own(
+def test_a_node_past_its_lease_keeps_its_own_logs(
     url: str, monkeypatch: pytest.MonkeyPatch
 ) -> None:
-    """Another node has taken one of its two logs meanwhile: it ends the children of both, lets go of that one, and goes on with the other."""
+    """Another node has taken one of its two logs in the meantime: it ends the engines of both,
+    releases that one, and continues with the other.
+    """
     monkeypatch.setattr("sagas.definition.shelf.SHARD_CAPACITY", 1)
-    gate, calls, said = asyncio.Event(), list[str](), list[tuple[str, str | None]]()
+    gate, calls, events = asyncio.Event(), list[str](), list[tuple[str, str | None]]()
     kind = pair(gate, calls)
 
     async def main() -> None:
@@ -653,7 +690,7 @@ def test_behind_its_lease_a_node_keeps_what_is_still_its_own(
             [kind],
             lease=1.5,
             shutdown_timeout=0.0,
-            on_event=lambda event: said.append((event.name, event.detail)),
+            on_event=lambda event: events.append((event.name, event.detail)),
         ) as store:
             for key in ("kept", "taken"):
                 await store.start(kind, key)
@@ -666,11 +703,11 @@ def test_behind_its_lease_a_node_keeps_what_is_still_its_own(
                 await until(lambda: not inside.store.holds())
                 stranger.execute(OTHER)
                 taken = stranger.execute(TAKEN).fetchall()
-            await until(lambda: "shard_lost" in dict(said))
-            assert [(detail,) for name, detail in said if name == "shard_lost"] == taken and (
+            await until(lambda: "shard_lost" in dict(events))
+            assert [(detail,) for name, detail in events if name == "shard_lost"] == taken and (
                 "lease_expired",
                 None,
-            ) in said
+            ) in events
             assert len(before) == 2
             await until(lambda: all(child and child.buried.done() for child in before))
             gate.set()
@@ -688,12 +725,18 @@ def test_behind_its_lease_a_node_keeps_what_is_still_its_own(
 
 
 def test_new_sagas_go_to_a_log_of_the_nodes_own(url: str) -> None:
-    """Those of two nodes go apart; and where one has taken over what the other had, its new ones are still in logs that it owns."""
+    """Those of two nodes are in separate logs.
+
+    If one has taken over the logs of the other, its new ones are still in its own logs.
+    """
     gate = asyncio.Event()
     kind = pair(gate)
 
     def owners(*keys: str) -> set[str]:
-        text = "SELECT owner FROM sagas.shards JOIN sagas.sagas ON shard = id / 1000 WHERE key = ANY(%s)"
+        text = (
+            "SELECT owner FROM sagas.shards JOIN sagas.sagas ON shard = id / 1000 WHERE key ="
+            " ANY(%s)"
+        )
         with psycopg.connect(url) as link:
             return {str(owner) for (owner,) in link.execute(text, (list(keys),)).fetchall()}
 
@@ -729,8 +772,8 @@ def test_new_sagas_go_to_a_log_of_the_nodes_own(url: str) -> None:
     run(main())
 
 
-def test_takeover_in_lots_goes_past_a_locked_log(url: str, monkeypatch: pytest.MonkeyPatch) -> None:
-    """More logs than a lot; one that somebody else is at is left, and taken later."""
+def test_takeover_in_batches_skips_a_locked_log(url: str, monkeypatch: pytest.MonkeyPatch) -> None:
+    """There are more logs than a batch takes; a locked one is left, and taken later."""
     monkeypatch.setattr("sagas.definition.shelf.SHARD_CAPACITY", 1)
     calls: list[str] = []
 
@@ -746,7 +789,8 @@ def test_takeover_in_lots_goes_past_a_locked_log(url: str, monkeypatch: pytest.M
         calls.clear()
         with psycopg.connect(url) as stranger:
             row = stranger.execute(
-                "SELECT key FROM sagas.sagas WHERE id / 1000 = (SELECT min(shard) FROM sagas.shards)"
+                "SELECT key FROM sagas.sagas WHERE id / 1000 = (SELECT min(shard) FROM"
+                " sagas.shards)"
             ).fetchone()
             stranger.execute("SELECT 1 FROM sagas.shards ORDER BY shard LIMIT 1 FOR UPDATE")
             assert row
@@ -760,10 +804,10 @@ def test_takeover_in_lots_goes_past_a_locked_log(url: str, monkeypatch: pytest.M
     assert Counter(calls) == Counter(f"k{number}" for number in range(60))
 
 
-def test_a_node_says_between_two_lots_that_it_lives(
-    url: str, monkeypatch: pytest.MonkeyPatch
-) -> None:
-    """It takes over the shards of another, of which it has the functions of some: one lot for each beat."""
+def test_a_node_renews_its_lease_between_batches(url: str, monkeypatch: pytest.MonkeyPatch) -> None:
+    """It takes over the shards of another node, and has the functions of some: one batch for each
+    heartbeat.
+    """
     monkeypatch.setattr("sagas.definition.shelf.SHARD_CAPACITY", 1)
     monkeypatch.setattr(
         node_lease,
@@ -776,9 +820,9 @@ def test_a_node_says_between_two_lots_that_it_lives(
     async def main() -> None:
         take = node_lease.Lease.take
 
-        async def noted(self: node_lease.Lease, *words: Any) -> Any:
+        async def noted(self: node_lease.Lease, *arguments: Any) -> Any:
             turns.append(self._turn)
-            return await take(self, *words)
+            return await take(self, *arguments)
 
         async with sagas.open(url, [mine]) as store:
             async with sagas.open(url, [mine, others], shutdown_timeout=0.0) as both:
@@ -792,20 +836,22 @@ def test_a_node_says_between_two_lots_that_it_lives(
                 end.ok
                 for end in await asyncio.gather(*(store.wait(f"k{number}") for number in range(3)))
             )
-            await until(lambda: len(store._coordinator.store.lease.left) == 3)  # type: ignore[attr-defined]
+            lease = store._coordinator.store.lease  # type: ignore[attr-defined]
+            await until(lambda: len(lease.left) == 3)
 
     run(main())
     assert len(turns) >= 6 and len({*turns}) == len(turns)
 
 
 WAITS = """
-CREATE FUNCTION sagas.waits() RETURNS boolean LANGUAGE plpgsql AS 'BEGIN PERFORM pg_advisory_xact_lock(1); RETURN true; END'
+CREATE FUNCTION sagas.waits() RETURNS boolean LANGUAGE plpgsql AS
+    'BEGIN PERFORM pg_advisory_xact_lock(1); RETURN true; END'
 """
 
 
 @contextlib.contextmanager
 def as_it_takes(url: str, patch: pytest.MonkeyPatch) -> Iterator[psycopg.Connection[Any]]:
-    """Who takes a log over has begun to look, and goes on once the lock of this connection is given back."""
+    """Wait until a takeover has started; it continues once this connection's lock is released."""
     patch.setattr(
         node_lease,
         "TAKE",
@@ -821,7 +867,9 @@ def as_it_takes(url: str, patch: pytest.MonkeyPatch) -> Iterator[psycopg.Connect
 def test_the_last_commit_before_a_takeover_counts(
     url: str, monkeypatch: pytest.MonkeyPatch, lacks: bool
 ) -> None:
-    """A node that is taken for dead opens a saga while its log, where none was open, is taken: who has it then drives that too, if it has the functions."""
+    """A node that is taken for dead opens a saga while its log, without open sagas, is taken over:
+    the new owner then drives that one too, if it has the functions.
+    """
     gate, calls = asyncio.Event(), list[str]()
     before, now = pair(gate, calls), pair(calls=calls)
     other = pair(calls=calls, name="other")
@@ -854,11 +902,17 @@ def test_the_last_commit_before_a_takeover_counts(
 
 @pytest.mark.parametrize("is_born", [True, False], ids=["into a log", "with its log"])
 def test_a_start_that_comes_late(postgresql: Server, url: str, is_born: bool) -> None:
-    """Its statement waits at the server while its connection is cut. Who started it hears that this is not known, and starts it again: it is there once, and
-    driven, whether the first statement is done behind that or not."""
+    """Its statement waits at the server while its connection is cut.
+
+    The caller gets an unknown outcome, and starts it again: the saga exists once, and is driven,
+    whether the first statement is done later or not.
+    """
     calls: list[str] = []
     kind = simple(lambda task: calls.append(task.key))
-    waits = "SELECT pid FROM pg_stat_activity WHERE datname = current_database() AND wait_event_type = 'Lock'"
+    waits = (
+        "SELECT pid FROM pg_stat_activity WHERE datname = current_database() AND wait_event_type ="
+        " 'Lock'"
+    )
     name = url.rpartition("/")[2]
 
     async def main() -> None:
@@ -872,10 +926,12 @@ def test_a_start_that_comes_late(postgresql: Server, url: str, is_born: bool) ->
                 assert inside
                 if not is_born:
                     inside.shards._placement.current.clear()
-                with psycopg.connect(url) as stranger, psycopg.connect(url, autocommit=True) as eye:
+                with psycopg.connect(url) as stranger, psycopg.connect(
+                    url, autocommit=True
+                ) as observer:
                     stranger.execute("LOCK TABLE sagas.sagas IN EXCLUSIVE MODE")
                     start = asyncio.create_task(store.start(kind, "late"))
-                    ((late,),) = await until(lambda: eye.execute(waits).fetchall())
+                    ((late,),) = await until(lambda: observer.execute(waits).fetchall())
                     relay.cut()
                     with pytest.raises(
                         sagas.StoreUnavailable, match="with the same key|Nothing was started"
@@ -884,13 +940,13 @@ def test_a_start_that_comes_late(postgresql: Server, url: str, is_born: bool) ->
                     again = asyncio.create_task(surely_ended(store, kind, "late"))
                     stranger.rollback()
                     await until(
-                        lambda: not eye.execute(
+                        lambda: not observer.execute(
                             "SELECT 1 FROM pg_stat_activity WHERE pid = %s", (late,)
                         ).fetchall()
                     )
                     assert (await asyncio.wait_for(again, 60)).ok
                     await until(
-                        lambda: eye.execute(
+                        lambda: observer.execute(
                             "SELECT count(*), count(phase) FROM sagas.sagas"
                         ).fetchone()
                         == (3, 3)
@@ -898,27 +954,29 @@ def test_a_start_that_comes_late(postgresql: Server, url: str, is_born: bool) ->
                     owners = (
                         "SELECT count(*) FROM sagas.shards WHERE closed = 0 AND shard <> ALL(%s)"
                     )
-                    assert eye.execute(owners, (inside.logs(),)).fetchone() == (0,)
-                assert all(said.startswith("yes") for said in (await store.audit()).values())
+                    assert observer.execute(owners, (inside.logs(),)).fetchone() == (0,)
+                assert all(verdict.startswith("yes") for verdict in (await store.audit()).values())
 
     run(main())
     assert sorted(set(calls)) == ["k0", "k1", "late"]
 
 
 def test_a_log_that_could_not_be_given_back(url: str, monkeypatch: pytest.MonkeyPatch) -> None:
-    """A node lacks a function of a log that it just took, and the server does not answer as it gives it back: it is given back the next time."""
+    """A node lacks a function of a log that it just took, and the server does not answer as it
+    releases it: it is released the next time.
+    """
     ask, is_lost = connections.Asker.ask, True
 
-    async def loses(self: connections.Asker, text: str, **words: Any) -> list[Any]:
+    async def loses(self: connections.Asker, text: str, **options: Any) -> list[Any]:
         nonlocal is_lost
         if text == node_lease.LEAVE and is_lost:
             is_lost = False
             raise sagas.StoreUnavailable("it does not answer")
-        return await ask(self, text, **words)
+        return await ask(self, text, **options)
 
     async def main() -> None:
         gate, calls = asyncio.Event(), list[str]()
-        kind, said = pair(gate, calls), iter([None, "it lacks b", "it lacks b"])
+        kind, reasons = pair(gate, calls), iter([None, "it lacks b", "it lacks b"])
         async with sagas.open(url, [kind], shutdown_timeout=0.0) as store:
             await store.start(kind, "k")
             await until(lambda: calls)
@@ -928,18 +986,21 @@ def test_a_log_that_could_not_be_given_back(url: str, monkeypatch: pytest.Monkey
         lease = node_lease.Lease(asker, "n", 10.0, "")
         await lease.begin()
         with pytest.raises(sagas.StoreUnavailable):
-            await lease.take(lambda *_: next(said), [])
+            await lease.take(lambda *_: next(reasons), [])
         owner = "SELECT owner FROM sagas.shards WHERE closed = 0"
         assert await asker.ask(owner) == [(lease.node,)] and not lease.left
-        assert await lease.take(lambda *_: next(said), []) == []
+        assert await lease.take(lambda *_: next(reasons), []) == []
         assert await asker.ask(owner) == [(None,)] and lease.left
         await asker.close()
 
     run(main())
 
 
-def test_what_happens_is_told(url: str, monkeypatch: pytest.MonkeyPatch) -> None:
-    """A client's start that is taken, an answer, an end: whoever waits hears of it, and would look by himself minutes later."""
+def test_notifications_of_events(url: str, monkeypatch: pytest.MonkeyPatch) -> None:
+    """A client's start that is taken, a reply, an end: a waiting caller is notified.
+
+    Without that it would look only minutes later.
+    """
     monkeypatch.setattr(notifications, "FIRST_LOOK", 600.0)
     monkeypatch.setattr(notifications, "MOST_LOOK", 600.0)
     gate = asyncio.Event()
@@ -967,35 +1028,42 @@ def test_what_happens_is_told(url: str, monkeypatch: pytest.MonkeyPatch) -> None
     run(main())
 
 
-def test_what_was_heard_before_a_connection_broke_counts_no_more(url: str) -> None:
-    """Another server may have taken over, at which a saga is open that had ended: who waits for it pauses between two looks."""
+def test_notifications_before_a_reconnect_do_not_count(url: str) -> None:
+    """Another server may have taken over, at which a saga is open that had ended: a caller that
+    waits for it pauses between two looks.
+    """
 
     async def main() -> None:
-        looks, told = asyncio.Queue[str](), asyncio.Event()
-        news = notifications.Notifications(url, looks.put_nowait)
+        looks, sent = asyncio.Queue[str](), asyncio.Event()
+        listener = notifications.Notifications(url, looks.put_nowait)
         await looks.get()
-        news.say(["ended 17", "look"], told.set)
+        listener.say(["ended 17", "look"], sent.set)
         assert await looks.get() == "look"
-        await asyncio.wait_for(news.of(17, 16), 5)
+        await asyncio.wait_for(listener.of(17, 16), 5)
         with psycopg.connect(url, autocommit=True) as stranger:
             stranger.execute(
-                "SELECT pg_terminate_backend(pid) FROM pg_stat_activity WHERE datname = current_database() AND pid <> pg_backend_pid()"
+                "SELECT pg_terminate_backend(pid) FROM pg_stat_activity WHERE datname ="
+                " current_database() AND pid <> pg_backend_pid()"
             )
         assert await looks.get() == ""
-        waiting = asyncio.create_task(news.of(17, 16))
+        waiting = asyncio.create_task(listener.of(17, 16))
         await asyncio.sleep(0.1)
         assert not waiting.done()
-        news.say(["ended 17"], told.set)
+        listener.say(["ended 17"], sent.set)
         await waiting
-        await news.close()
+        await listener.close()
 
     run(main())
 
 
-def test_an_end_is_heard_of_without_a_word(url: str, monkeypatch: pytest.MonkeyPatch) -> None:
-    """What the database tells may be lost: whoever waits looks by himself, at intervals that grow."""
+def test_an_end_is_noticed_without_a_notification(
+    url: str, monkeypatch: pytest.MonkeyPatch
+) -> None:
+    """A notification of the database may be lost: waiting callers look by themselves, at growing
+    intervals.
+    """
     monkeypatch.setattr(
-        "sagas.storage.postgresql.announcer.Announcer.say", lambda self, words: None
+        "sagas.storage.postgresql.announcer.Announcer.say", lambda self, messages: None
     )
     monkeypatch.setattr(notifications, "FIRST_LOOK", 0.01)
     gate = asyncio.Event()
@@ -1015,20 +1083,21 @@ def test_an_end_is_heard_of_without_a_word(url: str, monkeypatch: pytest.MonkeyP
             await one.start(kind, "k")
             waiting = asyncio.create_task(other.wait("k"))
             await asyncio.sleep(1.0)
-            assert (
-                turns == [*range(len(turns))] and 3 <= len(turns) <= 10
-            )  # each second one, it would be a hundred
+            # with one look per second, it would be a hundred
+            assert turns == [*range(len(turns))] and 3 <= len(turns) <= 10
             gate.set()
             assert (await waiting).ok
 
     run(main())
 
 
-# -- the server ------------------------------------------------------------------------------------------------------
+# -- the server
 
 
 def test_the_server_is_stopped_and_started(postgresql: Server, tmp_path: pathlib.Path) -> None:
-    """Steps that run meanwhile keep their results until it is there again; no function is called twice by a node that lived."""
+    """Steps that run then keep their results until it is back; a node that was not killed calls no
+    function twice.
+    """
     from server import serving
 
     calls: Counter[str] = Counter()
@@ -1056,53 +1125,59 @@ def test_the_server_is_stopped_and_started(postgresql: Server, tmp_path: pathlib
 
 
 def test_a_start_without_a_server_is_refused(url: str, monkeypatch: pytest.MonkeyPatch) -> None:
-    """No number of a log is at hand, and none can be asked for: it hears so, as who finds the server gone; nobody waits for ever."""
+    """No number of a log is reserved, and none can be requested: the start fails as it does without
+    a server, and no caller waits forever.
+    """
     monkeypatch.setattr("sagas.definition.shelf.SHARD_CAPACITY", 1)
     kind = pair()
 
     async def main() -> None:
         async with sagas.open(url, [kind]) as store:
-            told = await asyncio.gather(
+            results = await asyncio.gather(
                 *(ended(store, kind, f"k{number}") for number in range(200)), return_exceptions=True
             )
             refused = [
-                number for number, one in enumerate(told) if isinstance(one, sagas.StoreUnavailable)
+                number
+                for number, one in enumerate(results)
+                if isinstance(one, sagas.StoreUnavailable)
             ]
             assert (
                 refused
-                and len(refused) + sum(isinstance(one, sagas.SagaResult) for one in told) == 200
+                and len(refused) + sum(isinstance(one, sagas.SagaResult) for one in results) == 200
             )
             assert (await surely_ended(store, kind, f"k{refused[0]}")).ok
 
     run(main())
 
 
-def test_who_looks_for_a_key_hears_that_the_store_is_closed(
+def test_a_look_for_a_key_ends_when_the_store_closes(
     postgresql: Server, url: str, monkeypatch: pytest.MonkeyPatch
 ) -> None:
-    """The server has gone silent: who waits for its answer does not wait longer than the store is open."""
+    """The server does not respond: a caller that waits for it does not wait longer than the store
+    is open.
+    """
     kind, silent = pair(), threading.Event()
 
     async def main() -> None:
         with relaying(postgresql.port) as relay:
-            place = postgresql.url(url.rpartition("/")[2], port=relay.port)
-            async with sagas.open(place, [kind]) as store:
+            location = postgresql.url(url.rpartition("/")[2], port=relay.port)
+            async with sagas.open(location, [kind]) as store:
                 keys = store._coordinator.store._keys  # type: ignore[attr-defined]
                 relay.cut()
                 await until(lambda: not keys._connection.is_open)
                 relay._loop.call_soon_threadsafe(silent.wait)
-                asked = [asyncio.create_task(store.get("k"))]
+                requests = [asyncio.create_task(store.get("k"))]
                 await until(lambda: keys.pending_lookups == 1)
-                asked += [
+                requests += [
                     asyncio.create_task(work) for work in (store.get("k"), store.wait("other"))
                 ]
                 await until(lambda: keys.pending_lookups == 3)
                 monkeypatch.setattr(connections, "CONNECT", 0.1)
                 closing = asyncio.create_task(store.close())
-                await asyncio.wait(asked, timeout=10)
+                await asyncio.wait(requests, timeout=10)
                 silent.set()
                 await closing
-                assert {type(one.exception()) if one.done() else None for one in asked} == {
+                assert {type(one.exception()) if one.done() else None for one in requests} == {
                     sagas.Closed
                 }
 
@@ -1110,7 +1185,10 @@ def test_who_looks_for_a_key_hears_that_the_store_is_closed(
 
 
 def test_the_answer_to_a_withdrawal_is_lost(postgresql: Server, url: str) -> None:
-    """What no worker has is withdrawn as its saga is aborted. The connection breaks before the answer: it is asked again, and the saga ends."""
+    """A task that no worker has is withdrawn as its saga is aborted.
+
+    The connection breaks before the reply: the withdrawal is repeated, and the saga ends.
+    """
     kind = sagas.Saga("outside")
     kind.step(name="a", external=True)
 
@@ -1135,13 +1213,15 @@ def test_the_answer_to_a_withdrawal_is_lost(postgresql: Server, url: str) -> Non
 def test_a_node_is_gone_in_the_middle_of_a_claim(
     postgresql: Server, url: str, monkeypatch: pytest.MonkeyPatch
 ) -> None:
-    """The server does not know it, as where a machine loses its power: others wait no longer for what that node has locked than a statement may take."""
-    kind, words = sagas.Saga("outside"), [("outside", "a", "run")]
+    """The server does not notice it, as when a machine loses its power: others wait for its locks
+    no longer than a statement may take.
+    """
+    kind, task_names = sagas.Saga("outside"), [("outside", "a", "run")]
     kind.step(name="a", external=True, concurrency=1)
 
     async def claimed(store: sagas.Store) -> bool:
         with contextlib.suppress(sagas.StoreUnavailable):
-            return bool(await store.workers.claim(words))
+            return bool(await store.workers.claim(task_names))
         return False
 
     async def main() -> None:
@@ -1161,7 +1241,7 @@ def test_a_node_is_gone_in_the_middle_of_a_claim(
                         await until(
                             lambda: link.execute("SELECT 1 FROM sagas.external_attempts").fetchall()
                         )
-                    relay.still = b"candidates AS MATERIALIZED"  # behind the lock
+                    relay.still = b"candidates AS MATERIALIZED"  # after the lock
                     claiming = asyncio.create_task(claimed(gone))
                     await until(relay.stands.is_set)
                     await until(lambda: claimed(store), 15)
@@ -1185,7 +1265,8 @@ def test_sessions_are_ended_by_the_server(url: str) -> None:
                 for _ in range(4):
                     await asyncio.sleep(0.05)
                     stranger.execute(
-                        "SELECT pg_terminate_backend(pid) FROM pg_stat_activity WHERE datname = current_database() AND pid <> pg_backend_pid()"
+                        "SELECT pg_terminate_backend(pid) FROM pg_stat_activity WHERE datname ="
+                        " current_database() AND pid <> pg_backend_pid()"
                     )
                 assert all(end.ok for end in await asyncio.gather(*work))
 
@@ -1194,7 +1275,9 @@ def test_sessions_are_ended_by_the_server(url: str) -> None:
 
 
 def test_a_stranger_locks_a_table(url: str) -> None:
-    """For ten seconds: nothing is lost while nobody can write; a lease that runs out meanwhile costs nothing but time."""
+    """It lasts ten seconds: nothing is lost while no row can be written; a lease that expires in
+    the meantime costs only time.
+    """
     kind = pair()
 
     async def main() -> None:
@@ -1212,7 +1295,7 @@ def test_a_stranger_locks_a_table(url: str) -> None:
 
 
 def starved() -> float:
-    """For how many seconds this process's threads were ready and had no processor."""
+    """Return for how many seconds this process's threads were ready and had no processor."""
     total = 0
     for thread in pathlib.Path("/proc/self/task").iterdir():
         with contextlib.suppress(OSError):
@@ -1221,7 +1304,9 @@ def starved() -> float:
 
 
 class Turns:
-    """How long the event loop's longest turn was, without what others took of the processors."""
+    """The longest turn of the event loop, without the time that other processes had the
+    processors.
+    """
 
     def __init__(self) -> None:
         self.longest = 0.0
@@ -1242,7 +1327,7 @@ class Turns:
 
 
 def waits_in(url: str) -> bool:
-    """Whether somebody waits for a lock in this database."""
+    """Return whether a statement waits for a lock in this database."""
     text = (
         "SELECT 1 FROM pg_stat_activity "
         "WHERE datname = current_database() AND wait_event_type = 'Lock'"
@@ -1264,24 +1349,29 @@ READS: dict[str, Callable[[sagas.Store], Awaitable[Any]]] = {
     "log of a run": lambda store: sagas.Run(store, "k").log(),
     "plan of a run": lambda store: sagas.Run(store, "k").plan(),
 }
-"""All that reads."""
+"""All reads."""
 FREE = {"attempts": ["audit"], "suspensions": ["audit", "draw"]}
-"""What does not wait for a locked table, and starts a program, which takes the loop a while."""
+"""A read that does not wait for a locked table, and starts a program, which blocks the loop for a
+while.
+"""
 
 
 @pytest.mark.parametrize("table", ["sagas", "event_log", "attempts", "suspensions", "definitions"])
-def test_who_reads_holds_up_nobody(url: str, table: str) -> None:
-    """A stranger has a table for longer than a lease: the loop goes on while the store is asked for
-    whatever is in it, the node keeps its lease, and each answer comes once the table is free."""
-    kind, told = pair(), list[str]()
+def test_reads_do_not_block_the_loop(url: str, table: str) -> None:
+    """Another program locks a table for longer than a lease.
+
+    The loop continues while the store reads, the node keeps its lease, and each reply comes once
+    the table is free.
+    """
+    kind, event_names = pair(), list[str]()
 
     async def main() -> None:
         async with sagas.open(url, [kind], node="other") as other:
             assert (await ended(other, kind, "other's")).ok
-        lease, told_of = 1.5, lambda event: told.append(event.name)
-        async with sagas.open(url, [kind], lease=lease, on_event=told_of) as store:
+        lease, collect = 1.5, lambda event: event_names.append(event.name)
+        async with sagas.open(url, [kind], lease=lease, on_event=collect) as store:
             assert (await ended(store, kind, "k")).ok
-            await until(lambda: "shard_closed" in told)
+            await until(lambda: "shard_closed" in event_names)
             node = store._coordinator.store.lease  # type: ignore[attr-defined]
             with psycopg.connect(url) as stranger:
                 stranger.execute(f"LOCK TABLE sagas.{table} IN ACCESS EXCLUSIVE MODE")
@@ -1295,19 +1385,20 @@ def test_who_reads_holds_up_nobody(url: str, table: str) -> None:
                     assert store.holds() and not answers.done()
                 assert turns.longest < 1.0
                 stranger.rollback()
-                found = dict(zip(reads, await answers))
-        assert found["get"] and {one.key for one in found["list"]} == {"k", "other's"}
-        assert found["log"] == found["log of a run"] and found["wait"].ok
-        assert found["plan"] is found["plan of a run"] is None
-        assert found["stuck"] == found["unknown"] == []
+                results = dict(zip(reads, await answers))
+        assert results["get"] and {one.key for one in results["list"]} == {"k", "other's"}
+        assert results["log"] == results["log of a run"] and results["wait"].ok
+        assert results["plan"] is results["plan of a run"] is None
+        assert results["stuck"] == results["unknown"] == []
 
     run(main())
-    assert "lease_expired" not in told and "commit_failed" not in told
+    assert "lease_expired" not in event_names and "commit_failed" not in event_names
 
 
 def test_the_ends_of_many_sagas_at_once(postgresql: Server, url: str) -> None:
-    """They ended at another node: each who waits has the end of his own, also where connections are
-    cut meanwhile; a saga that is let go then is gone."""
+    """They ended at another node: each waiting caller gets the end of its own, also if connections
+    are cut in the meantime; a saga that is deleted then is gone.
+    """
     kind = simple(echo)
     keys = [f"k{number}" for number in range(600)]
 
@@ -1315,8 +1406,8 @@ def test_the_ends_of_many_sagas_at_once(postgresql: Server, url: str) -> None:
         async with sagas.open(url, [kind], node="other") as other:
             await asyncio.gather(*(ended(other, kind, key, {"of": key}) for key in keys))
         with relaying(postgresql.port, 3) as relay:
-            place = postgresql.url(url.rpartition("/")[2], port=relay.port)
-            async with sagas.open(place, [kind], lease=60) as store:
+            location = postgresql.url(url.rpartition("/")[2], port=relay.port)
+            async with sagas.open(location, [kind], lease=60) as store:
                 for chance in (0.0, 0.2):
                     relay.before = relay.after = chance
                     ends = await asyncio.gather(*(store.wait(key) for key in keys))
@@ -1326,9 +1417,9 @@ def test_the_ends_of_many_sagas_at_once(postgresql: Server, url: str) -> None:
                 assert row
                 with pytest.raises(sagas.NoSuchSaga, match="'k0' was deleted meanwhile"):
                     await store._coordinator.store.known(row._replace(id=row.id + 990))
-                asked = [asyncio.ensure_future(store.wait(key)) for key in keys]
+                waits = [asyncio.ensure_future(store.wait(key)) for key in keys]
                 await asyncio.sleep(0)
-            over = await asyncio.wait_for(asyncio.gather(*asked, return_exceptions=True), 60)
+            over = await asyncio.wait_for(asyncio.gather(*waits, return_exceptions=True), 60)
             assert {type(one) for one in over} <= {
                 sagas.SagaResult,
                 sagas.Closed,
@@ -1339,17 +1430,19 @@ def test_the_ends_of_many_sagas_at_once(postgresql: Server, url: str) -> None:
 
 
 async def echo(task: Task) -> Any:
-    """What it is given."""
+    """Return the input of the step."""
     return task.input
 
 
-def test_an_audit_in_the_background_holds_up_nobody(url: str) -> None:
-    """A settled log is to be audited, and a stranger has the table of its lines for longer than a
-    lease: the loop goes on, the lease is kept, and the log is closed once the table is free."""
-    kind, told = pair(), list[str]()
+def test_an_audit_in_the_background_blocks_nothing(url: str) -> None:
+    """A finished log is to be audited, and another program locks the table of its lines for longer
+    than a lease: the loop continues, the lease is kept, and the log is closed once the table is
+    free.
+    """
+    kind, event_names = pair(), list[str]()
 
-    def tell(event: sagas.Event) -> None:
-        told.append(event.name)
+    def collect(event: sagas.Event) -> None:
+        event_names.append(event.name)
 
     async def main() -> None:
         async with sagas.open(url, [kind]) as store:
@@ -1358,24 +1451,26 @@ def test_an_audit_in_the_background_holds_up_nobody(url: str) -> None:
         with psycopg.connect(url) as stranger:
             stranger.execute("LOCK TABLE sagas.event_log IN ACCESS EXCLUSIVE MODE")
             async with Turns() as turns:
-                async with sagas.open(url, [kind], lease=lease, on_event=tell) as store:
+                async with sagas.open(url, [kind], lease=lease, on_event=collect) as store:
                     node = store._coordinator.store.lease  # type: ignore[attr-defined]
                     await until(lambda: asyncio.to_thread(waits_in, url))
                     since = node._until
                     await until(lambda: node._until > since + lease + 0.5)
-                    assert not told and turns.longest < 0.2
+                    assert not event_names and turns.longest < 0.2
                     stranger.rollback()
-                    await until(lambda: "shard_closed" in told)
+                    await until(lambda: "shard_closed" in event_names)
 
     run(main())
-    assert told == ["shard_closed"]
+    assert event_names == ["shard_closed"]
 
 
-# -- clocks ----------------------------------------------------------------------------------------------------------
+# -- clocks
 
 
 def test_clocks_a_minute_apart_that_jump(url: str) -> None:
-    """Two nodes' clocks are two minutes apart and jump by a minute at each call: nobody's log is taken while he lives, and what goes over goes on."""
+    """Two nodes' clocks are two minutes apart and jump by a minute at each call: no live node's log
+    is taken, and a log that is handed over continues.
+    """
     clocks = {"late": -60.0, "early": 60.0}
     calls: Counter[str] = Counter()
     by: dict[str, str] = {}
@@ -1434,7 +1529,7 @@ def test_clocks_a_minute_apart_that_jump(url: str) -> None:
                 ("late", "early"),
                 ("early", "early"),
             }
-            assert all(said.startswith("yes") for said in (await other.audit()).values())
+            assert all(verdict.startswith("yes") for verdict in (await other.audit()).values())
 
     run(main())
     assert all(count == 1 or "-b-run-" in token for token, count in calls.items())

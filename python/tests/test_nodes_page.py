@@ -1,5 +1,7 @@
-"""The tutorial on two nodes is run: a server, two nodes, a client; one node is killed, and the saga
-ends."""
+"""The tutorial on two nodes, executed: a server, two nodes, a client.
+
+One node is killed, and the saga ends.
+"""
 
 from __future__ import annotations
 
@@ -23,14 +25,14 @@ PAGE = (TOP / "docs/tutorials/cluster.md").read_text()
 
 
 def code(name: str) -> str:
-    """The block of the page that is to be saved under this name."""
-    found = re.search(rf"as `{name}`:\n\n```python\n(.*?)^```$", PAGE, re.S | re.M)
-    assert found, name
-    return found[1]
+    """Return the block of the page that is to be saved under this name."""
+    match = re.search(rf"as `{name}`:\n\n```python\n(.*?)^```$", PAGE, re.S | re.M)
+    assert match, name
+    return match[1]
 
 
 def test_two_nodes_and_a_client(url: str, postgresql: Server, tmp_path: pathlib.Path) -> None:
-    """As the page says: what the client prints, though the node that had the saga was killed."""
+    """The client prints what the page says, though the node that had the saga was killed."""
     for name in ("trip.py", "node.py", "client.py"):
         (tmp_path / name).write_text(code(name).replace("asyncio.sleep(10)", "asyncio.sleep(3)"))
     environment = os.environ | {
@@ -40,9 +42,9 @@ def test_two_nodes_and_a_client(url: str, postgresql: Server, tmp_path: pathlib.
         "PYTHONUNBUFFERED": "1",
     }
 
-    def start(*words: str) -> subprocess.Popen[str]:
+    def start(*arguments: str) -> subprocess.Popen[str]:
         return subprocess.Popen(
-            [sys.executable, *words],
+            [sys.executable, *arguments],
             cwd=tmp_path,
             env=environment,
             stdout=subprocess.PIPE,
@@ -60,7 +62,7 @@ def test_two_nodes_and_a_client(url: str, postgresql: Server, tmp_path: pathlib.
         owner = None
         until = time.monotonic() + 120
         while owner is None and time.monotonic() < until:
-            # a start that no node has taken yet stands below the table
+            # a start that no node has taken yet is below the table
             table, _, _ = command("store", url, "nodes").stdout.partition("\n\n")
             owner = next(
                 (line.split()[0] for line in table.splitlines()[1:] if line.split()[-1] == "1"),
@@ -70,10 +72,11 @@ def test_two_nodes_and_a_client(url: str, postgresql: Server, tmp_path: pathlib.
         assert owner
         nodes[owner].send_signal(signal.SIGKILL)
         out, _ = client.communicate(timeout=200)
-        assert out == re.search(r"prints:\n\n```text\n(.*?)```", PAGE, re.S)[1]  # type: ignore[index]
-        words = [sys.executable, "-m", "sagas", "store", url, "nodes"]
-        said = subprocess.check_output(words, env=environment, text=True)
+        (printed,) = re.findall(r"prints:\n\n```text\n(.*?)```", PAGE, re.S)[:1]
+        assert out == printed
+        show_nodes = [sys.executable, "-m", "sagas", "store", url, "nodes"]
+        output = subprocess.check_output(show_nodes, env=environment, text=True)
         other = "two" if owner == "one" else "one"
-        assert other in [line.split()[0] for line in said.splitlines()[1:] if line]
+        assert other in [line.split()[0] for line in output.splitlines()[1:] if line]
         nodes[other].send_signal(signal.SIGTERM)
         assert nodes[other].wait(120) == 0

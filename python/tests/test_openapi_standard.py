@@ -1,5 +1,6 @@
-"""openapi.json is as the OpenAPI specification has it: each field of each object, and what its
-prose demands."""
+"""openapi.json conforms to the OpenAPI specification: each field of each object, and the rules in
+its prose.
+"""
 
 from __future__ import annotations
 
@@ -20,7 +21,7 @@ METHODS = ("get", "put", "post", "delete", "options", "head", "patch", "trace")
 
 
 def structure(document: Any) -> list[str]:
-    """What is wrong with the fields of a document."""
+    """Return the errors in the fields of a document."""
     return [*Checker().faults(document, Of("OpenAPI"), "")]
 
 
@@ -32,7 +33,7 @@ def operations(document: Any) -> Iterator[tuple[str, dict[str, Any]]]:
 
 
 def prose(document: Any) -> Iterator[str]:
-    """What is wrong by what the specification says of the fields in words."""
+    """Return the errors by the rules that the specification has in prose."""
     components = document["components"]
     ids, templates = list[str](), list[str]()
     tags = [one["name"] for one in document["tags"]]
@@ -47,36 +48,38 @@ def prose(document: Any) -> Iterator[str]:
     templates = [re.sub(r"{\w+}", "{}", path) for path in document["paths"]]
     if len(templates) != len({*templates}):
         yield "paths: two differ in the names of their parameters alone"
-    for place, told in operations(document):
-        ids.append(told.get("operationId", place))
-        for need in told.get("security", document["security"]):
+    for location, operation in operations(document):
+        ids.append(operation.get("operationId", location))
+        for need in operation.get("security", document["security"]):
             for name in need:
                 if name not in components["securitySchemes"]:
-                    yield f"{place}: there is no security scheme {name}"
-        some = [contract.resolved(one) for one in told.get("parameters", ())]
+                    yield f"{location}: there is no security scheme {name}"
+        some = [contract.resolved(one) for one in operation.get("parameters", ())]
         names = [(one["name"], one["in"]) for one in some]
         if len(names) != len({*names}):
-            yield f"{place}: a parameter is there twice"
-        if {name for name, where in names if where == "path"} != {*re.findall(r"{(\w+)}", place)}:
-            yield f"{place}: its path has other parameters"
+            yield f"{location}: a parameter is there twice"
+        if {name for name, where in names if where == "path"} != {
+            *re.findall(r"{(\w+)}", location)
+        }:
+            yield f"{location}: its path has other parameters"
         for one in some:
             if one["in"] not in ("query", "header", "path", "cookie"):
-                yield f"{place}: {one['name']} is in {one['in']}"
+                yield f"{location}: {one['name']} is in {one['in']}"
             if one["in"] == "path" and one.get("required") is not True:
-                yield f"{place}: {one['name']} must be required"
+                yield f"{location}: {one['name']} must be required"
             if one["in"] == "header" and one["name"].lower() in (
                 "accept",
                 "content-type",
                 "authorization",
             ):
-                yield f"{place}: {one['name']} is ignored as a parameter"
+                yield f"{location}: {one['name']} is ignored as a parameter"
             if ("schema" in one) is ("content" in one) or ("example" in one and "examples" in one):
-                yield f"{place}: {one['name']} has both, or neither, of what excludes each other"
-        if not told["responses"]:
-            yield f"{place}: there is no response"
-        for content in contents(told):
+                yield f"{location}: {one['name']} has both, or neither, of what excludes each other"
+        if not operation["responses"]:
+            yield f"{location}: there is no response"
+        for content in contents(operation):
             if "example" in content and "examples" in content:
-                yield f"{place}: example and examples exclude each other"
+                yield f"{location}: example and examples exclude each other"
     if len(ids) != len({*ids}):
         yield "paths: an operationId is there twice"
 
@@ -87,7 +90,7 @@ def contents(operation: dict[str, Any]) -> Iterator[dict[str, Any]]:
 
 
 def test_the_rules_are_those_of_the_specification() -> None:
-    """The tables are read whole: all objects, with their fields, and those that must be there."""
+    """The tables are read whole: all objects, with their fields, and the required ones."""
     assert openapi_objects.TEXT.is_file(), "install it: apt-get install openapi-specification"
     rules = openapi_objects.read()
     assert len(rules) == 30 and {*rules["Info"].required} == {"title", "version"}
@@ -109,7 +112,7 @@ def test_the_rules_are_those_of_the_specification() -> None:
 
 
 def test_the_document_is_strictly_valid() -> None:
-    """Nothing of it is passed over: each operation, response and schema is looked at."""
+    """Nothing of it is skipped: each operation, response and schema is checked."""
     checker = Checker()
     assert [*checker.faults(DOCUMENT, Of("OpenAPI"), "")] == []
     assert [*prose(DOCUMENT)] == []
@@ -118,9 +121,9 @@ def test_the_document_is_strictly_valid() -> None:
 
 
 def test_the_official_validator_where_it_is_installed() -> None:
-    """`openapi-spec-validator` is no package of Debian's; where somebody has it, it agrees."""
+    """`openapi-spec-validator` is not a package of Debian's; if it is installed, it agrees."""
     if importlib.util.find_spec("openapi_spec_validator") is None:
-        assert structure(DOCUMENT) == []  # what holds without it
+        assert structure(DOCUMENT) == []  # the checks that work without it
         return
     module = importlib.import_module("openapi_spec_validator")
     (getattr(module, "validate", None) or module.validate_spec)(DOCUMENT)
@@ -152,11 +155,11 @@ WRONG: dict[str, tuple[str, Any, str]] = {
 
 
 @pytest.mark.parametrize("what", WRONG)
-def test_what_is_wrong_is_found(what: str) -> None:
-    """Each rule, by a document that breaks it."""
-    place, value, text = WRONG[what]
+def test_rule_violations_are_found(what: str) -> None:
+    """Each rule finds a document that breaks it."""
+    location, value, text = WRONG[what]
     document = copy.deepcopy(DOCUMENT)
-    *parts, last = [part.replace("~", "/v1/sagas") for part in place.split("/")]
+    *parts, last = [part.replace("~", "/v1/sagas") for part in location.split("/")]
     inner = document
     for part in parts:
         inner = inner[part]
@@ -164,6 +167,6 @@ def test_what_is_wrong_is_found(what: str) -> None:
         del inner[last]
     else:
         inner[last] = value
-    found = structure(document)
-    found += [*prose(document)] if not found else []
-    assert any(text in one for one in found), found[:3]
+    faults = structure(document)
+    faults += [*prose(document)] if not faults else []
+    assert any(text in one for one in faults), faults[:3]

@@ -1,4 +1,4 @@
-"""What a function does, and what that means; and the tokens that it is handed."""
+"""The outcomes of functions, their effects, and the tokens that functions get."""
 
 from __future__ import annotations
 
@@ -16,30 +16,30 @@ from typing import Any
 
 import pytest
 import records
-from cases import HOUR, PLACES, QUICK, Task, asked_of, ended, pairs, run, simple, until
+from cases import HOUR, PLACES, QUICK, Task, attempts_to_report, ended, pairs, run, simple, until
 
 import sagas
 import sagas.testing
 
 
-def test_returns(place: str) -> None:
-    """It is done, and its result is JSON."""
+def test_returns(location: str) -> None:
+    """The step is done, and its result is JSON."""
 
     async def main() -> sagas.SagaResult:
         saga = simple(lambda task: {"id": 7, "days": [1, 2]})
-        async with sagas.open(place, [saga]) as store:
+        async with sagas.open(location, [saga]) as store:
             return await ended(store, saga)
 
     end = run(main())
     assert end.ok and end.results == {"a": {"id": 7, "days": [1, 2]}} and end.cost is None
 
 
-def test_returns_what_is_no_json(place: str, caplog: pytest.LogCaptureFixture) -> None:
-    """The effect is there and is not lost: it is kept as unstorable, with a warning."""
+def test_returns_a_value_that_is_not_json(location: str, caplog: pytest.LogCaptureFixture) -> None:
+    """The effect exists and is not lost: the result is kept as unstorable, with a warning."""
 
     async def main() -> sagas.SagaResult:
         saga = simple(lambda task: object())
-        async with sagas.open(place, [saga]) as store:
+        async with sagas.open(location, [saga]) as store:
             return await ended(store, saga)
 
     with caplog.at_level(logging.WARNING, "sagas"):
@@ -54,13 +54,15 @@ HOWS = {"alone": {}, "in time": {"timeout": 60}, "in turn": {"concurrency": 1}}
 @pytest.mark.parametrize("how", HOWS)
 @pytest.mark.parametrize("waits", [False, True])
 def test_a_forgotten_await(tmp_path: pathlib.Path, how: str, waits: bool) -> None:
-    """What a function returns is awaited where it can be, as if the function had done it: its effect is there, what it raises counts, and its time too."""
-    told: list[int] = []
+    """An awaitable that a function returns is awaited, as if the function had done it: its effect
+    exists, its exceptions count, and so does its time.
+    """
+    attempts: list[int] = []
 
     async def book(task: Task) -> Any:
         if waits:
             await asyncio.sleep(0)
-        told.append(task.attempt)
+        attempts.append(task.attempt)
         if task.input == "fails":
             raise ValueError("no")
         return {"id": 7}
@@ -79,14 +81,14 @@ def test_a_forgotten_await(tmp_path: pathlib.Path, how: str, waits: bool) -> Non
                 for given in ("well", "task")
                 for number in range(3)
             ]
-            assert all(end.ok and end.results == {"a": {"id": 7}} for end in ends) and told == 6 * [
-                1
-            ]
+            assert all(
+                end.ok and end.results == {"a": {"id": 7}} for end in ends
+            ) and attempts == 6 * [1]
             end = await ended(store, saga, "bad", "fails")
             assert (
                 end.states == {"a": "failed"}
                 and end.errors == {"a": "ValueError: no"}
-                and told[6:] == [1, 2]
+                and attempts[6:] == [1, 2]
             )
 
     run(main())
@@ -94,7 +96,7 @@ def test_a_forgotten_await(tmp_path: pathlib.Path, how: str, waits: bool) -> Non
 
 @pytest.mark.parametrize("plain", [False, True])
 def test_a_forgotten_await_has_its_time(tmp_path: pathlib.Path, plain: bool) -> None:
-    """Whoever takes longer has an outcome that nobody knows, also where another awaits it."""
+    """A call that takes longer has an unknown outcome, also if another coroutine awaits it."""
 
     async def slow(task: Task) -> None:
         await asyncio.sleep(60)
@@ -121,9 +123,11 @@ class Seat:
     row: int
 
 
-def test_a_result_that_could_not_be_stored(place: str) -> None:
-    """It is never taken for one that could: a later step and the caller hear of it by a name; a compensation, which has to go on, sees what is kept."""
-    saga, told = sagas.Saga("odd"), list[str]()
+def test_a_result_that_could_not_be_stored(location: str) -> None:
+    """It is never taken for a stored one: a later step and the caller get a named error; a
+    compensation, which must continue, sees what is kept.
+    """
+    saga, errors = sagas.Saga("odd"), list[str]()
 
     @saga.step
     def send(task: Task) -> set[object]:
@@ -141,12 +145,12 @@ def test_a_result_that_could_not_be_stored(place: str) -> None:
             try:
                 task.result_of(step)
             except sagas.NotSerializable as error:
-                told.append(f"{type(error).__name__}: {error}")
+                errors.append(f"{type(error).__name__}: {error}")
         if task.input:
             raise sagas.Fail("no")
 
     async def main() -> None:
-        async with sagas.open(place, [saga]) as store:
+        async with sagas.open(location, [saga]) as store:
             end = await ended(store, saga, "well")
             assert end.ok
             ways: tuple[Any, ...] = (send, "send")
@@ -164,13 +168,15 @@ def test_a_result_that_could_not_be_stored(place: str) -> None:
                 end.result_of("send")
 
     run(main())
-    assert len(told) == 4 and told[0].startswith(
+    assert len(errors) == 4 and errors[0].startswith(
         "ResultNotSerializable: step 'send' returned a value that is not JSON"
     )
 
 
-def test_a_set_crosses(place: str) -> None:
-    """As a list, which the hint makes a set again; `of` takes a step's name, too."""
+def test_a_set_crosses(location: str) -> None:
+    """A set is stored as a list, which the hint makes a set again; `of` takes a step's
+    name, too.
+    """
     saga = sagas.Saga("sets")
 
     @saga.step
@@ -184,15 +190,17 @@ def test_a_set_crosses(place: str) -> None:
         )
 
     async def main() -> sagas.SagaResult:
-        async with sagas.open(place, [saga]) as store:
+        async with sagas.open(location, [saga]) as store:
             return await ended(store, saga, given={1: "a", 2: "b"})
 
     end = run(main())
     assert end.result_of(send) is True and end.result_of("seats") == {1, 2}
 
 
-def test_a_result_that_is_not_of_its_type(place: str) -> None:
-    """What could not be stored, or a person said, is told as it is kept: who waits, or asks for what is stuck, hears of it all the same."""
+def test_a_result_that_is_not_of_its_type(location: str) -> None:
+    """An unstorable result, or an operator's, is returned as it is kept: a caller that waits, or
+    lists stuck sagas, gets it anyway.
+    """
     saga = sagas.Saga("typed")
 
     @saga.step
@@ -211,7 +219,7 @@ def test_a_result_that_is_not_of_its_type(place: str) -> None:
     well.step(name="book")(book.run.function or print)
 
     async def main() -> None:
-        async with sagas.open(place, [saga, well]) as store:
+        async with sagas.open(location, [saga, well]) as store:
             assert "unstorable" in (await ended(store, well, "w")).results["book"]
             going = await store.start(saga, "k")
             await until(store.unknown)
@@ -219,14 +227,17 @@ def test_a_result_that_is_not_of_its_type(place: str) -> None:
             end = await going.wait()
             assert "unstorable" in end.results["book"] and end.results["pay"] == "by hand"
             assert [one.results for one in await store.stuck()] == [end.results]
-        async with sagas.open(place, [saga, well]) as store:
+        async with sagas.open(location, [saga, well]) as store:
             assert await store.wait("k") == end
 
     run(main())
 
 
-def test_raises(place: str, caplog: pytest.LogCaptureFixture) -> None:
-    """It has had no effect: as many tries as it has, then it has failed. Each miss is a warning, the last with the function's traceback."""
+def test_raises(location: str, caplog: pytest.LogCaptureFixture) -> None:
+    """It has had no effect: after all its tries it has failed.
+
+    Each failed attempt is a warning, the last one with the function's traceback.
+    """
     attempts: list[int] = []
 
     def fails(task: Task) -> None:
@@ -235,7 +246,7 @@ def test_raises(place: str, caplog: pytest.LogCaptureFixture) -> None:
 
     async def main() -> sagas.SagaResult:
         saga = simple(fails, tries=3)
-        async with sagas.open(place, [saga]) as store:
+        async with sagas.open(location, [saga]) as store:
             return await ended(store, saga)
 
     end = run(main())
@@ -243,17 +254,17 @@ def test_raises(place: str, caplog: pytest.LogCaptureFixture) -> None:
     assert end.errors == {"a": "ValueError: no"} and str(end).endswith(
         "failed    a: ValueError: no"
     )
-    assert run(main()) == end  # it is over: what is told is read from the store
-    told = [record for record in caplog.records if record.name == "sagas"]
-    assert [record.levelname for record in told] == 3 * ["WARNING"]
-    assert [record.exc_info is None for record in told] == [True, True, False]
-    info = told[2].exc_info
+    assert run(main()) == end  # it is over: the reply is read from the store
+    logged = [record for record in caplog.records if record.name == "sagas"]
+    assert [record.levelname for record in logged] == 3 * ["WARNING"]
+    assert [record.exc_info is None for record in logged] == [True, True, False]
+    info = logged[2].exc_info
     assert info and info[2] and info[2].tb_frame.f_code.co_name == "fails"
 
 
 @pytest.mark.parametrize("group", [False, True], ids=["alone", "in a group"])
-def test_raises_fail(place: str, group: bool) -> None:
-    """No more tries: those that are left are reported without a call."""
+def test_raises_fail(location: str, group: bool) -> None:
+    """There are no more tries: the remaining ones are reported without a call."""
     attempts: list[int] = []
 
     async def fails(task: Task) -> None:
@@ -263,7 +274,7 @@ def test_raises_fail(place: str, group: bool) -> None:
 
     async def main() -> sagas.SagaResult:
         saga = simple(fails, tries=9, backoff=sagas.Backoff(initial=3600))
-        async with sagas.open(place, [saga]) as store:
+        async with sagas.open(location, [saga]) as store:
             return await ended(store, saga)
 
     end = run(main())
@@ -272,7 +283,7 @@ def test_raises_fail(place: str, group: bool) -> None:
         and end.errors == {"a": "sagas.Fail: for good"}
         and attempts == [1]
     )
-    outcomes = [result.outcome for result in records.read(place).results.values()]
+    outcomes = [result.outcome for result in records.read(location).results.values()]
     assert sorted(outcomes) == ["fail"] + 8 * ["missed"]
 
 
@@ -287,10 +298,12 @@ GROUP = ExceptionGroup(
     [sagas.Unknown("?"), TimeoutError("?"), ConnectionResetError("?"), KeyError("?"), GROUP],
     ids=lambda error: type(error).__name__,
 )
-def test_raises_unknown(place: str, error: Exception) -> None:
-    """Nobody knows: the same attempt again, with the same token, and nothing is reported; by default for timeouts and lost connections. The log says how often."""
+def test_raises_unknown(location: str, error: Exception) -> None:
+    """The outcome is unknown: the same attempt runs again, with the same token, and nothing is
+    reported; by default for timeouts and lost connections. The log has the number.
+    """
     tokens: list[str] = []
-    told: list[str] = []
+    details: list[str] = []
 
     def lost(task: Task) -> int:
         tokens.append(task.attempt_id)
@@ -299,28 +312,30 @@ def test_raises_unknown(place: str, error: Exception) -> None:
         return 1
 
     async def main() -> sagas.SagaResult:
-        words = {"unknown": (KeyError,)} if isinstance(error, KeyError) else {}
-        saga = simple(lost, **words)
+        options = {"unknown": (KeyError,)} if isinstance(error, KeyError) else {}
+        saga = simple(lost, **options)
         async with sagas.open(
-            place,
+            location,
             [saga],
-            on_event=lambda event: told.append(event.detail or "")
-            if event.name == "step_unknown"
-            else None,
+            on_event=lambda event: (
+                details.append(event.detail or "") if event.name == "step_unknown" else None
+            ),
         ) as store:
             return await ended(store, saga)
 
     assert run(main()).ok and len(tokens) == 3 and len(set(tokens)) == 1
-    assert len(told) == 2 and told[1] == f"{told[0]}; 2 times so far"
-    assert len(records.read(place).results) == 1
+    assert len(details) == 2 and details[1] == f"{details[0]}; 2 times so far"
+    assert len(records.read(location).results) == 1
 
 
-def test_a_failure_that_came_from_a_timeout(place: str) -> None:
-    """As clients raise it, from their own exceptions: it is a failure, and the log says what to declare where nobody knows."""
-    told: list[str] = []
+def test_a_failure_that_came_from_a_timeout(location: str) -> None:
+    """Clients raise it from their own exceptions: it is a failure, and the log says what to declare
+    for an unknown outcome.
+    """
+    details: list[str] = []
 
     class Late(Exception):
-        """A client's own."""
+        """An exception of a client."""
 
     def asks(task: Task) -> None:
         try:
@@ -333,27 +348,30 @@ def test_a_failure_that_came_from_a_timeout(place: str) -> None:
     async def main() -> None:
         saga = simple(asks)
         async with sagas.open(
-            place,
+            location,
             [saga],
-            on_event=lambda event: told.append(event.detail or "")
-            if event.name == "step_failed"
-            else None,
+            on_event=lambda event: (
+                details.append(event.detail or "") if event.name == "step_failed" else None
+            ),
         ) as store:
             for given in ("from", "while", "from None"):
                 assert (await ended(store, saga, given, given)).states == {"a": "failed"}
 
     run(main())
-    assert [text.count("its cause is TimeoutError") for text in told] == [
+    assert [text.count("its cause is TimeoutError") for text in details] == [
         1,
         1,
         0,
-    ] and "unknown=(test_outcomes." in told[0]
+    ] and "unknown=(test_outcomes." in details[0]
 
 
 def test_a_function_that_holds_the_loop(
     tmp_path: pathlib.Path, caplog: pytest.LogCaptureFixture, monkeypatch: pytest.MonkeyPatch
 ) -> None:
-    """It is named in the log, once: it returned, raised or waited behind that. One in a thread holds nobody up, nor does one that waits."""
+    """It is named in the log, once: it returned, raised or waited after that.
+
+    A function in a thread blocks nothing, nor does one that waits.
+    """
     monkeypatch.setattr("sagas.runtime.dispatcher.LONG", 0.1)
     saga = sagas.Saga("shop")
 
@@ -385,24 +403,26 @@ def test_a_function_that_holds_the_loop(
             await ended(store, saga, "two", 0)
 
     run(main())
-    told = [
+    messages = [
         record.getMessage().split(" blocked the event loop for ")
         for record in caplog.records
         if "blocked the event loop" in record.getMessage()
     ]
-    assert [whose for whose, _ in told] == [
+    assert [owner for owner, _ in messages] == [
         "saga 'shop': step 'returns'",
         "saga 'shop': step 'waits'",
         "saga 'shop': step 'raises'",
     ]
     assert all(
         rest.endswith(" s. Make it a plain function (def), which runs in a thread")
-        for _, rest in told
+        for _, rest in messages
     )
 
 
-def test_unknown_waits_for_its_back_off(place: str) -> None:
-    """The same attempt is made again once that is over, also where another program has the store by then."""
+def test_unknown_waits_for_its_back_off(location: str) -> None:
+    """The same attempt is made again once that is over, also if another program has the store by
+    then.
+    """
     clock = sagas.testing.Clock(datetime.datetime.now(datetime.timezone.utc))
     tokens: list[str] = []
 
@@ -415,13 +435,13 @@ def test_unknown_waits_for_its_back_off(place: str) -> None:
     saga = simple(lost, backoff=HOUR)
 
     async def first() -> None:
-        async with sagas.open(place, [saga], clock=clock) as store:
+        async with sagas.open(location, [saga], clock=clock) as store:
             await store.start(saga, key="k")
             (held,) = await until(store.unknown)
             assert held.until == clock() + 3600 and not held.asked
 
     async def second() -> None:
-        async with sagas.open(place, [saga], clock=clock) as store:
+        async with sagas.open(location, [saga], clock=clock) as store:
             assert (await store.wait("k")).ok
 
     run(first())
@@ -431,8 +451,8 @@ def test_unknown_waits_for_its_back_off(place: str) -> None:
     assert len(tokens) == 2 and len(set(tokens)) == 1
 
 
-def test_takes_longer_than_its_time(place: str) -> None:
-    """A timeout is no failure: its effect could be lost. The same attempt is made again."""
+def test_takes_longer_than_its_time(location: str) -> None:
+    """A timeout is not a failure: its effect could be lost. The same attempt is made again."""
     tokens: list[str] = []
 
     async def slow(task: Task) -> int:
@@ -442,19 +462,21 @@ def test_takes_longer_than_its_time(place: str) -> None:
 
     async def main() -> sagas.SagaResult:
         saga = simple(slow, timeout=0.05)
-        async with sagas.open(place, [saga]) as store:
+        async with sagas.open(location, [saga]) as store:
             return await ended(store, saga)
 
     assert run(main()).ok and len(tokens) == 2 and len(set(tokens)) == 1
 
 
 @pytest.mark.parametrize(
-    "place, most, done",
+    "location, most, done",
     pairs(PLACES, (2, datetime.timedelta(seconds=0.05)), (True, False)),
-    indirect=["place"],
+    indirect=["location"],
 )
-def test_unknown_for_too_long_waits_for_a_person(place: str, most: Any, done: bool) -> None:
-    """`max_unknown` bounds it; then it stands in `store.unknown()`, and a person says done or failed, also after a restart."""
+def test_unknown_for_too_long_waits_for_a_person(location: str, most: Any, done: bool) -> None:
+    """`max_unknown` bounds it; then it is listed in `store.unknown()`, and an operator reports
+    success or failure, also after a restart.
+    """
     calls: list[str] = []
 
     def lost(task: Task) -> None:
@@ -464,13 +486,13 @@ def test_unknown_for_too_long_waits_for_a_person(place: str, most: Any, done: bo
     saga = simple(lost, max_unknown=most)
 
     async def first() -> None:
-        async with sagas.open(place, [saga]) as store:
+        async with sagas.open(location, [saga]) as store:
             await store.start(saga, key="k")
-            await until(lambda: asked_of(store))
+            await until(lambda: attempts_to_report(store))
 
     async def second() -> sagas.SagaResult:
         before = len(calls)
-        async with sagas.open(place, [saga]) as store:
+        async with sagas.open(location, [saga]) as store:
             (held,) = await store.unknown()
             assert (held.key, held.step, held.asked) == ("k", "a", True) and "no answer" in (
                 held.error or ""
@@ -488,10 +510,10 @@ def test_unknown_for_too_long_waits_for_a_person(place: str, most: Any, done: bo
     assert run(second()).states == {"a": "committed" if done else "failed"}
 
 
-def test_ends_well_after_its_time_in_a_thread(place: str) -> None:
-    """It is done; that it is late is told, and how long it took."""
+def test_ends_well_after_its_time_in_a_thread(location: str) -> None:
+    """It is done; the log reports that it is late, and how long it took."""
     calls: list[str] = []
-    told: list[sagas.Event] = []
+    events: list[sagas.Event] = []
 
     def late(task: Task) -> int:
         calls.append(task.attempt_id)
@@ -500,14 +522,14 @@ def test_ends_well_after_its_time_in_a_thread(place: str) -> None:
 
     async def main() -> sagas.SagaResult:
         saga = simple(late, timeout=0.05)
-        async with sagas.open(place, [saga], on_event=told.append) as store:
+        async with sagas.open(location, [saga], on_event=events.append) as store:
             return await ended(store, saga)
 
     assert run(main()).results == {"a": 7} and len(calls) == 1
     assert [
-        (event.name, event.key, event.step) for event in told if event.name == "step_overdue"
+        (event.name, event.key, event.step) for event in events if event.name == "step_overdue"
     ] == [("step_overdue", "k", "a")]
-    (done,) = (event for event in told if event.name == "step_succeeded")
+    (done,) = (event for event in events if event.name == "step_succeeded")
     assert done.seconds is not None and 0.19 < done.seconds < 60
 
 
@@ -528,8 +550,10 @@ def test_plain_functions_run_in_threads(tmp_path: pathlib.Path) -> None:
     run(main())
 
 
-def test_tokens(place: str) -> None:
-    """The effect token is the same over all tries, the token is not; a compensation has its own, and that of what it undoes."""
+def test_tokens(location: str) -> None:
+    """The effect token is the same over all tries, the token is not; a compensation has its own,
+    and that of the action that it undoes.
+    """
     tasks: list[Task] = []
     saga = sagas.Saga("row")
 
@@ -550,7 +574,7 @@ def test_tokens(place: str) -> None:
         raise ValueError("no")
 
     async def main() -> sagas.SagaResult:
-        async with sagas.open(place, [saga]) as store:
+        async with sagas.open(location, [saga]) as store:
             return await ended(store, saga)
 
     assert run(main()).states == {"a": "undone", "b": "failed"}
@@ -563,7 +587,7 @@ def test_tokens(place: str) -> None:
     assert undo.original_idempotency_key == done.idempotency_key != undo.idempotency_key
     assert undo.is_compensation and undo.result == "A" and not done.is_compensation
     assert len({task.attempt_id for task in tasks}) == 5
-    name = next(iter(records.read(place).logs.values())).name
+    name = next(iter(records.read(location).logs.values())).name
     assert all(task.attempt_id.startswith(f"{name}-0-") for task in tasks)
     for copied in (
         *map(copy.deepcopy, tasks),

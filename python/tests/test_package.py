@@ -1,4 +1,4 @@
-"""Hypothesis drives random sagas through the package, in a store and in memory, against the follower of the rules."""
+"""Random sagas in the package, in a store and in memory, compared with the reference model."""
 
 from __future__ import annotations
 
@@ -29,12 +29,12 @@ NO_WAIT = sagas.Backoff(initial=0.0, maximum=0.0)
 
 
 def price(value: int | str) -> sagas.Cost:
-    """A price as the package takes it."""
+    """Return a cost as the package takes it."""
     return value if isinstance(value, int) else sagas.NEVER
 
 
 def build(drawn: list[StepDraw], failures: Failures) -> sagas.Saga:
-    """A saga of a random definition, whose functions fail as they are told."""
+    """Return a saga of a random definition, whose functions fail as scripted."""
     saga = sagas.Saga("random")
 
     def act(task: Task) -> str:
@@ -47,7 +47,7 @@ def build(drawn: list[StepDraw], failures: Failures) -> sagas.Saga:
         return act(task)
 
     for number, one in enumerate(drawn):
-        words: dict[str, Any] = {
+        options: dict[str, Any] = {
             "run": price(one.run),
             "skip": price(one.skip),
             "keep": price(one.keep),
@@ -55,8 +55,8 @@ def build(drawn: list[StepDraw], failures: Failures) -> sagas.Saga:
         }
         needs = [drawn[need].name for need in one.needs]
         if one.undo != "never":
-            words["undo"] = price(one.undo)
-        step = saga.step(name=one.name, needs=needs, backoff=NO_WAIT, **words)(
+            options["undo"] = price(one.undo)
+        step = saga.step(name=one.name, needs=needs, backoff=NO_WAIT, **options)(
             act if number % 2 else act_in_loop
         )
         if one.undo != "never":
@@ -67,7 +67,7 @@ def build(drawn: list[StepDraw], failures: Failures) -> sagas.Saga:
 
 
 def failures_of(drawn: list[StepDraw]) -> st.SearchStrategy[Failures]:
-    """Failures of some steps, for some attempts or for all."""
+    """Draw failures of some steps, for some attempts or for all."""
     keys = [
         (step.name, kind)
         for step in drawn
@@ -78,7 +78,10 @@ def failures_of(drawn: list[StepDraw]) -> st.SearchStrategy[Failures]:
 
 
 def same_definition(drawn: list[StepDraw], saga: sagas.Saga) -> None:
-    """The package writes the definition that was drawn; where nothing can be undone, tries of that do not count."""
+    """Return whether the package writes the definition that was drawn.
+
+    If nothing can be undone, the tries of compensations do not count.
+    """
     wanted, written = Definition.read(toml("random", drawn)), Definition.read(saga.toml())
     for one, other in zip(wanted.steps, written.steps):
         assert (one.name, one.needs, one.run, one.undo, one.skip, one.keep, one.tries) == (
@@ -95,7 +98,9 @@ def same_definition(drawn: list[StepDraw], saga: sagas.Saga) -> None:
 @EXAMPLES
 @given(st.data())
 def test_a_store_keeps_the_rules(data: st.DataObject) -> None:
-    """Each log is legal, each end is the follower's, and the results are those of the steps that stand."""
+    """Each log is legal, each end is the model's, and the results are those of the steps that are
+    kept.
+    """
     drawn = data.draw(steps())
     many = [data.draw(failures_of(drawn)) for _ in range(1)]
     aborts = data.draw(st.lists(st.booleans(), min_size=3, max_size=3))
@@ -121,7 +126,7 @@ def test_a_store_keeps_the_rules(data: st.DataObject) -> None:
     follower = follow(log.texts, log.events)
     for number, end in enumerate(ends):
         state = follower.sagas[kept.sagas[f"k{number}"].number]
-        assert (end.phase, list(end.states.values()), end.aborted) == told(state)
+        assert (end.phase, list(end.states.values()), end.aborted) == seen_end(state)
         answer = state.answer or {"cost": 0}
         assert (end.cost or 0) == answer.get("cost", 0)
         assert set(end.results) == {
@@ -130,8 +135,8 @@ def test_a_store_keeps_the_rules(data: st.DataObject) -> None:
         assert all(value == f"{step} is done" for step, value in end.results.items())
 
 
-def told(state: Any) -> tuple[str, list[str], bool]:
-    """The follower's saga in the words of the package."""
+def seen_end(state: Any) -> tuple[str, list[str], bool]:
+    """Return the model's saga in the words of the package."""
     phase = (
         "stuck"
         if state.phase == "stuck"
@@ -146,7 +151,7 @@ def told(state: Any) -> tuple[str, list[str], bool]:
 @EXAMPLES
 @given(st.data())
 def test_a_saga_in_memory_keeps_the_rules(data: st.DataObject) -> None:
-    """Each reply that `sagas.testing` meets is the follower's, and so is the end."""
+    """Each reply that `sagas.testing` gets is the model's, and so is the end."""
     drawn = data.draw(steps())
     saga = build(drawn, {})
     fails = data.draw(failures_of(drawn))
@@ -172,5 +177,5 @@ def test_a_saga_in_memory_keeps_the_rules(data: st.DataObject) -> None:
             abort=abort,
         )
     (state,) = follower.sagas
-    assert (trial.phase, list(trial.states.values()), trial.aborted) == told(state)
+    assert (trial.phase, list(trial.states.values()), trial.aborted) == seen_end(state)
     assert trial.phase in ("completed", "recovered", "stuck")

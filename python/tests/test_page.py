@@ -1,4 +1,7 @@
-"""README.md is run: installed from a checkout into an empty environment, its code saved, each command given, each output compared."""
+"""README.md, executed: installed from a checkout into an empty environment.
+
+Its code is saved, each command is run, and each output compared.
+"""
 
 from __future__ import annotations
 
@@ -27,13 +30,15 @@ INTERPRETER = 3
 
 @pytest.fixture(scope="module")
 def folder(tmp_path_factory: pytest.TempPathFactory) -> pathlib.Path:
-    """An empty folder with the package beside it, and `python`, `pip` and `sagas` of an environment that has it installed by the page's first command."""
+    """Return an empty folder next to the package, with `python`, `pip` and `sagas` of an
+    environment. The page's first command has installed the package there.
+    """
     folder = tmp_path_factory.mktemp("page")
     subprocess.run(
         [sys.executable, "-m", "venv", "--without-pip", "environment"], cwd=folder, check=True
     )
     (folder / "python").symlink_to(PACKAGE)
-    words = [
+    command = [
         sys.executable,
         "-m",
         "pip",
@@ -44,7 +49,7 @@ def folder(tmp_path_factory: pytest.TempPathFactory) -> pathlib.Path:
         "-q",
         "./python",
     ]
-    subprocess.run(words, cwd=folder, check=True, env=clean(), capture_output=True)
+    subprocess.run(command, cwd=folder, check=True, env=clean(), capture_output=True)
     return folder
 
 
@@ -57,7 +62,7 @@ def clean() -> dict[str, str]:
 
 
 def shell(folder: pathlib.Path, command: str) -> str:
-    """What a command prints; unbuffered, so that what was printed before a kill is there."""
+    """Return the output of a command; unbuffered, so that it has what was printed before a kill."""
     path = f"{folder / 'environment/bin'}:{os.environ['PATH']}"
     env = clean() | {"PATH": path, "PYTHONUNBUFFERED": "1"}
     return subprocess.run(
@@ -72,19 +77,19 @@ def shell(folder: pathlib.Path, command: str) -> str:
 
 
 def blocks(language: str, page: str = PAGE) -> list[str]:
-    """The blocks of a page that are of this language."""
-    found = re.findall(r"^```(\w*)\n(.*?)^```$", page, re.S | re.M)
-    return [text for told, text in found if told == language]
+    """Return the blocks of a page that are of this language."""
+    matches = re.findall(r"^```(\w*)\n(.*?)^```$", page, re.S | re.M)
+    return [text for block_language, text in matches if block_language == language]
 
 
 def commands() -> list[tuple[str, str]]:
-    """Each command of the page, with what it prints."""
-    found = []
+    """Return each command of the page, with its output."""
+    pairs = []
     for block in blocks(""):
         for part in re.split(r"^\$ ", block, flags=re.M)[1:]:
             command, _, output = part.partition("\n")
-            found.append((command, output))
-    return found
+            pairs.append((command, output))
+    return pairs
 
 
 def test_the_page(folder: pathlib.Path) -> None:
@@ -99,7 +104,7 @@ def test_the_page(folder: pathlib.Path) -> None:
 def test_the_guide_to_steps() -> None:
     """Its fragments declare what it says they do."""
     guide = (PACKAGE.parent / "docs/guides/steps.md").read_text()
-    calls = ("open_sync", "await ")  # of a store, which there is none of here
+    calls = ("open_sync", "await ")  # of a store, which does not exist here
     fragments = [
         code for code in blocks("python", guide) if not any(word in code for word in calls)
     ]
@@ -131,22 +136,25 @@ def test_the_commands(folder: pathlib.Path) -> None:
 
 
 def test_the_help(folder: pathlib.Path) -> None:
-    """Also where what PostgreSQL and Celery need is not installed."""
-    told = shell(
+    """This holds also if the dependencies for PostgreSQL and Celery are not installed."""
+    output = shell(
         folder,
-        "python -m pydoc sagas; python -c 'from sagas import *; import inspect, sagas; print(len(inspect.getmembers(sagas)), open_sync)'",
+        (
+            "python -m pydoc sagas; python -c 'from sagas import *; import inspect, sagas;"
+            " print(len(inspect.getmembers(sagas)), open_sync)'"
+        ),
     )
     assert (
-        "NAME\n    sagas" in told
-        and "SyncStore" in told
-        and "Error" not in told.splitlines()[-1]
-        and "<function open_sync" in told.splitlines()[-1]
+        "NAME\n    sagas" in output
+        and "SyncStore" in output
+        and "Error" not in output.splitlines()[-1]
+        and "<function open_sync" in output.splitlines()[-1]
     )
 
 
 @pytest.fixture
 def wheels(monkeypatch: pytest.MonkeyPatch) -> Iterator[Any]:
-    """What builds the wheels."""
+    """Return the module that builds the wheels."""
     monkeypatch.syspath_prepend(str(PACKAGE / "packaging"))
     yield importlib.import_module("wheels")
     sys.modules.pop("wheels", None)
@@ -157,10 +165,11 @@ def test_a_wheel_and_an_archive(
     tmp_path: pathlib.Path, wheels: Any, processor: str, machine: int
 ) -> None:
     """`pip wheel` needs no network; the archive builds the same wheel; the same sources give the
-    same bytes. It is for glibc and musl, and has its processor's files."""
+    same bytes. The wheel is for glibc and musl, and has its processor's files.
+    """
     first, second = (tmp_path / name for name in ("first", "second"))
-    for place in (first, second):
-        place.mkdir()
+    for folder in (first, second):
+        folder.mkdir()
     name = wheels.build_wheel(str(first), {"processor": processor})
     assert wheels.build_wheel(str(second), {"processor": processor}) == name
     assert name.endswith(f"-py3-none-manylinux_2_17_{processor}.musllinux_1_1_{processor}.whl")
@@ -169,8 +178,8 @@ def test_a_wheel_and_an_archive(
     is_other = processor != platform.machine()
     settings = [f"--config-settings=processor={processor}"] if is_other else []
     places = ["-w", str(tmp_path / "again"), str(tmp_path / archive)]
-    words = [sys.executable, "-m", "pip", "wheel", "--no-index", "-q", *settings, *places]
-    subprocess.run(words, check=True, env=clean(), capture_output=True)
+    command = [sys.executable, "-m", "pip", "wheel", "--no-index", "-q", *settings, *places]
+    subprocess.run(command, check=True, env=clean(), capture_output=True)
     assert (tmp_path / "again" / name).read_bytes() == (first / name).read_bytes()
     check_license(first / name)
     with tarfile.open(tmp_path / archive) as packed:
@@ -178,15 +187,15 @@ def test_a_wheel_and_an_archive(
     assert {"sagas.c.xz", "engine.c", "sagas.h", "sagas", "aarch64/sagas"} <= files
     with zipfile.ZipFile(first / name) as wheel:
         carried = [wheel.read(f"sagas/bin/{part}") for part in ("sagas", "libsagas.so")]
-        told = wheel.read(f"{name.partition('-py3')[0]}.dist-info/WHEEL").decode().splitlines()
-    tags = [line.removeprefix("Tag: py3-none-") for line in told if line.startswith("Tag: ")]
+        metadata = wheel.read(f"{name.partition('-py3')[0]}.dist-info/WHEEL").decode().splitlines()
+    tags = [line.removeprefix("Tag: py3-none-") for line in metadata if line.startswith("Tag: ")]
     assert [struct.unpack_from("<H", data, 18)[0] for data in carried] == [machine, machine]
     assert not asks_for_a_loader(carried[0])
     assert tags == [f"manylinux_2_17_{processor}", f"musllinux_1_1_{processor}"]
 
 
 def asks_for_a_loader(program: bytes) -> bool:
-    """Whether a program of 64 bits names a loader: one that is linked statically does not."""
+    """Return whether a 64-bit program names a loader: a statically linked one does not."""
     (start,), (size, count) = (
         struct.unpack_from(form, program, at) for form, at in (("<Q", 32), ("<HH", 54))
     )
@@ -195,17 +204,19 @@ def asks_for_a_loader(program: bytes) -> bool:
 
 
 def check_license(wheel: pathlib.Path) -> None:
-    """The wheel has the license's text, and its metadata name the license and the authors."""
+    """Check that the wheel has the license's text, and its metadata name the license and the
+    authors.
+    """
     with zipfile.ZipFile(wheel) as archive:
-        told = "-".join(wheel.name.split("-")[:2]) + ".dist-info"
-        metadata = archive.read(f"{told}/METADATA").decode().partition("\n\n")[0].splitlines()
-        assert archive.read(f"{told}/LICENSE") == (PACKAGE.parent / "LICENSE").read_bytes()
+        folder = "-".join(wheel.name.split("-")[:2]) + ".dist-info"
+        metadata = archive.read(f"{folder}/METADATA").decode().partition("\n\n")[0].splitlines()
+        assert archive.read(f"{folder}/LICENSE") == (PACKAGE.parent / "LICENSE").read_bytes()
     wanted = {"License: Apache-2.0", "License-File: LICENSE", "Author: The sagas developers"}
     assert wanted <= set(metadata)
 
 
 def elsewhere(monkeypatch: pytest.MonkeyPatch, system: str, machine: str) -> str:
-    """Makes the build believe that it is on another machine; gives how that is told."""
+    """Make the build believe that it is on another machine; return the text that names it."""
     monkeypatch.setattr(platform, "system", lambda: system)
     monkeypatch.setattr(platform, "machine", lambda: machine)
     return re.escape(f"{system} on {machine}")
@@ -220,7 +231,7 @@ OTHERS = [
 ]
 
 
-@pytest.mark.parametrize(("system", "machine", "compiler", "said"), OTHERS)
+@pytest.mark.parametrize(("system", "machine", "compiler", "message"), OTHERS)
 def test_a_machine_that_gets_no_engine(
     tmp_path: pathlib.Path,
     wheels: Any,
@@ -228,12 +239,12 @@ def test_a_machine_that_gets_no_engine(
     system: str,
     machine: str,
     compiler: str,
-    said: str,
+    message: str,
 ) -> None:
-    """No wheel is left, and a sentence says why, and what helps."""
-    told = elsewhere(monkeypatch, system, machine)
+    """No wheel is left, and a sentence gives the reason and the remedy."""
+    name = elsewhere(monkeypatch, system, machine)
     monkeypatch.setenv("CC", compiler)
-    with pytest.raises(SystemExit, match=said.format(told)):
+    with pytest.raises(SystemExit, match=message.format(name)):
         wheels.build_wheel(str(tmp_path))
     assert list(tmp_path.iterdir()) == []
 
@@ -257,9 +268,10 @@ print(sagas.plan(order.toml(), '{"states":["committed","failed"]}').yes)
 def test_a_machine_that_compiles_its_engine(
     tmp_path: pathlib.Path, wheels: Any, monkeypatch: pytest.MonkeyPatch
 ) -> None:
-    """Where no program was released for a processor, the wheel has one that the machine's compiler
-    has made of the C file, with a tag for this machine alone; the package drives sagas by it. (It
-    is compiled without optimization here, which takes a third of the time.)"""
+    """If no program was released for a processor, the wheel has one that the machine's compiler
+    made of the C file, with a tag for this machine only. The package drives sagas with it. (It is
+    compiled without optimization here, which takes a third of the time.)
+    """
     compiler = tmp_path / "compiler"
     compiler.write_text('#!/bin/sh\nexec cc "$@" -O0\n')
     compiler.chmod(0o755)
@@ -268,12 +280,14 @@ def test_a_machine_that_compiles_its_engine(
     name = wheels.build_wheel(str(tmp_path))
     monkeypatch.undo()
     assert name.endswith(f"-py3-none-linux_{platform.machine()}.whl")
-    place = tmp_path / "environment"
-    subprocess.run([sys.executable, "-m", "venv", "--without-pip", str(place)], check=True)
-    python = [sys.executable, "-m", "pip", "--python", str(place / "bin/python")]
-    words = [*python, "install", "--no-index", "-q", str(tmp_path / name)]
-    subprocess.run(words, check=True, env=clean(), capture_output=True)
+    target = tmp_path / "environment"
+    subprocess.run([sys.executable, "-m", "venv", "--without-pip", str(target)], check=True)
+    python = [sys.executable, "-m", "pip", "--python", str(target / "bin/python")]
+    command = [*python, "install", "--no-index", "-q", str(tmp_path / name)]
+    subprocess.run(command, check=True, env=clean(), capture_output=True)
     (tmp_path / "order.py").write_text(SAGA)
-    told = shell(tmp_path, "sagas --version; python order.py")
+    output = shell(tmp_path, "sagas --version; python order.py")
     line = "{'charge': 'undone', 'send': 'failed'}"
-    assert told.startswith("sagas ") and told.count(line) == 2 and told.endswith("True\n"), told
+    assert (
+        output.startswith("sagas ") and output.count(line) == 2 and output.endswith("True\n")
+    ), output

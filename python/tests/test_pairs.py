@@ -1,6 +1,7 @@
 """Each option of a step with each other one that it may be combined with.
 
-Whatever they come to together, each saga ends in time, and no limit is exceeded."""
+Each saga ends in time, and no limit is exceeded, with any combination.
+"""
 
 from __future__ import annotations
 
@@ -20,9 +21,9 @@ from cases import QUICK, Task, run
 import sagas
 
 SECONDS = 60
-"""In which all sagas of a store are over; they take about two."""
+"""The limit in which all sagas of a store are over; they take about two seconds."""
 TOO_LONG = 0.05
-WORDS: dict[str, dict[str, Any]] = {
+STEP_OPTIONS: dict[str, dict[str, Any]] = {
     "tries": {"tries": 3},
     "backoff": {"backoff": sagas.Backoff(initial=0.03, maximum=0.05)},
     "timeout": {"timeout": TOO_LONG},
@@ -36,9 +37,9 @@ WORDS: dict[str, dict[str, Any]] = {
 }
 KINDS = ("wait", "approval", "elsewhere")
 UNDO = ("tries", "timeout", "unknown", "most", "plain", "elsewhere", "inside")
-OPTIONS = (*WORDS, "plain", *KINDS, *(f"undo_{word}" for word in UNDO))
+OPTIONS = (*STEP_OPTIONS, "plain", *KINDS, *(f"undo_{word}" for word in UNDO))
 STEP = ("unknown", "max_unknown", "unknown_time", "fleet_concurrency", "rate_limit", "transaction")
-"""What only a step takes that has a function here."""
+"""Options that need a function here."""
 REFUSED: dict[str, tuple[str, ...]] = {
     "wait": (*STEP, "approval", "elsewhere"),
     "approval": (*STEP, "concurrency", "elsewhere"),
@@ -54,12 +55,12 @@ KEYS = ("well", "well-too", "well-as-well", "fails", "aborted")
 
 
 def fits(options: frozenset[str]) -> bool:
-    """Whether a step may have all of these."""
+    """Return whether a step may have all of these."""
     return not any(one in options and options & set(others) for one, others in REFUSED.items())
 
 
 def drawn(inside: bool) -> list[frozenset[str]]:
-    """Each alone, each with each, and some larger sets."""
+    """Return each option alone, each pair, and some larger sets."""
     known = [one for one in OPTIONS if inside or one not in ("transaction", "undo_inside")]
     pairs = [frozenset(pair) for pair in itertools.combinations(known, 2)]
     draw = random.Random(58)
@@ -69,7 +70,7 @@ def drawn(inside: bool) -> list[frozenset[str]]:
 
 @dataclasses.dataclass
 class Case:
-    """A saga whose first step has these options, and meets each hazard of theirs once."""
+    """A saga whose first step has these options, and has each of their hazards once."""
 
     name: str
     options: frozenset[str]
@@ -78,7 +79,7 @@ class Case:
     calls: Counter[tuple[str, bool]] = dataclasses.field(default_factory=Counter)
 
     def hazard(self, task: Task) -> str | None:
-        """What becomes of this call."""
+        """Do the hazard of this call."""
         number = self.calls[task.key, task.is_compensation]
         self.calls[task.key, task.is_compensation] += 1
         table = UNDO_HAZARDS if task.is_compensation else HAZARDS
@@ -94,14 +95,14 @@ class Case:
             raise kind("nobody knows")
 
     def enter(self, task: Task) -> int:
-        """How many of the step run with this one; a compensation has no limit."""
+        """Count how many calls of the step run with this one; a compensation has no limit."""
         here = 0 if task.is_compensation else 1
         self.now += here
         self.most = max(self.most, self.now)
         return here
 
     async def act(self, task: Task) -> str:
-        """As an async function."""
+        """The step as an async function."""
         hazard = self.hazard(task)
         here = self.enter(task)
         try:
@@ -112,7 +113,7 @@ class Case:
         return task.step
 
     def act_in_thread(self, task: Task) -> str:
-        """As a plain one."""
+        """The step as a plain function."""
         hazard = self.hazard(task)
         here = self.enter(task)
         try:
@@ -123,23 +124,23 @@ class Case:
         return task.step
 
     def saga(self) -> sagas.Saga:
-        """Its definition: `a` has the options, and `z` fails where the input says so."""
+        """Return its definition: `a` has the options, and `z` fails if the input says so."""
         saga = sagas.Saga(self.name)
-        words: dict[str, Any] = {"backoff": QUICK, "name": "a"}
-        for option in self.options & WORDS.keys():
-            words |= WORDS[option]
+        settings: dict[str, Any] = {"backoff": QUICK, "name": "a"}
+        for option in self.options & STEP_OPTIONS.keys():
+            settings |= STEP_OPTIONS[option]
         function = self.act_in_thread if "plain" in self.options else self.act
         wrapped = as_plain(function) if "plain" in self.options else as_async(function)
         if "elsewhere" in self.options:
-            first = saga.step(external=True, **words)
+            first = saga.step(external=True, **settings)
         elif "wait" in self.options:
-            first = saga.wait(until=datetime.timedelta(seconds=0.02), **words)(wrapped)
+            first = saga.wait(until=datetime.timedelta(seconds=0.02), **settings)(wrapped)
         elif "approval" in self.options:
-            if "timeout" in words:
-                words["call_timeout"] = words.pop("timeout")
-            first = saga.approval(**words)(wrapped)
+            if "timeout" in settings:
+                settings["call_timeout"] = settings.pop("timeout")
+            first = saga.approval(**settings)(wrapped)
         else:
-            first = saga.step(**words)(wrapped)
+            first = saga.step(**settings)(wrapped)
         self._compensate(first)
 
         @saga.step(needs=[first])
@@ -150,20 +151,20 @@ class Case:
         return saga
 
     def _compensate(self, first: sagas.Step[Any]) -> None:
-        words: dict[str, Any] = {"backoff": QUICK, "transaction": "undo_inside" in self.options}
-        words |= {"tries": 3} if "undo_tries" in self.options else {}
-        words |= {"timeout": TOO_LONG} if "undo_timeout" in self.options else {}
-        words |= {"max_unknown": 0} if "undo_most" in self.options else {}
+        settings: dict[str, Any] = {"backoff": QUICK, "transaction": "undo_inside" in self.options}
+        settings |= {"tries": 3} if "undo_tries" in self.options else {}
+        settings |= {"timeout": TOO_LONG} if "undo_timeout" in self.options else {}
+        settings |= {"max_unknown": 0} if "undo_most" in self.options else {}
         if "undo_elsewhere" in self.options:
-            first.compensation(external=True, backoff=QUICK, tries=words.get("tries", 1))
+            first.compensation(external=True, backoff=QUICK, tries=settings.get("tries", 1))
         elif "undo_plain" in self.options:
-            first.compensation(**words)(as_plain(self.act_in_thread))
+            first.compensation(**settings)(as_plain(self.act_in_thread))
         else:
-            first.compensation(**words)(as_async(self.act))
+            first.compensation(**settings)(as_async(self.act))
 
 
 def as_async(function: Any) -> Any:
-    """A function of its own, which asks for its connection where it has one."""
+    """Return a separate function, which requests its connection if it has one."""
 
     async def act(task: Task) -> str:
         if has_connection(task):
@@ -174,7 +175,7 @@ def as_async(function: Any) -> Any:
 
 
 def as_plain(function: Any) -> Any:
-    """The same of a plain one."""
+    """Return the same as a plain function."""
 
     def act(task: Task) -> str:
         if has_connection(task):
@@ -185,7 +186,7 @@ def as_plain(function: Any) -> Any:
 
 
 def has_connection(task: Task) -> bool:
-    """Whether it is called in a transaction. Half of them do nothing in it."""
+    """Return whether it is called in a transaction. Half of them do nothing in it."""
     try:
         return not task.key.endswith("too") and task.connection is not None
     except RuntimeError:
@@ -193,7 +194,7 @@ def has_connection(task: Task) -> bool:
 
 
 async def answer(store: sagas.Store, keys: list[str]) -> None:
-    """Somebody who says of whatever waits for a person or a worker that it is done."""
+    """Report each step that waits for an operator or a worker as done."""
     while True:
         for key in keys:
             for one in store.active_attempts(key):
@@ -202,22 +203,22 @@ async def answer(store: sagas.Store, keys: list[str]) -> None:
                     try:
                         await store.complete(key, one.step, "a", undo=one.undo)
                     except (sagas.StepNotWaiting, sagas.NoSuchSaga):
-                        pass  # it is over meanwhile
+                        pass  # it is over by now
         await asyncio.sleep(0.01)
 
 
-def lots(cases: list[Case], most: int = 60) -> Iterator[list[Case]]:
-    """As many as a store takes."""
+def batches(cases: list[Case], most: int = 60) -> Iterator[list[Case]]:
+    """Return batches of as many as a store takes."""
     for at in range(0, len(cases), most):
         yield cases[at : at + most]
 
 
 @pytest.mark.parametrize(
-    "place, concurrency", [("sqlite", 6), ("postgresql", 32)], indirect=["place"]
+    "location, concurrency", [("sqlite", 6), ("postgresql", 32)], indirect=["location"]
 )
-def test_options_in_pairs(place: str, concurrency: int, tmp_path: Any) -> None:
-    """Five sagas of each at once: three go well, one fails behind the step, one is aborted."""
-    inside = place.startswith("postgresql")
+def test_options_in_pairs(location: str, concurrency: int, tmp_path: Any) -> None:
+    """Five sagas of each at once: three end well, one fails after the step, one is aborted."""
+    inside = location.startswith("postgresql")
     cases = [Case(f"s{number}", options) for number, options in enumerate(drawn(inside))]
 
     async def one(store: sagas.Store, case: Case, saga: sagas.Saga, key: str) -> None:
@@ -232,8 +233,8 @@ def test_options_in_pairs(place: str, concurrency: int, tmp_path: Any) -> None:
         elif key.endswith("fails"):
             assert states == {"a": "undone", "z": "failed"}, (case.options, str(end))
 
-    async def lot(number: int, some: list[Case]) -> None:
-        where = place if inside else str(tmp_path / f"store-{number}.db")
+    async def run_batch(number: int, some: list[Case]) -> None:
+        where = location if inside else str(tmp_path / f"store-{number}.db")
         kinds = {case.name: case.saga() for case in some}
         async with sagas.open(
             where, kinds.values(), concurrency=concurrency, shutdown_timeout=1
@@ -254,8 +255,8 @@ def test_options_in_pairs(place: str, concurrency: int, tmp_path: Any) -> None:
             await asyncio.gather(*jobs.values())
 
     async def main() -> None:
-        for number, some in enumerate(lots(cases)):
-            await lot(number, some)
+        for number, some in enumerate(batches(cases)):
+            await run_batch(number, some)
 
     run(main())
     for case in cases:

@@ -1,5 +1,5 @@
-"""Other systems and machines: what the package takes where the system lacks something, and what
-it says where the program cannot be run."""
+"""Other systems and machines: fallbacks for missing features, and errors if the program cannot run.
+"""
 
 from __future__ import annotations
 
@@ -25,7 +25,7 @@ Lack = Callable[[pytest.MonkeyPatch], None]
 
 
 def refused(*_: object) -> int:
-    """As a system call that a kernel lacks."""
+    """Raise as a system call that a kernel lacks."""
     raise OSError(errno.ENOSYS, os.strerror(errno.ENOSYS))
 
 
@@ -42,7 +42,7 @@ LACKS: dict[str, Lack] = {
 
 
 def all_of_them(patch: pytest.MonkeyPatch) -> None:
-    """Nothing of what Linux alone has."""
+    """Remove everything that only Linux has."""
     for name in ("no memfd_create", "no pidfd_open", "no F_SETPIPE_SZ", "no fdatasync", "no /proc"):
         LACKS[name](patch)
 
@@ -51,7 +51,7 @@ LACKS["none of them"] = all_of_them
 
 
 def order() -> sagas.Saga:
-    """A saga whose second step fails."""
+    """Return a saga whose second step fails."""
     saga = sagas.Saga("order")
 
     @saga.step
@@ -76,8 +76,9 @@ def test_a_system_that_lacks(
     caplog: pytest.LogCaptureFixture,
     tmp_path: pathlib.Path,
 ) -> None:
-    """A saga is driven to its end, again after the store was opened anew, with texts of each
-    kind handed to the program; and nothing is left behind."""
+    """A saga is run to its end, also after a restart, with texts of each kind passed to the
+    program; and nothing is left.
+    """
     monkeypatch.setenv("TMPDIR", str(tmp_path))
     monkeypatch.setattr("tempfile.tempdir", None)
     lack(monkeypatch)
@@ -94,26 +95,26 @@ def test_a_system_that_lacks(
     assert [record.getMessage() for record in caplog.records if record.name == "asyncio"] == []
 
 
-def of_other_processor(place: pathlib.Path) -> None:
-    """The program, as it would be for ARM64 on x86-64, and the other way round."""
+def of_other_processor(program_path: pathlib.Path) -> None:
+    """Replace the program by one for ARM64 on x86-64, and the other way round."""
     data = bytearray(pathlib.Path(program()).read_bytes())
     struct.pack_into("<H", data, 18, 243)  # of RISC-V
-    place.write_bytes(data)
-    place.chmod(0o755)
+    program_path.write_bytes(data)
+    program_path.chmod(0o755)
 
 
-def without_its_loader(place: pathlib.Path) -> None:
-    """A program whose loader is not there."""
+def without_its_loader(program_path: pathlib.Path) -> None:
+    """Replace the program by one without its loader."""
     data = pathlib.Path(shutil.which("true") or "/bin/true").read_bytes()
     assert data.count(b"/ld-linux") == 1
-    place.write_bytes(data.replace(b"/ld-linux", b"/ld-nobody"[:9]))
-    place.chmod(0o755)
+    program_path.write_bytes(data.replace(b"/ld-linux", b"/ld-nobody"[:9]))
+    program_path.chmod(0o755)
 
 
-def without_rights(place: pathlib.Path) -> None:
-    """A program that may not be run."""
-    shutil.copyfile(program(), place)
-    place.chmod(0o644)
+def without_rights(program_path: pathlib.Path) -> None:
+    """Make the program not executable."""
+    shutil.copyfile(program(), program_path)
+    program_path.chmod(0o644)
 
 
 @pytest.mark.parametrize(
@@ -128,17 +129,18 @@ def test_a_program_that_cannot_be_run(
     monkeypatch: pytest.MonkeyPatch,
     tmp_path: pathlib.Path,
 ) -> None:
-    """The store does not open: an error of its own says why, and what helps; to call again does
-    not."""
-    place = tmp_path / "sagas"
-    make(place)
-    words = {"program": str(place)} if how == "word" else {}
+    """The store does not open: a specific error gives the reason and the remedy; a repeated call
+    does not help.
+    """
+    program_path = tmp_path / "sagas"
+    make(program_path)
+    options = {"program": str(program_path)} if how == "word" else {}
     if how == "variable":
-        monkeypatch.setenv("SAGAS_PROGRAM", str(place))
+        monkeypatch.setenv("SAGAS_PROGRAM", str(program_path))
     with pytest.raises(
         sagas.EngineNotRunnable, match="this machine .* cannot run it.*SAGAS_PROGRAM"
     ):
-        with sagas.open_sync(tmp_path / "orders.db", [order()], **words):
+        with sagas.open_sync(tmp_path / "orders.db", [order()], **options):
             pass
     assert not isinstance(sagas.EngineNotRunnable("x"), sagas.StoreUnavailable)
 
@@ -146,7 +148,7 @@ def test_a_program_that_cannot_be_run(
 def test_a_program_that_seems_to_be_for_another_machine_and_runs(
     monkeypatch: pytest.MonkeyPatch, tmp_path: pathlib.Path
 ) -> None:
-    """As an emulator of the system's may run it: it is taken."""
+    """As if an emulator of the system runs it: it is accepted."""
     monkeypatch.setattr(engine, "PROCESSORS", {})
     saga = order()
     with sagas.open_sync(tmp_path / "orders.db", [saga]) as store:
@@ -154,10 +156,10 @@ def test_a_program_that_seems_to_be_for_another_machine_and_runs(
 
 
 def test_the_package_and_its_engine_have_one_version() -> None:
-    """`__version__` is what the wheel has; the program and the library of `dist/` have the same."""
+    """`__version__` is that of the wheel; the program and the library of `dist/` have the same."""
     top = pathlib.Path(__file__).resolve().parents[2]
-    said = subprocess.run([program(), "--version"], capture_output=True, text=True, check=True)
-    assert said.stdout == f"sagas {sagas.__version__}\n"
+    done = subprocess.run([program(), "--version"], capture_output=True, text=True, check=True)
+    assert done.stdout == f"sagas {sagas.__version__}\n"
     assert f"Version: {sagas.__version__}\n" in (top / "dist/sagas.pc").read_text()
     rust = tomllib.loads((top / "examples/library/rust/Cargo.toml").read_text())
     assert rust["package"]["version"] == sagas.__version__

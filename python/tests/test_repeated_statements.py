@@ -1,4 +1,4 @@
-"""The connection that repeats prepared statements: how it ends, and how it is renewed."""
+"""The connection that repeats prepared statements: its end, and its renewal."""
 
 from __future__ import annotations
 
@@ -23,28 +23,28 @@ SELECT 1 FROM pg_stat_activity WHERE datname = current_database() AND query LIKE
 
 
 async def are_gone(asker: Asker) -> bool:
-    """Whether no connection of this kind is open."""
+    """Return whether no connection of this kind is open."""
     return not await asker.ask(OTHERS)
 
 
 async def opened(url: str) -> tuple[Asker, ReconnectingWire]:
-    """A pool, and a connection that is attached to it."""
+    """Return a pool, and a connection that is attached to it."""
     asker, kept = Asker(url, "here", 2), ReconnectingWire(url, "here")
     asker.attach(kept)
     await asker.open()
     return asker, kept
 
 
-def test_what_is_under_way_is_answered_before_the_end(url: str) -> None:
-    """Nothing can be asked afterwards."""
+def test_statements_in_progress_end_before_the_close(url: str) -> None:
+    """Later statements are refused."""
 
     async def main() -> None:
         asker, kept = await opened(url)
         await kept.open()
-        asked = [asyncio.create_task(kept.ask(SLOW, word)) for word in (b"a", b"b")]
+        requests = [asyncio.create_task(kept.ask(SLOW, word)) for word in (b"a", b"b")]
         await asyncio.sleep(0)
         await asker.close()
-        assert await asyncio.gather(*asked) == [[(b"a",)], [(b"b",)]]
+        assert await asyncio.gather(*requests) == [[(b"a",)], [(b"b",)]]
         with pytest.raises(sagas.StoreUnavailable, match="closed"):
             await kept.ask(SLOW, b"c")
 
@@ -56,11 +56,11 @@ def test_one_that_is_closed_while_it_connects(url: str) -> None:
 
     async def main() -> None:
         asker, kept = await opened(url)
-        asked = asyncio.create_task(kept.ask(SLOW, b"a"))
+        request = asyncio.create_task(kept.ask(SLOW, b"a"))
         await asyncio.sleep(0)  # it connects now
         kept.close()
         with pytest.raises(sagas.StoreUnavailable, match="closed"):
-            await asked
+            await request
         assert await until(lambda: are_gone(asker))
         await asker.close()
 
@@ -68,16 +68,16 @@ def test_one_that_is_closed_while_it_connects(url: str) -> None:
 
 
 def test_another_server_has_taken_over(url: str) -> None:
-    """What is under way fails at once. The next statement connects again."""
+    """Statements in progress fail at once. The next statement connects again."""
 
     async def main() -> None:
         asker, kept = await opened(url)
         await kept.open()
-        asked = asyncio.create_task(kept.ask(SLOW, b"a"))
+        request = asyncio.create_task(kept.ask(SLOW, b"a"))
         await asyncio.sleep(0)
         await asker.renew()
         with pytest.raises(sagas.StoreUnavailable):
-            await asked
+            await request
         assert await kept.ask(SLOW, b"b") == [(b"b",)]
         await asker.close()
 
@@ -85,7 +85,7 @@ def test_another_server_has_taken_over(url: str) -> None:
 
 
 def test_a_connection_that_the_server_ends(url: str) -> None:
-    """It is noticed while nothing is asked, so the next statement does not fail."""
+    """It is noticed between statements, so the next one does not fail."""
 
     async def main() -> None:
         asker, kept = await opened(url)
@@ -100,7 +100,7 @@ def test_a_connection_that_the_server_ends(url: str) -> None:
     run(main())
 
 
-def test_words_of_statements(url: str) -> None:
+def test_parameters_of_statements(url: str) -> None:
     """Any text comes back unchanged."""
     texts = ["", "NULL", "a,b", "{}", '"', "\\", '\\\\"', "\n\t ", "\u00e9\U0001f600", "'"]
     assert numbered("%(b)s %(a)s %(b)s", "a", "b") == "$2 $1 $2"

@@ -1,5 +1,8 @@
-"""A synchronous standby that is away: what waits for it has a limit, holds up nothing else, and is
-not acknowledged where the server is told to wait no longer."""
+"""A synchronous standby that is down.
+
+Waits for it have a limit, and block nothing else. They are not acknowledged if the server is told
+to wait no longer.
+"""
 
 from __future__ import annotations
 
@@ -28,7 +31,7 @@ WAITS = "FROM pg_stat_activity WHERE wait_event = 'SyncRep'"
 
 
 class Away:
-    """A server whose synchronous standby is away, or back."""
+    """A server whose synchronous standby is down, or back."""
 
     def __init__(self, server: Server) -> None:
         self.server = server
@@ -39,17 +42,17 @@ class Away:
             return cursor.fetchall() if cursor.description else []
 
     def waiting(self) -> int:
-        """How many commits wait for the standby."""
+        """Return how many commits wait for the standby."""
         return int(self.rows(f"SELECT count(*) {WAITS}")[0][0])
 
     def go(self) -> None:
-        """From now on commits wait for it."""
+        """Let commits wait for it from now on."""
         self.rows("ALTER SYSTEM SET synchronous_standby_names = 'away'")
         self.rows("SELECT pg_reload_conf()")
         with psycopg.connect(self.server.url("postgres"), autocommit=True) as link:
             mine = f"WHERE pid = {link.info.backend_pid}"
             waits = f"SELECT 1 FROM pg_stat_activity {mine} AND wait_event = 'SyncRep'"
-            while not self.rows(waits):  # the server hears of its settings by and by
+            while not self.rows(waits):  # the server reads its settings with a delay
                 link.pgconn.send_query(replication.REPLICATED.encode())
                 while link.pgconn.is_busy() and not self.rows(waits):
                     link.pgconn.consume_input()
@@ -61,12 +64,12 @@ class Away:
             pass
 
     def come(self) -> None:
-        """All that wait go on."""
+        """Let all waiting commits continue."""
         self.rows("ALTER SYSTEM RESET synchronous_standby_names")
         self.rows("SELECT pg_reload_conf()")
 
     def cancel(self) -> None:
-        """As somebody who thinks that a statement hangs."""
+        """Cancel them, as an operator does who thinks that a statement hangs."""
         self.rows(f"SELECT pg_cancel_backend(pid) {WAITS}")
 
 
@@ -78,11 +81,11 @@ def server() -> Iterator[Server]:
 
 @pytest.fixture
 def away(server: Server) -> Iterator[Away]:
-    found = Away(server)
+    standby = Away(server)
     try:
-        yield found
+        yield standby
     finally:
-        found.come()
+        standby.come()
 
 
 @pytest.fixture
@@ -92,7 +95,7 @@ def kind() -> sagas.Saga:
 
 @pytest.fixture
 def store(server: Server, kind: sagas.Saga) -> str:
-    """A database with the tables, and no node."""
+    """Return a database with the tables, and no node."""
     url = server.create()
 
     async def make() -> None:
@@ -103,8 +106,8 @@ def store(server: Server, kind: sagas.Saga) -> str:
     return url
 
 
-async def cancels(self: Any, gen: Any, *words: Any) -> Any:
-    """As psycopg 3.2 waits: a caller that is cancelled cancels the statement."""
+async def cancels(self: Any, gen: Any, *arguments: Any) -> Any:
+    """Wait as psycopg 3.2 does: a cancelled caller cancels the statement."""
     try:
         return await waiting.wait_async(gen, self.pgconn.socket)
     except asyncio.CancelledError:
@@ -119,7 +122,9 @@ async def cancels(self: Any, gen: Any, *words: Any) -> Any:
 def test_a_start_has_a_limit(
     away: Away, store: str, kind: sagas.Saga, monkeypatch: pytest.MonkeyPatch, psycopg_is: str
 ) -> None:
-    """It says that nobody knows, and nobody sees its row before the standby has it."""
+    """The error says that the outcome is unknown, and no reader sees its row before the standby has
+    it.
+    """
     monkeypatch.setattr(connections, "PATIENCE", 1.0)
     if psycopg_is == "3.2":
         monkeypatch.setattr(psycopg.AsyncConnection, "wait", cancels)
@@ -144,7 +149,7 @@ def test_a_start_has_a_limit(
 
 
 def test_starts_wait_for_the_standby_side_by_side(away: Away, store: str, kind: sagas.Saga) -> None:
-    """No start holds what others need while it waits."""
+    """No start holds resources that others need while it waits."""
 
     async def main() -> None:
         async with sagas.Client(store, connections=3) as client:
@@ -157,9 +162,11 @@ def test_starts_wait_for_the_standby_side_by_side(away: Away, store: str, kind: 
     run(main())
 
 
-def test_a_canceled_wait_is_no_acknowledgement(away: Away, store: str, kind: sagas.Saga) -> None:
-    """The server answers a start as if all was well. It is not acknowledged, and neither is the
-    next one of its key, before the standby is there."""
+def test_a_canceled_wait_is_not_acknowledged(away: Away, store: str, kind: sagas.Saga) -> None:
+    """The server answers a start as if all was well.
+
+    It is not acknowledged, and neither is the next one of its key, before the standby is back.
+    """
 
     async def main() -> None:
         async with sagas.Client(store) as client:
@@ -192,7 +199,7 @@ def test_a_canceled_wait_is_no_acknowledgement(away: Away, store: str, kind: sag
 def test_a_canceled_wait_over_a_given_connection(
     away: Away, store: str, kind: sagas.Saga, plain: bool
 ) -> None:
-    """A caller's connection that commits each statement: its start is not acknowledged either."""
+    """A caller's connection commits each statement: its start is not acknowledged either."""
 
     def start() -> None:
         with sagas.SyncClient(store) as client, psycopg.connect(store, autocommit=True) as link:
@@ -217,7 +224,7 @@ def test_a_canceled_wait_over_a_given_connection(
 
 
 async def started(store: str, client: sagas.Client, kind: sagas.Saga, plain: bool) -> bool:
-    """A start by a client, or by another node; whether it is new."""
+    """Start a saga by a client, or by another node; return whether it is new."""
     if not plain:
         return (await client.start(kind, "k")).new
 
@@ -229,17 +236,18 @@ async def started(store: str, client: sagas.Client, kind: sagas.Saga, plain: boo
 
 
 def test_a_canceled_wait_of_a_node(away: Away, store: str) -> None:
-    """A node acknowledges neither its commit nor what another node has committed so, and calls
-    nothing, before the standby is there."""
+    """A node acknowledges neither its commit nor one that another node has committed so, and calls
+    nothing, before the standby is back.
+    """
     called: list[str] = []
 
     async def step(task: Task) -> None:
         called.append(task.key)
 
-    kind, told = simple(step), list[str]()
+    kind, event_names = simple(step), list[str]()
 
     async def main() -> None:
-        hook = lambda event: told.append(event.name)
+        hook = lambda event: event_names.append(event.name)
         async with sagas.open(store, [kind], lease=60, on_event=hook) as one:
             async with sagas.open(store, [kind], lease=60, accept_new=False) as two:
                 assert (await (await one.start(kind, "first")).wait()).ok
@@ -247,7 +255,7 @@ def test_a_canceled_wait_of_a_node(away: Away, store: str) -> None:
                 mine = asyncio.create_task(one.start(kind, "k"))
                 await until(lambda: away.rows(f"SELECT 1 {WAITS} AND query LIKE '%event_log%'"))
                 away.cancel()
-                await until(lambda: "commit_failed" in told)
+                await until(lambda: "commit_failed" in event_names)
                 await until(
                     lambda: away.rows(
                         f"SELECT 1 {WAITS} AND (query = 'COMMIT' OR query LIKE '%takeovers%')"
@@ -267,16 +275,16 @@ def test_a_canceled_wait_of_a_node(away: Away, store: str) -> None:
 def test_a_start_over_http_has_a_limit(
     away: Away, store: str, tmp_path: pathlib.Path, monkeypatch: pytest.MonkeyPatch
 ) -> None:
-    """It is answered with 503, and is kept all the same once the standby is back."""
+    """The response is 503, and the start is kept anyway once the standby is back."""
     monkeypatch.setenv("SAGAS_PROGRAM", program())
     Served(tmp_path)
-    told = Settings(store, definition_files.read(tmp_path / "definitions"), patience=1.0)
+    settings = Settings(store, definition_files.read(tmp_path / "definitions"), patience=1.0)
     body = {"definition": "trip", "key": "k"}
 
     async def main() -> None:
         opened = asyncio.Event()
         with socket.create_server((host(), 0)) as listening:
-            at_work = asyncio.create_task(uvicorn_server.run(told, listening, opened.set))
+            at_work = asyncio.create_task(uvicorn_server.run(settings, listening, opened.set))
             await opened.wait()
             name, port = listening.getsockname()
             async with httpx.AsyncClient(base_url=f"http://{name}:{port}", timeout=15) as client:

@@ -1,4 +1,4 @@
-"""A request is done to the saga that it was asked of, and to no later one of its key."""
+"""A request is executed for the saga that it was made for, and for no later one of its key."""
 
 from __future__ import annotations
 
@@ -22,7 +22,7 @@ WAITS_FOR_ROW = (
 
 
 def signed() -> sagas.Saga:
-    """One step, which waits for an approval."""
+    """Return a saga of one step, which waits for an approval."""
     signed = sagas.Saga("signed")
 
     @signed.approval
@@ -34,7 +34,7 @@ def signed() -> sagas.Saga:
 
 @pytest.fixture
 def kind(url: str) -> sagas.Saga:
-    """A saga whose store has its tables, and no node."""
+    """Return a saga whose store has its tables, and no node."""
 
     async def made() -> None:
         async with sagas.open(url, [kind]):
@@ -47,27 +47,29 @@ def kind(url: str) -> sagas.Saga:
 
 @pytest.fixture
 def link(url: str) -> Iterator[psycopg.Connection[Any]]:
-    """A stranger's connection, which commits each statement."""
+    """Return a connection outside of the package, which commits each statement."""
     with psycopg.connect(url, autocommit=True, options="-c search_path=sagas") as link:
         yield link
 
 
 def one(link: psycopg.Connection[Any], text: str) -> Any:
-    """The one value of a query."""
+    """Return the single value of a query."""
     row = link.execute(text.encode()).fetchone()
     assert row
     return row[0]
 
 
-def asked(link: psycopg.Connection[Any]) -> int:
-    """How many requests nobody has answered."""
+def pending_requests(link: psycopg.Connection[Any]) -> int:
+    """Return how many requests have no reply."""
     of_sagas = "SELECT count(*) FROM operator_commands WHERE answer IS NULL"
     of_starts = "SELECT coalesce(sum(jsonb_array_length(commands)), 0) FROM pending_starts"
     return int(one(link, of_sagas) + one(link, of_starts))
 
 
 async def waits_for_a_person(url: str, store: sagas.Store, key: str) -> None:
-    """The saga is asked for, and nothing that was asked before is done to it."""
+    """Check that the saga waits for its approval, and that no earlier request is executed
+    for it.
+    """
     await until(lambda: [held.waits for held in store.active_attempts(key)] == ["approval"], 30)
     await store.complete(key, "sign", "by hand")
     end = await store.wait(key)
@@ -77,11 +79,12 @@ async def waits_for_a_person(url: str, store: sagas.Store, key: str) -> None:
 @pytest.mark.parametrize(
     "by, what, same", pairs(("client", "node"), ("complete", "abort"), (True, False))
 )
-def test_who_asked_is_gone_when_another_saga_has_the_key(
+def test_a_request_of_a_cancelled_caller_is_for_no_other_saga(
     url: str, link: psycopg.Connection[Any], kind: sagas.Saga, by: str, what: str, same: bool
 ) -> None:
-    """What was asked of a start is on its way to the server; the start is withdrawn, who asked is
-    cancelled, and another start has the key: nothing is done to that one."""
+    """A request for a start is in transit to the server; the start is withdrawn, the caller is
+    cancelled, and another start has the key: the request is not executed for that one.
+    """
     other = sagas.Saga("other")
 
     @other.step
@@ -95,9 +98,8 @@ def test_who_asked_is_gone_when_another_saga_has_the_key(
         stranger = await psycopg.AsyncConnection.connect(url, options="-c search_path=sagas")
         async with sagas.Client(url) as client, sagas.open(url, [other]) as store, stranger:
             await client.start(kind, "k", "first")
-            link.execute(
-                "UPDATE pending_starts SET node = (SELECT node FROM nodes)"
-            )  # it is not taken back
+            # it is not withdrawn
+            link.execute("UPDATE pending_starts SET node = (SELECT node FROM nodes)")
             await stranger.execute("LOCK TABLE operator_commands, pending_starts IN EXCLUSIVE MODE")
             asking = asyncio.create_task(ask(client if by == "client" else store))
             await until(lambda: one(link, BLOCKED))
@@ -109,7 +111,7 @@ def test_who_asked_is_gone_when_another_saga_has_the_key(
             async with sagas.open(url, [kind]) as node:
                 await until(lambda: one(link, "SELECT count(*) FROM sagas"), 30)
                 await waits_for_a_person(url, node, "k")
-        assert asked(link) == 0
+        assert pending_requests(link) == 0
 
     run(main())
 
@@ -117,15 +119,17 @@ def test_who_asked_is_gone_when_another_saga_has_the_key(
 def test_a_start_of_the_same_key_is_not_taken_back(
     url: str, link: psycopg.Connection[Any], kind: sagas.Saga
 ) -> None:
-    """An abort waits for the node that has taken the start. That start is let go, and another one
-    has the key, which no node has taken: it stays."""
+    """An abort waits for the node that has taken the start.
+
+    That start is deleted, and another one has the key, which no node has taken: it stays.
+    """
 
     async def main() -> None:
         async with sagas.Client(url) as client:
             await client.start(kind, "k", "first")
             link.execute("UPDATE pending_starts SET node = 'gone'")
             abort = asyncio.create_task(client.abort("k"))
-            await until(lambda: asked(link))
+            await until(lambda: pending_requests(link))
             async with await psycopg.AsyncConnection.connect(url) as stranger:
                 await stranger.execute("DELETE FROM sagas.pending_starts")
                 await client.start(kind, "k", "second", connection=stranger)
@@ -138,10 +142,10 @@ def test_a_start_of_the_same_key_is_not_taken_back(
 
 
 @pytest.mark.parametrize("what", ["complete", "abort"])
-def test_what_is_asked_of_a_start_is_asked_of_its_saga(
+def test_a_request_for_a_start_is_for_its_saga(
     url: str, link: psycopg.Connection[Any], kind: sagas.Saga, what: str
 ) -> None:
-    """Who asked is gone before a node comes; it is done all the same, once."""
+    """The caller is gone before a node comes; the request is executed anyway, once."""
 
     async def main() -> None:
         async with sagas.Client(url) as client:
@@ -149,21 +153,24 @@ def test_what_is_asked_of_a_start_is_asked_of_its_saga(
             link.execute("UPDATE pending_starts SET node = 'gone'")
             done = client.complete("k", "sign", "yes") if what == "complete" else client.abort("k")
             asking = asyncio.create_task(done)
-            await until(lambda: asked(link))
+            await until(lambda: pending_requests(link))
             asking.cancel()
             async with sagas.open(url, [kind]) as store, asyncio.timeout(60):
                 end = await store.wait("k")
                 assert end.aborted if what == "abort" else end.results == {"sign": "yes"}
-        assert asked(link) == 0 and one(link, "SELECT count(*) FROM operator_commands") == 1
+        assert (
+            pending_requests(link) == 0 and one(link, "SELECT count(*) FROM operator_commands") == 1
+        )
 
     run(main())
 
 
-def test_what_is_asked_while_a_start_is_opened(
+def test_a_request_during_the_opening_of_a_start(
     url: str, link: psycopg.Connection[Any], kind: sagas.Saga
 ) -> None:
-    """A node's commit opens the saga, and what is asked meanwhile waits for that commit: it is
-    asked of the saga, and answered."""
+    """A node's commit opens the saga, and a request that comes in the meantime waits for that
+    commit: it is made for the saga, and gets its reply.
+    """
 
     async def main() -> None:
         async with sagas.Client(url) as client, sagas.open(url, [kind]) as store:
@@ -173,7 +180,7 @@ def test_what_is_asked_while_a_start_is_opened(
                 await client.start(kind, "k")
                 await until(lambda: one(link, BLOCKED))
                 finish = asyncio.create_task(client.complete("k", "sign", "yes"))
-                await until(lambda: finish.done() or asked(link))
+                await until(lambda: finish.done() or pending_requests(link))
                 await stranger.commit()
                 async with asyncio.timeout(60):
                     await finish
@@ -182,19 +189,21 @@ def test_what_is_asked_while_a_start_is_opened(
     run(main())
 
 
-def test_what_was_asked_of_a_saga_that_is_gone(
+def test_a_request_for_a_deleted_saga(
     url: str, link: psycopg.Connection[Any], kind: sagas.Saga
 ) -> None:
-    """It is done to no other saga of its key, and goes with its own."""
-    text = "INSERT INTO operator_commands(key, command, value, at, saga) VALUES ('k', 'abort', 'null', 0, 5000)"
+    """It is executed for no other saga of its key, and deleted with its own."""
+    text = (
+        "INSERT INTO operator_commands(key, command, value, at, saga) VALUES ('k', 'abort', 'null',"
+        " 0, 5000)"
+    )
 
     async def main() -> None:
         async with sagas.open(url, [kind]) as store:
             await store.start(kind, "k")
             link.execute(text)
-            await asyncio.to_thread(
-                store_command.main, [url, "abort", "nobody"]
-            )  # the nodes hear of it
+            # the nodes are notified
+            await asyncio.to_thread(store_command.main, [url, "abort", "nobody"])
             await waits_for_a_person(url, store, "k")
             with pytest.raises(sagas.NoSuchSaga):
                 await store._commands.abort("k", None, of=5000)
@@ -206,11 +215,12 @@ def test_what_was_asked_of_a_saga_that_is_gone(
     run(main())
 
 
-def test_who_asks_of_a_saga_that_is_let_go(
+def test_a_request_during_the_deletion_of_its_saga(
     url: str, link: psycopg.Connection[Any], kind: sagas.Saga
 ) -> None:
-    """The saga goes while something is asked of it: nothing of that is left, and a saga that has
-    the key by then is not asked."""
+    """The saga is deleted while a request is made: nothing is left of it, and a saga that has the
+    key by then does not get it.
+    """
 
     async def main() -> None:
         async with sagas.open(url, [kind]) as store:
@@ -230,17 +240,18 @@ def test_who_asks_of_a_saga_that_is_let_go(
             async with sagas.open(url, [kind]) as other:
                 await until(lambda: one(link, "SELECT count(*) FROM sagas"))
                 await waits_for_a_person(url, other, "k")
-        assert asked(link) == 0
+        assert pending_requests(link) == 0
 
     run(main())
 
 
 @pytest.mark.parametrize("by, what", pairs(("client", "node"), ("complete", "abort", "fail")))
-def test_what_is_asked_as_a_start_with_a_large_input_becomes_a_saga(
+def test_a_request_during_the_opening_of_a_large_start(
     url: str, link: psycopg.Connection[Any], kind: sagas.Saga, by: str, what: str, tmp_path: Path
 ) -> None:
-    """The commit that opens the saga, whose input is a blob there, comes between the look of who
-    asks and what is asked: that is asked of the saga."""
+    """The commit that opens the saga, whose input is then a blob, comes between the caller's look
+    and its request: the request is made for the saga.
+    """
     blobs, other = sagas.FolderBlobStore(tmp_path / "blobs"), sagas.Saga("other")
     other.step(lambda task: None, name="x")
 
@@ -252,13 +263,13 @@ def test_what_is_asked_as_a_start_with_a_large_input_becomes_a_saga(
         )
 
     async def main() -> None:
-        words = {"blobs": blobs, "blob_threshold": 256}
+        settings = {"blobs": blobs, "blob_threshold": 256}
         commits = await psycopg.AsyncConnection.connect(url, options="-c search_path=sagas")
         holds = await psycopg.AsyncConnection.connect(url, options="-c search_path=sagas")
         async with sagas.Client(url, blobs=blobs) as client, sagas.open(
-            url, [other], **words
+            url, [other], **settings
         ) as store:
-            async with sagas.open(url, [kind], **words) as node, commits, holds:
+            async with sagas.open(url, [kind], **settings) as node, commits, holds:
                 await commits.execute("LOCK TABLE event_log IN EXCLUSIVE MODE")
                 await client.start(kind, "k", "large" * 100)
                 await until(
@@ -280,6 +291,6 @@ def test_what_is_asked_as_a_start_with_a_large_input_becomes_a_saga(
                     else end.states["sign"] == ("failed" if what == "fail" else "committed")
                 )
                 assert one(link, "SELECT input FROM sagas").startswith('{"$blob"')
-        assert asked(link) == 0
+        assert pending_requests(link) == 0
 
     run(main())

@@ -1,4 +1,4 @@
-"""A backup takes the place of a database while nodes run."""
+"""A backup replaces a database while nodes run."""
 
 from __future__ import annotations
 
@@ -16,7 +16,10 @@ import sagas
 
 
 class World:
-    """A saga of two steps, the second of which waits at a gate; what was called, and under which idempotency keys."""
+    """A saga of two steps, the second of which waits at a gate.
+
+    The class keeps the calls, with their idempotency keys.
+    """
 
     def __init__(self) -> None:
         self.calls: Counter[tuple[str, str]] = Counter()
@@ -44,7 +47,7 @@ class World:
         return begun
 
     async def goes_well(self, store: sagas.Store, key: str, given: str = "") -> None:
-        """A saga ends, started again while the store is away."""
+        """Check that a saga ends; start it again while the store is unavailable."""
         self.gates[key].set()
         while True:
             with contextlib.suppress(sagas.StoreUnavailable):
@@ -66,8 +69,10 @@ def test_a_backup_is_restored_under_a_running_node(
     is_quiet: bool,
     is_snapshot: bool,
 ) -> None:
-    """The node takes up its shards as the backup has them, also where it has nothing to write, and says why: what was open then ends, and what came
-    later is not there and can be started again, under other idempotency keys. No log has a gap."""
+    """The node loads its shards as the backup has them, also if it has nothing to write, and logs
+    the reason. Sagas that were open then end; later ones do not exist and can be started again,
+    under other idempotency keys. No log has a gap.
+    """
     monkeypatch.setattr("sagas.definition.shelf.SHARD_CAPACITY", room)
     world = World()
     back_up, restore = (
@@ -97,7 +102,7 @@ def test_a_backup_is_restored_under_a_running_node(
                 assert (await store.wait(key)).ok
             assert (await store.get("late") is None) == is_quiet
             await world.goes_well(store, "new", "again")
-            assert all(said.startswith("yes") for said in (await store.audit()).values())
+            assert all(verdict.startswith("yes") for verdict in (await store.audit()).values())
 
     run(main())
     errors = [
@@ -113,7 +118,7 @@ def test_a_backup_is_restored_under_a_running_node(
 
 
 def test_a_step_inside_of_a_saga_that_the_backup_lacks(postgresql: Server, url: str) -> None:
-    """What it does over its connection is not committed: the database does not know that it began."""
+    """Its work over its connection is not committed: the database does not know that it started."""
     saga, backup = sagas.Saga("booked"), list[pathlib.Path]()
     with psycopg.connect(url, autocommit=True) as link:
         link.execute("CREATE TABLE book(key text)")

@@ -1,4 +1,6 @@
-"""Ended sagas are let go with their log, exported before where that is wished, over both kinds of database."""
+"""Ended sagas are deleted with their log, exported before if requested, over both kinds of
+database.
+"""
 
 from __future__ import annotations
 
@@ -37,12 +39,12 @@ MONTH = 30 * 86400.0
 
 @pytest.fixture(autouse=True)
 def small(monkeypatch: pytest.MonkeyPatch) -> None:
-    """Logs of four sagas, so that some are full and closed."""
+    """Make logs of four sagas, so that some are full and closed."""
     monkeypatch.setattr("sagas.definition.shelf.SHARD_CAPACITY", ROOM)
 
 
 def shop() -> sagas.Saga:
-    """Ends well, is undone or is stuck, by its input."""
+    """Return a saga that ends well, is undone or is stuck, by its input."""
     shop = sagas.Saga("shop")
 
     @shop.step(undo=1, keep=5)
@@ -64,7 +66,9 @@ def shop() -> sagas.Saga:
 
 
 def must() -> sagas.Saga:
-    """Is stuck where its input says so: what cannot be undone may not stand."""
+    """Return a saga that is stuck if its input says so: a step that cannot be undone must not be
+    kept.
+    """
     must = sagas.Saga("must")
 
     @must.step(undo=1, keep=sagas.NEVER)
@@ -83,42 +87,47 @@ def must() -> sagas.Saga:
     return must
 
 
-def change(place: str, statement: str) -> None:
-    """Changes rows as nobody but a test does."""
-    if place.startswith("postgresql:"):
-        with psycopg.connect(place, options="-csearch_path=sagas") as link:
+def change(location: str, statement: str) -> None:
+    """Change rows, as only a test does."""
+    if location.startswith("postgresql:"):
+        with psycopg.connect(location, options="-csearch_path=sagas") as link:
             link.execute(statement)
     else:
-        with contextlib.closing(sqlite3.connect(place)) as db:
+        with contextlib.closing(sqlite3.connect(location)) as db:
             db.execute(statement)
             db.commit()
 
 
-def age(place: str, *logs: int, days: int = 40) -> None:
-    """The sagas of these logs ended that long ago."""
+def age(location: str, *logs: int, days: int = 40) -> None:
+    """Set the time at which the sagas of these logs ended."""
     for log in logs:
         change(
-            place,
-            f"UPDATE sagas SET ended = ended - {days} * 86400.0 WHERE id >= {1000 * log} AND id < {1000 * (log + 1)}",
+            location,
+            (
+                f"UPDATE sagas SET ended = ended - {days} * 86400.0 WHERE id >= {1000 * log} AND id"
+                f" < {1000 * (log + 1)}"
+            ),
         )
 
 
 async def fill(
-    place: str, kind: sagas.Saga, count: int, given: Callable[[int], Any] = lambda number: None
+    location: str, kind: sagas.Saga, count: int, given: Callable[[int], Any] = lambda number: None
 ) -> list[int]:
-    """Sagas that are over, in logs that are closed but for the last; gives the numbers of those that are closed."""
-    async with sagas.open(place, [kind]) as store:
+    """Run sagas to their end, in logs that are closed except for the last; return the numbers of
+    the closed ones.
+    """
+    async with sagas.open(location, [kind]) as store:
         for number in range(count):
             await ended(store, kind, f"k{number}", given(number))
         await until(
-            lambda: sum(log.closed for log in records.read(place).logs.values()) == count // ROOM
+            lambda: sum(log.closed for log in records.read(location).logs.values()) == count // ROOM
         )
-    return sorted(log.log for log in records.read(place).logs.values() if log.closed)
+    return sorted(log.log for log in records.read(location).logs.values() if log.closed)
 
 
-def tables(place: str) -> dict[str, int]:
-    """How many rows each table has."""
-    with contextlib.closing(admin.connect(place)) as link:
+def tables(location: str) -> dict[str, int]:
+    """Return how many rows each table has."""
+    with contextlib.closing(admin.connect(location)) as link:
         return {
             table: link.ask(f"SELECT count(*) FROM {table}")[0][0]
             for table in (
@@ -133,30 +142,32 @@ def tables(place: str) -> dict[str, int]:
         }
 
 
-def test_old_logs_go_as_a_whole_and_their_keys_are_free(
-    place: str, capsys: pytest.CaptureFixture[str]
-) -> None:
-    """What is younger, open or not closed stays; of what goes nothing is left; a key that is free takes another input."""
+def test_old_logs_are_deleted_as_a_whole(location: str, capsys: pytest.CaptureFixture[str]) -> None:
+    """Younger, open and unclosed ones stay; nothing is left of a deleted one; a free key takes
+    another input.
+    """
     kind = shop()
-    first, second, third = run(fill(place, kind, 3 * ROOM + 2))
-    open = max(records.read(place).logs)
-    age(place, first, second, open)
+    first, second, third = run(fill(location, kind, 3 * ROOM + 2))
+    open = max(records.read(location).logs)
+    age(location, first, second, open)
+    # one of its sagas is younger
+    change(location, f"UPDATE sagas SET ended = ended + 86400 * 39 WHERE id = {1000 * second}")
     change(
-        place, f"UPDATE sagas SET ended = ended + 86400 * 39 WHERE id = {1000 * second}"
-    )  # one of its sagas is younger
-    change(
-        place,
-        "INSERT INTO operator_commands(key, command, value, at, answer) VALUES('k0', 'abort', 'null', 1, 'false')",
+        location,
+        (
+            "INSERT INTO operator_commands(key, command, value, at, answer) VALUES('k0', 'abort',"
+            " 'null', 1, 'false')"
+        ),
     )
-    before = tables(place)
-    assert store_command.main([place, "prune", "--older-than", "30d", "--json"]) == 0
-    told = json.loads(capsys.readouterr().out)
-    kept = records.read(place)
-    assert told["sagas"] == ROOM and len(told["shards"]) == 1 and not told["more"]
+    before = tables(location)
+    assert store_command.main([location, "prune", "--older-than", "30d", "--json"]) == 0
+    report = json.loads(capsys.readouterr().out)
+    kept = records.read(location)
+    assert report["sagas"] == ROOM and len(report["shards"]) == 1 and not report["more"]
     assert sorted(kept.logs) == [second, third, open] and set(kept.sagas) == {
         f"k{number}" for number in range(ROOM, 3 * ROOM + 2)
     }
-    after = tables(place)
+    after = tables(location)
     assert {table: before[table] - after[table] for table in before} == {
         "shards": 1,
         "event_log": before["event_log"] - after["event_log"],
@@ -169,47 +180,47 @@ def test_old_logs_go_as_a_whole_and_their_keys_are_free(
     assert not any(row // 1000 == first for row in {id for id, _, _, _ in kept.results})
 
     async def again() -> None:
-        async with sagas.open(place, [kind]) as store:
+        async with sagas.open(location, [kind]) as store:
             with pytest.raises(sagas.NoSuchSaga):
                 await store.wait("k0")
             assert (await ended(store, kind, "k0", "another")).states["pay"] == "failed"
             with pytest.raises(sagas.KeyConflict):
                 await store.start(kind, f"k{ROOM}", "another")
-            assert all(said.startswith("yes") for said in (await store.audit()).values())
+            assert all(verdict.startswith("yes") for verdict in (await store.audit()).values())
             await until(lambda: is_closed(open))
 
     def is_closed(log: int) -> bool:
-        with contextlib.closing(admin.connect(place)) as link:
+        with contextlib.closing(admin.connect(location)) as link:
             return [
                 tuple(row) for row in link.ask(f"SELECT closed FROM shards WHERE shard = {log}")
             ] == [(1,)]
 
     run(again())
-    assert store_command.main([place, "prune", "--older-than", "0s"]) == 0
+    assert store_command.main([location, "prune", "--older-than", "0s"]) == 0
     assert f"deleted {2 * ROOM + 2} sagas (3 shards)" in capsys.readouterr().out
 
 
-def test_what_a_person_has_to_see_stays(place: str) -> None:
-    """A log with a stuck saga that nobody has resolved, and one whose audit said no."""
+def test_sagas_that_need_an_operator_stay(location: str) -> None:
+    """They are a log with a stuck saga that is not resolved, and one whose audit failed."""
     kind = must()
 
     async def main() -> None:
         first, second = await fill(
-            place, kind, 2 * ROOM, lambda number: "stuck" if number == 1 else None
+            location, kind, 2 * ROOM, lambda number: "stuck" if number == 1 else None
         )
-        change(place, f"UPDATE shards SET closed = 2 WHERE shard = {second}")
-        age(place, first, second)
-        assert retention.prune(place, MONTH).logs == []
-        async with sagas.open(place, [kind]) as store:
+        change(location, f"UPDATE shards SET closed = 2 WHERE shard = {second}")
+        age(location, first, second)
+        assert retention.prune(location, MONTH).logs == []
+        async with sagas.open(location, [kind]) as store:
             await store.resolve("k1", "seen to")
-        gone = retention.prune(place, MONTH)
-        assert gone.sagas == ROOM and set(records.read(place).logs) == {second}
+        gone = retention.prune(location, MONTH)
+        assert gone.sagas == ROOM and set(records.read(location).logs) == {second}
 
     run(main())
 
 
-def test_a_compensation_that_failed_stays(place: str) -> None:
-    """Its log is kept until somebody has resolved it, as one with a saga that is stuck."""
+def test_a_compensation_that_failed_stays(location: str) -> None:
+    """Its log is kept until an operator has resolved it, as one with a stuck saga is."""
     kind = sagas.Saga("row")
     take = kind.step(name="take", keep=9, undo=0)(lambda task: None)
 
@@ -222,77 +233,84 @@ def test_a_compensation_that_failed_stays(place: str) -> None:
         raise sagas.Fail("no")
 
     async def main() -> None:
-        (log,) = await fill(place, kind, ROOM, lambda number: None)
-        age(place, log)
-        assert retention.prune(place, MONTH).logs == []
-        async with sagas.open(place, [kind]) as store:
+        (log,) = await fill(location, kind, ROOM, lambda number: None)
+        age(location, log)
+        assert retention.prune(location, MONTH).logs == []
+        async with sagas.open(location, [kind]) as store:
             for number in range(ROOM):
                 await store.resolve(f"k{number}", "seen to")
-        assert retention.prune(place, MONTH).sagas == ROOM
+        assert retention.prune(location, MONTH).sagas == ROOM
 
     run(main())
 
 
-def test_an_export_is_what_the_audit_judges(place: str, tmp_path: pathlib.Path) -> None:
-    """Log and definitions, keys with inputs and results, and each plan with its certificate, as the program judges them."""
+def test_an_export_has_the_input_of_the_audit(location: str, tmp_path: pathlib.Path) -> None:
+    """It has log and definitions, keys with inputs and results, and each plan with its certificate,
+    as the program judges them.
+    """
     kind, folder = shop(), tmp_path / "archive"
-    logs = run(fill(place, kind, ROOM, lambda number: "fails" if number % 2 else None))
-    age(place, *logs)
-    before = records.read(place)
-    (name,) = retention.prune(place, MONTH, folder).logs
+    logs = run(fill(location, kind, ROOM, lambda number: "fails" if number % 2 else None))
+    age(location, *logs)
+    before = records.read(location)
+    (name,) = retention.prune(location, MONTH, folder).logs
     whole = folder / name
-    assert [path.name for path in folder.iterdir()] == [name] and records.read(place).logs == {}
+    assert [path.name for path in folder.iterdir()] == [name] and records.read(location).logs == {}
     about = json.loads((whole / "about.json").read_text())
     assert audit(whole / "log", [whole / "definition-00.toml"]) == about["audit"] and about[
         "audit"
     ].startswith(f"yes sagas {ROOM}")
-    told = {
+    entries = {
         row["key"]: row for row in map(json.loads, (whole / "sagas.jsonl").read_text().splitlines())
     }
     for key, row in before.sagas.items():
         plans = key in ("k1", "k3")
-        assert (told[key]["number"], told[key]["input"], told[key]["phase"], told[key]["end"]) == (
+        assert (
+            entries[key]["number"],
+            entries[key]["input"],
+            entries[key]["phase"],
+            entries[key]["end"],
+        ) == (
             row.number,
             row.input,
             "recovered" if plans else "completed",
             row.end,
         )
-        assert [one["value"] for one in told[key]["results"] if one["outcome"] == "commit"][0] == {
-            "of": key
-        }
+        assert [one["value"] for one in entries[key]["results"] if one["outcome"] == "commit"][
+            0
+        ] == {"of": key}
     plans = [json.loads(line) for line in (whole / "plans.jsonl").read_text().splitlines()]
     assert {plan["key"] for plan in plans} == {"k1", "k3"}
     for plan in plans:
         (tmp_path / "case.json").write_text(json.dumps(plan["case"]))
         (tmp_path / "answer.json").write_text(json.dumps(plan["answer"]))
-        words = [
+        command = [
             program(),
             "check",
             str(whole / "definition-00.toml"),
             str(tmp_path / "case.json"),
             str(tmp_path / "answer.json"),
         ]
-        assert subprocess.run(words, capture_output=True, text=True).stdout.startswith("least ")
+        assert subprocess.run(command, capture_output=True, text=True).stdout.startswith("least ")
 
 
-def test_nothing_goes_that_cannot_be_exported(
-    place: str, tmp_path: pathlib.Path, capsys: pytest.CaptureFixture[str]
+def test_nothing_is_deleted_that_cannot_be_exported(
+    location: str, tmp_path: pathlib.Path, capsys: pytest.CaptureFixture[str]
 ) -> None:
-    """A folder that cannot be made: the command says so, and the log stays."""
-    logs = run(fill(place, shop(), ROOM))
-    age(place, *logs)
+    """The folder cannot be made: the command reports that, and the log stays."""
+    logs = run(fill(location, shop(), ROOM))
+    age(location, *logs)
     (tmp_path / "file").touch()
     assert (
         store_command.main(
-            [place, "prune", "--older-than", "30d", "--export", str(tmp_path / "file")]
+            [location, "prune", "--older-than", "30d", "--export", str(tmp_path / "file")]
         )
         == 4
     )
-    assert "cannot write to" in capsys.readouterr().err and set(records.read(place).logs) == set(
+    assert "cannot write to" in capsys.readouterr().err and set(records.read(location).logs) == set(
         logs
     )
     with pytest.raises(SystemExit):
-        store_command.main([place, "prune", "--older-than", "soon"])
+        store_command.main([location, "prune", "--older-than", "soon"])
 
 
 KILLED = """
@@ -321,30 +339,34 @@ KILLED = """
 """
 
 
-def test_a_run_that_is_killed(place: str, tmp_path: pathlib.Path) -> None:
-    """In the middle of the export, or before each statement: the log is there as a whole until it is gone as a whole, and then the export is whole."""
-    logs = run(fill(place, shop(), ROOM))
-    age(place, *logs)
-    before, rows = records.read(place), tables(place)
+def test_a_run_that_is_killed(location: str, tmp_path: pathlib.Path) -> None:
+    """It is killed during the export, or before each statement: the whole log exists until it is
+    deleted as a whole, and then the export is complete.
+    """
+    logs = run(fill(location, shop(), ROOM))
+    age(location, *logs)
+    before, rows = records.read(location), tables(location)
     script = tmp_path / "killed.py"
     script.write_text(textwrap.dedent(KILLED))
     environment = os.environ | {"PYTHONPATH": str(HERE.parent / "src"), "SAGAS_PROGRAM": program()}
-    words = [sys.executable, str(script), place, str(tmp_path / "archive")]
+    command = [sys.executable, str(script), location, str(tmp_path / "archive")]
     last = 1 + len(retention.OF_SAGAS) + len(retention.OF_LOG)
     for point in (-1, 0, 1, last // 2, last - 1):
-        done = subprocess.run([*words, str(point)], env=environment, capture_output=True, text=True)
+        done = subprocess.run(
+            [*command, str(point)], env=environment, capture_output=True, text=True
+        )
         assert done.returncode == 9, done.stderr
-        assert records.read(place) == before and tables(place) == rows
-    done = subprocess.run([*words, "1000"], env=environment, capture_output=True, text=True)
+        assert records.read(location) == before and tables(location) == rows
+    done = subprocess.run([*command, "1000"], env=environment, capture_output=True, text=True)
     assert done.stdout == f"{ROOM}\n", done.stderr
-    assert records.read(place).logs == {}
+    assert records.read(location).logs == {}
     (folder,) = (tmp_path / "archive").iterdir()
     assert audit(folder / "log", [folder / "definition-00.toml"]).startswith(f"yes sagas {ROOM}")
-    assert tables(place)["sagas"] == 0
+    assert tables(location)["sagas"] == 0
 
 
 def files(folder: pathlib.Path) -> dict[str, str]:
-    """What is in a folder."""
+    """Return the files of a folder."""
     return {
         str(path.relative_to(folder)): path.read_text()
         for path in folder.rglob("*")
@@ -353,48 +375,53 @@ def files(folder: pathlib.Path) -> dict[str, str]:
 
 
 def test_one_run_at_a_time(
-    place: str, tmp_path: pathlib.Path, capsys: pytest.CaptureFixture[str]
+    location: str, tmp_path: pathlib.Path, capsys: pytest.CaptureFixture[str]
 ) -> None:
-    """While one is at work another one says so, and deletes and writes nothing; afterwards it does."""
-    logs = run(fill(place, shop(), ROOM))
-    age(place, *logs)
-    words = [place, "prune", "--older-than", "30d", "--export", str(tmp_path / "archive")]
-    before = tables(place)
-    with admin.writing(place) as link:
+    """While one is running another one reports that, and deletes and writes nothing; afterwards it
+    does.
+    """
+    logs = run(fill(location, shop(), ROOM))
+    age(location, *logs)
+    arguments = [location, "prune", "--older-than", "30d", "--export", str(tmp_path / "archive")]
+    before = tables(location)
+    with admin.writing(location) as link:
         assert link.take_prune_lock() and link.take_prune_lock()
-        assert store_command.main(words) == 1
+        assert store_command.main(arguments) == 1
         assert "another program is deleting ended sagas of this store" in capsys.readouterr().err
-        assert tables(place) == before and not (tmp_path / "archive").exists()
-    assert store_command.main(words) == 0 and tables(place)["sagas"] == 0
+        assert tables(location) == before and not (tmp_path / "archive").exists()
+    assert store_command.main(arguments) == 0 and tables(location)["sagas"] == 0
     assert len([*(tmp_path / "archive").iterdir()]) == 1
 
 
-def test_a_log_goes_while_it_is_exported(place: str, tmp_path: pathlib.Path) -> None:
-    """What is written is of one moment: all of the log; later nothing is, and what was written stays."""
-    (log,) = run(fill(place, shop(), ROOM))
-    kind = admin.DatabaseSource if place.startswith("postgresql:") else admin.FileSource
-    overtaken, ask, folder = kind(place, "rw"), kind.ask, tmp_path / "archive"
+def test_a_log_is_deleted_during_its_export(location: str, tmp_path: pathlib.Path) -> None:
+    """The export is of one moment: all of the log.
 
-    def asked(text: str, *words: Any) -> list[admin.Row]:
-        rows = ask(overtaken, text, *words)
+    A later export has nothing, and the first one stays.
+    """
+    (log,) = run(fill(location, shop(), ROOM))
+    kind = admin.DatabaseSource if location.startswith("postgresql:") else admin.FileSource
+    overtaken, ask, folder = kind(location, "rw"), kind.ask, tmp_path / "archive"
+
+    def overtaking(text: str, *parameters: Any) -> list[admin.Row]:
+        rows = ask(overtaken, text, *parameters)
         if text == archive.SHARD:
-            with admin.writing(place) as other:
+            with admin.writing(location) as other:
                 retention._delete(other, log, None)
         return rows
 
     with contextlib.closing(overtaken):
-        overtaken.ask = asked  # type: ignore[method-assign]
+        overtaken.ask = overtaking  # type: ignore[method-assign]
         whole = archive.write(overtaken, log, folder)
-        assert whole and tables(place)["sagas"] == 0
+        assert whole and tables(location)["sagas"] == 0
         before = files(folder)
-        told = [json.loads(line) for line in (whole / "sagas.jsonl").read_text().splitlines()]
-        assert [len(one["results"]) for one in told] == [2] * ROOM
+        entries = [json.loads(line) for line in (whole / "sagas.jsonl").read_text().splitlines()]
+        assert [len(one["results"]) for one in entries] == [2] * ROOM
         assert audit(whole / "log", [whole / "definition-00.toml"]).startswith(f"yes sagas {ROOM}")
         assert archive.write(overtaken, log, folder) is None and files(folder) == before
 
 
 def test_a_forked_child_keeps_no_archive(tmp_path: pathlib.Path) -> None:
-    """Who forks while a log is written hinders no later one."""
+    """A process that forks while a log is written does not block a later one."""
     reader, writer = os.pipe()
     with archive._locked(tmp_path):
         child = os.fork()
@@ -411,56 +438,67 @@ def test_a_forked_child_keeps_no_archive(tmp_path: pathlib.Path) -> None:
         os.waitpid(child, 0)
 
 
-def test_a_run_takes_no_more_than_its_most(place: str) -> None:
-    """In order of the logs' numbers, and the rest in further runs; by itself 100,000 sagas."""
+def test_a_run_has_a_limit(location: str) -> None:
+    """It goes in order of the logs' numbers, and the rest follows in further runs; the default is
+    100,000 sagas.
+    """
     assert retention.MAX_SAGAS == 100_000
-    logs = run(fill(place, shop(), 3 * ROOM))
-    age(place, *logs)
-    gone = retention.prune(place, MONTH, max_sagas=2 * ROOM)
-    assert gone.sagas == 2 * ROOM and gone.more and set(records.read(place).logs) == {logs[-1]}
-    gone = retention.prune(place, MONTH, max_sagas=2 * ROOM)
+    logs = run(fill(location, shop(), 3 * ROOM))
+    age(location, *logs)
+    gone = retention.prune(location, MONTH, max_sagas=2 * ROOM)
+    assert gone.sagas == 2 * ROOM and gone.more and set(records.read(location).logs) == {logs[-1]}
+    gone = retention.prune(location, MONTH, max_sagas=2 * ROOM)
     assert gone.sagas == ROOM and not gone.more
 
 
-def test_a_clock_that_is_put_forward_lets_nothing_go(place: str) -> None:
+def test_a_clock_set_forward_deletes_nothing(location: str) -> None:
     """The earlier one of two clocks counts."""
-    logs = run(fill(place, shop(), ROOM))
-    later = records.read(place)
+    logs = run(fill(location, shop(), ROOM))
+    later = records.read(location)
     assert (
-        retention.prune(place, MONTH, clock=lambda: 4e9).logs == [] and records.read(place) == later
+        retention.prune(location, MONTH, clock=lambda: 4e9).logs == []
+        and records.read(location) == later
     )
-    age(place, *logs)
-    assert retention.prune(place, MONTH, clock=lambda: 0.0).logs == []
+    age(location, *logs)
+    assert retention.prune(location, MONTH, clock=lambda: 0.0).logs == []
 
 
-def test_an_open_store_lets_them_go(place: str, tmp_path: pathlib.Path) -> None:
-    """`retention` and `archive_dir`, while sagas are started: a node says what went."""
+def test_an_open_store_prunes(location: str, tmp_path: pathlib.Path) -> None:
+    """`retention` and `archive_dir` work while sagas are started: a node reports what was
+    deleted.
+    """
     kind = shop()
-    told: list[sagas.Event] = []
+    events: list[sagas.Event] = []
 
     async def main() -> None:
-        logs = await fill(place, kind, 2 * ROOM)
-        age(place, *logs)
+        logs = await fill(location, kind, 2 * ROOM)
+        age(location, *logs)
         month = datetime.timedelta(days=30)
         async with sagas.open(
-            place, [kind], retention=month, archive_dir=tmp_path / "archive", on_event=told.append
+            location,
+            [kind],
+            retention=month,
+            archive_dir=tmp_path / "archive",
+            on_event=events.append,
         ) as store:
             await asyncio.gather(*(ended(store, kind, f"new-{number}") for number in range(10)))
-            await until(lambda: any(event.name == "shards_pruned" for event in told))
+            await until(lambda: any(event.name == "shards_pruned" for event in events))
             assert (await ended(store, kind, "k0", "fails")).states["pay"] == "failed"
-        assert not set(logs) & set(records.read(place).logs)
+        assert not set(logs) & set(records.read(location).logs)
 
     run(main())
-    assert [event.detail for event in told if event.name == "shards_pruned"] == [
+    assert [event.detail for event in events if event.name == "shards_pruned"] == [
         f"2 shards, {2 * ROOM} sagas"
     ]
     assert len(list((tmp_path / "archive").iterdir())) == 2
     with pytest.raises(TypeError, match="timedelta"):
-        sagas.open(place, [kind], retention=30)  # type: ignore[arg-type]
+        sagas.open(location, [kind], retention=30)  # type: ignore[arg-type]
 
 
 def test_a_start_feels_no_lock_of_it(url: str) -> None:
-    """A log is being deleted, and that is not committed: sagas are started and end; another run goes past."""
+    """A log is being deleted, and that is not committed: sagas are started and end; another run
+    skips it.
+    """
     kind = shop()
 
     async def main() -> None:
@@ -482,7 +520,7 @@ def test_a_start_feels_no_lock_of_it(url: str) -> None:
 
 
 def waits_for_a_lock(url: str) -> bool:
-    """Whether somebody does, in this database."""
+    """Return whether a statement waits for a lock in this database."""
     text = (
         "SELECT 1 FROM pg_locks JOIN pg_database d ON d.oid = database "
         "WHERE NOT granted AND datname = current_database()"
@@ -492,11 +530,11 @@ def waits_for_a_lock(url: str) -> bool:
 
 
 ASKS: dict[str, Callable[[Any], Any]] = {
-    "wait": lambda asked: asked.wait("k0"),
-    "log": lambda asked: asked.log("k0"),
-    "plan": lambda asked: asked.plan("k0"),
+    "wait": lambda reader: reader.wait("k0"),
+    "log": lambda reader: reader.log("k0"),
+    "plan": lambda reader: reader.plan("k0"),
 }
-"""What is asked of a saga."""
+"""The reads of a saga."""
 
 
 @pytest.mark.parametrize(
@@ -504,9 +542,11 @@ ASKS: dict[str, Callable[[Any], Any]] = {
     [("attempts", "wait"), ("attempts", "log"), ("event_log", "log"), ("event_log", "plan")],
 )
 @pytest.mark.parametrize("who", ["client", "node"])
-def test_a_saga_that_goes_while_it_is_read(url: str, who: str, table: str, ask: str) -> None:
-    """Its row was read, and its log is deleted before the rest is: it is said to be gone, and is
-    not told with results of None, without events or as one without a plan."""
+def test_a_saga_that_is_deleted_during_a_read(url: str, who: str, table: str, ask: str) -> None:
+    """Its row was read, and its log is deleted before the rest is: the error says that it is gone.
+
+    It is never returned with results of None, without events or without its plan.
+    """
     kind = shop()
 
     async def main() -> None:
@@ -516,11 +556,11 @@ def test_a_saga_that_goes_while_it_is_read(url: str, who: str, table: str, ask: 
             with admin.writing(url) as link:
                 with link.transaction():
                     link.changed(f"LOCK TABLE {table} IN ACCESS EXCLUSIVE MODE")
-                    asked = asyncio.ensure_future(ASKS[ask](reader))
+                    reading = asyncio.ensure_future(ASKS[ask](reader))
                     await until(lambda: waits_for_a_lock(url))
                     assert retention._delete(link, log, None)
                 with pytest.raises(sagas.NoSuchSaga, match="'k0' was deleted meanwhile"):
-                    await asked
+                    await reading
 
     run(main())
 
@@ -532,8 +572,8 @@ FROM sagas WHERE key = 'k1'
 """
 
 
-def test_a_saga_that_goes_while_it_is_looked_at(url: str) -> None:
-    """As above, of all that is kept of it; another saga that has the key by then is seen."""
+def test_a_saga_that_is_deleted_during_a_look(url: str) -> None:
+    """The same holds for all of its data; another saga that has the key by then is returned."""
     kind = shop()
 
     async def main() -> None:
@@ -545,14 +585,14 @@ def test_a_saga_that_goes_while_it_is_looked_at(url: str) -> None:
                 with contextlib.closing(looks), admin.writing(url) as link:
                     with link.transaction():
                         link.changed("LOCK TABLE attempts IN ACCESS EXCLUSIVE MODE")
-                        asked = asyncio.ensure_future(
+                        reading = asyncio.ensure_future(
                             asyncio.to_thread(lambda: looks.ask(one_saga.view("k0")))
                         )
                         await until(lambda: waits_for_a_lock(url))
                         link.changed("DELETE FROM sagas WHERE key = ?", "k0")
                         if other:
                             link.changed("UPDATE sagas SET key = 'k0' WHERE key = 'k1'")
-                    view = await asked
+                    view = await reading
                 assert (view is None) is not other
                 if view:
                     assert view.results == {"take": {"of": "k1"}, "pay": 1}

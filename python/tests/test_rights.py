@@ -1,4 +1,6 @@
-"""Files that this user may not read or write, and files that are no store: what is said of them, and what is left beside them."""
+"""Files that this user may not read or write, and files that are not a store: the errors, and no
+files left.
+"""
 
 from __future__ import annotations
 
@@ -18,15 +20,16 @@ from cases import ended, run, simple
 import sagas
 from sagas.cli import store_command
 
-NOBODY = 65534
+USER = 65534
 SAGA = simple(lambda task: 1)
 REMEDY = "this user must be able to read and write it, and to write to its folder"
 
 
 @pytest.fixture(autouse=True)
 def reachable(monkeypatch: pytest.MonkeyPatch) -> Iterator[None]:
-    """Lets another user run the program and the package, also if the checkout is in a home folder:
-    the program is copied, and all modules are imported before."""
+    """Let another user run the program and the package, also if the checkout is in a home folder:
+    the program is copied, and all modules are imported before.
+    """
     for module in pkgutil.walk_packages(sagas.__path__, "sagas."):
         if not module.name.endswith("__main__") and ".celery" not in module.name:
             importlib.import_module(module.name)
@@ -40,11 +43,11 @@ def reachable(monkeypatch: pytest.MonkeyPatch) -> Iterator[None]:
 
 @contextlib.contextmanager
 def another() -> Iterator[None]:
-    """As a user without root's rights."""
+    """Become a user without root's rights."""
     if os.geteuid() != 0:
         yield
         return
-    os.seteuid(NOBODY)
+    os.seteuid(USER)
     try:
         yield
     finally:
@@ -53,7 +56,7 @@ def another() -> Iterator[None]:
 
 @pytest.fixture
 def store() -> Iterator[pathlib.Path]:
-    """A store in a folder that others may look into."""
+    """Return a store in a folder that others may look into."""
     with tempfile.TemporaryDirectory() as name:
         folder = pathlib.Path(name)
         folder.chmod(0o755)
@@ -62,19 +65,19 @@ def store() -> Iterator[pathlib.Path]:
 
 
 async def used(path: pathlib.Path) -> None:
-    """Opens a store, and runs a saga there if it has not run."""
+    """Open a store, and run a saga there if it has not run."""
     async with sagas.open(path, [SAGA]) as store:
         assert (await ended(store, SAGA)).ok
 
 
-def test_the_command_says_what_it_may_not(
+def test_the_command_reports_missing_rights(
     store: pathlib.Path, capsys: pytest.CaptureFixture[str]
 ) -> None:
-    """A file that cannot be read, or a folder that cannot be looked into: one line, with the remedy."""
+    """For an unreadable file or folder it prints one line, with the remedy."""
     store.chmod(0)
     with another():
-        for words in (["list"], ["abort", "k"], ["audit"]):
-            assert store_command.main([str(store), *words]) == 4
+        for arguments in (["list"], ["abort", "k"], ["audit"]):
+            assert store_command.main([str(store), *arguments]) == 4
             assert (
                 capsys.readouterr().err
                 == f"sagas store: {store}: unable to open database file: {REMEDY}\n"
@@ -91,21 +94,23 @@ def test_the_command_says_what_it_may_not(
         store.parent.chmod(0o755)
 
 
-def test_the_command_tells_of_what_is_spoilt(
+def test_the_command_reports_a_damaged_file(
     store: pathlib.Path, capsys: pytest.CaptureFixture[str]
 ) -> None:
-    """A file that turns out to be no whole database is told of in one line as well."""
+    """A file that turns out to be a damaged database is reported in one line as well."""
     data = bytearray(store.read_bytes())
     data[4096:] = b"\xff" * (len(data) - 4096)
     store.write_bytes(data)
     assert store_command.main([str(store), "list"]) == 4
-    said = capsys.readouterr().err
-    assert said.startswith(f"sagas store: {store}") and said.count("\n") == 1
+    errors = capsys.readouterr().err
+    assert errors.startswith(f"sagas store: {store}") and errors.count("\n") == 1
 
 
 @pytest.mark.skipif(os.geteuid() != 0, reason="only root can give files to others")
-def test_open_says_whose_the_lock_is(store: pathlib.Path) -> None:
-    """The lock of another user's, and a file that cannot be written or read, with the remedy."""
+def test_open_names_the_owner_of_the_lock(store: pathlib.Path) -> None:
+    """The error has the lock of another user, and a file that cannot be written or read, with the
+    remedy.
+    """
 
     def refused(match: str) -> None:
         with another(), pytest.raises(sagas.StoreUnavailable, match=match):
@@ -125,17 +130,19 @@ def test_open_says_whose_the_lock_is(store: pathlib.Path) -> None:
 
 @pytest.mark.skipif(os.geteuid() != 0, reason="only root can give files to others")
 def test_the_owner_deletes_after_root(store: pathlib.Path) -> None:
-    """A run of an administrator keeps the store's owner from none of his own."""
+    """A run of an administrator does not prevent runs of the store's owner."""
     for path in (store.parent, *store.parent.iterdir()):
-        os.chown(path, NOBODY, NOBODY)
-    words = [str(store), "prune", "--older-than", "0s"]
-    assert store_command.main(words) == 0
+        os.chown(path, USER, USER)
+    arguments = [str(store), "prune", "--older-than", "0s"]
+    assert store_command.main(arguments) == 0
     with another():
-        assert store_command.main(words) == 0
+        assert store_command.main(arguments) == 0
 
 
-def test_nothing_is_left_beside_what_is_no_store(tmp_path: pathlib.Path) -> None:
-    """Whoever gives his program in place of a store's path finds it as it was, and nothing beside it."""
+def test_no_files_next_to_a_file_that_is_not_a_store(tmp_path: pathlib.Path) -> None:
+    """A user who gives a program instead of a store's path finds it unchanged, and no file next to
+    it.
+    """
     path = tmp_path / "order1.py"
     path.write_text("print('no store')\n")
     with pytest.raises(

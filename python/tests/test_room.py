@@ -1,4 +1,8 @@
-"""A saga is opened where its log has room for its end: a log that has none for it is full, and another one takes it. Each has room for any definition."""
+"""A saga is opened only if its log has space for its end.
+
+A log without that space is full, and another one takes the saga. Each log has space for any
+definition.
+"""
 
 from __future__ import annotations
 
@@ -14,7 +18,9 @@ GREATEST = 10**9
 
 
 def row(name: str, steps: int, needs: int, tries: int = 1) -> sagas.Saga:
-    """Steps of the greatest costs, each of which needs so many before it; the first waits for the gate that its input names."""
+    """Return steps of the highest costs, each of which needs `needs` steps before it; the first
+    waits for the gate that its input names.
+    """
     row = sagas.Saga(name)
 
     async def go(task: Task) -> None:
@@ -22,7 +28,7 @@ def row(name: str, steps: int, needs: int, tries: int = 1) -> sagas.Saga:
             await GATES[task.input].wait()
 
     for number in range(steps):
-        before = [f"s{place}" for place in range(max(0, number - needs), number)]
+        before = [f"s{index}" for index in range(max(0, number - needs), number)]
         step = row.step(
             name=f"s{number}",
             needs=before,
@@ -39,32 +45,33 @@ def row(name: str, steps: int, needs: int, tries: int = 1) -> sagas.Saga:
 GATES: dict[str, asyncio.Event] = {}
 
 
-@pytest.mark.parametrize("place", ["postgresql"], indirect=True)
-def test_the_greatest_definition_runs(place: str) -> None:
-    """An empty log has room for it, with nine attempts of each action and compensation."""
+@pytest.mark.parametrize("location", ["postgresql"], indirect=True)
+def test_the_greatest_definition_runs(location: str) -> None:
+    """An empty log has space for it, with nine attempts of each action and compensation."""
     greatest = row("greatest", 1024, 8, tries=9)
 
     async def main() -> None:
-        async with sagas.open(place, [greatest]) as store:
+        async with sagas.open(location, [greatest]) as store:
             assert (await store.start(greatest, "k")).new and await store.abort("k")
             assert (await store.wait("k")).phase == "recovered"
 
     run(main())
 
 
-@pytest.mark.parametrize("place", ["sqlite"], indirect=True)
-def test_a_log_that_fills_up_goes_on_in_another(place: str) -> None:
-    """One log takes four open sagas of 1,024 steps with 8,156 needs. The sagas of both logs end,
-    and both logs pass their audit.
+@pytest.mark.parametrize("location", ["sqlite"], indirect=True)
+def test_a_full_log_is_followed_by_another(location: str) -> None:
+    """One log takes four open sagas of 1,024 steps with 8,156 needs.
+
+    The sagas of both logs end, and both logs pass their audit.
     """
     wide = row("wide", 1024, 8)
 
     async def main() -> list[int]:
         gate = GATES["wide"] = asyncio.Event()
-        async with sagas.open(place, [wide], concurrency=100) as store:
+        async with sagas.open(location, [wide], concurrency=100) as store:
             starts = [store.start(wide, f"k{number}", "wide") for number in range(6)]
             runs = await asyncio.gather(*starts)
-            opened = records.read(place)
+            opened = records.read(location)
             assert all(await asyncio.gather(*(run.abort() for run in runs)))
             gate.set()
             assert {end.phase for end in await asyncio.gather(*(run.wait() for run in runs))} <= {

@@ -38,7 +38,7 @@ EVERY = datetime.timedelta(hours=6)
 
 
 class Clock:
-    """A wall clock that is set."""
+    """A wall clock that the test sets."""
 
     def __init__(self, now: float = START) -> None:
         self.now = now
@@ -47,12 +47,12 @@ class Clock:
         return self.now
 
 
-def nightly(**words: Any) -> sagas.Saga:
-    return simple(lambda task: task.input, **words)
+def nightly(**options: Any) -> sagas.Saga:
+    return simple(lambda task: task.input, **options)
 
 
 def keys(path: str) -> list[str]:
-    """The keys of all sagas, in order."""
+    """Return the keys of all sagas, in order."""
     with contextlib.closing(admin.connect(path)) as link:
         return [key for (key,) in link.ask("SELECT key FROM sagas ORDER BY key")]
 
@@ -67,7 +67,7 @@ TIMES = [
     ("0 0 */10 * 1", "UTC", "2026-03-01 00:00", ["05-11 00:00", "06-01 00:00"]),
     ("@weekly", "UTC", "2026-02-27 00:00", ["03-01 00:00", "03-08 00:00"]),
     ("5 0 * * *", "Asia/Kathmandu", "2026-03-01 00:00", ["03-01 18:20", "03-02 18:20"]),
-    # the hour from two to three is left out on the 29th of March, and there twice on the 25th of
+    # the hour from two to three is missing on the 29th of March, and occurs twice on the 25th of
     # October
     ("30 2 * * *", "Europe/Berlin", "2026-03-28 12:00", ["03-29 01:30", "03-30 00:30"]),
     ("30 2,3 * * *", "Europe/Berlin", "2026-03-29 00:00", ["03-29 01:30", "03-30 00:30"]),
@@ -81,13 +81,13 @@ TIMES = [
 @pytest.mark.parametrize("cron, zone, after, wanted", TIMES)
 def test_times_of_an_expression(cron: str, zone: str, after: str, wanted: list[str]) -> None:
     start = datetime.datetime.fromisoformat(after).replace(tzinfo=UTC)
-    found = schedule_times(cron=cron, timezone=zone, after=start, count=len(wanted))
-    assert [f"{at:%m-%d %H:%M}" for at in found] == wanted
+    times = schedule_times(cron=cron, timezone=zone, after=start, count=len(wanted))
+    assert [f"{at:%m-%d %H:%M}" for at in times] == wanted
 
 
 @pytest.mark.parametrize("cron", [None, "* * * * *", "0 0 29 2 *", "30 2 * 3,10 *", "*/7 3 1 * 1"])
 def test_times_of_many_years_are_not_gone_through(cron: str | None) -> None:
-    """The last one that was missed, and the next one, as if each had been looked at."""
+    """The last missed time, and the next one, are the same as if each had been looked at."""
     every, zone = (None if cron else datetime.timedelta(seconds=1)), "Europe/Berlin"
     when = timing.timing(cron, every, zone, "last")
     began = time.monotonic()
@@ -101,13 +101,13 @@ def test_times_of_many_years_are_not_gone_through(cron: str | None) -> None:
 def test_times_in_equal_distances() -> None:
     """They are the same whenever the schedule is declared."""
     start = datetime.datetime(2026, 3, 1, 12, 0, tzinfo=UTC)
-    found = schedule_times(every=datetime.timedelta(minutes=45), after=start, count=2)
-    assert found == [start.replace(minute=45), start.replace(hour=13, minute=30)]
+    times = schedule_times(every=datetime.timedelta(minutes=45), after=start, count=2)
+    assert times == [start.replace(minute=45), start.replace(hour=13, minute=30)]
 
 
 @pytest.mark.parametrize("seconds", [1.1, 7.3, DAY / 7])
-def test_each_time_is_behind_the_one_before(seconds: float) -> None:
-    """Also where the distance is no binary fraction, so that times are rounded."""
+def test_each_time_follows_the_one_before(seconds: float) -> None:
+    """This holds also if the interval is not a binary fraction, so that times are rounded."""
     every = datetime.timedelta(seconds=seconds)
     each, last = (timing.timing(None, every, "UTC", catch_up) for catch_up in ("all", "last"))
     times, later = each.due(each.next_after(START), START + 60 * seconds, 50)
@@ -139,13 +139,13 @@ WRONG = [
 ]
 
 
-def test_schedules_that_are_none(tmp_path: pathlib.Path) -> None:
-    """Nothing is kept of them."""
+def test_invalid_schedules(tmp_path: pathlib.Path) -> None:
+    """They are not stored."""
 
     async def main() -> None:
         async with sagas.open(tmp_path / "store.db", [kind := nightly()]) as store:
-            for words, text in WRONG:
-                given: dict[str, Any] = {"name": "n", **words}
+            for options, text in WRONG:
+                given: dict[str, Any] = {"name": "n", **options}
                 with pytest.raises(sagas.InvalidSchedule) as caught:
                     await store.schedule(given.pop("name"), kind, **given)
                 assert text in str(caught.value)
@@ -161,18 +161,20 @@ def test_schedules_that_are_none(tmp_path: pathlib.Path) -> None:
     run(main())
 
 
-def test_a_schedule_starts_sagas(place: str) -> None:
-    """Of real time: each time's saga has its input and labels; a removed one starts no more."""
+def test_a_schedule_starts_sagas(location: str) -> None:
+    """In real time: each time's saga has its input and labels; a removed schedule starts
+    no more.
+    """
 
     async def main() -> None:
-        async with sagas.open(place, [kind := nightly()]) as store:
+        async with sagas.open(location, [kind := nightly()]) as store:
             second = datetime.timedelta(seconds=1)
             for _ in range(2):
                 await store.schedule("tick", kind, {"n": 1}, every=second, labels={"by": "tick"})
-            found = await until(lambda: store.list(labels={"by": "tick"}))
-            end = await store.wait(found[0].key)
-            assert end.results == {"a": {"n": 1}} and found[0].key.startswith("tick@20")
-            await until(lambda: len(keys(place)) >= 2)
+            started = await until(lambda: store.list(labels={"by": "tick"}))
+            end = await store.wait(started[0].key)
+            assert end.results == {"a": {"n": 1}} and started[0].key.startswith("tick@20")
+            await until(lambda: len(keys(location)) >= 2)
             (one,) = await store.schedules()
             assert (one.name, one.saga, one.every, one.paused) == ("tick", "simple", 1.0, False)
             await store.remove_schedule("tick")
@@ -182,13 +184,15 @@ def test_a_schedule_starts_sagas(place: str) -> None:
 
 
 @pytest.mark.parametrize("catch_up", ["last", "all", "skip"])
-def test_times_that_were_missed(place: str, catch_up: str, monkeypatch: pytest.MonkeyPatch) -> None:
-    """No program ran for two days; a paused schedule misses nothing; what is changed is new."""
-    monkeypatch.setattr(scheduler, "MAX_STARTS", 3)
+def test_times_that_were_missed(
+    location: str, catch_up: str, monkeypatch: pytest.MonkeyPatch
+) -> None:
+    """No program ran for two days; a paused schedule misses nothing; a changed one is new."""
+    monkeypatch.setattr(scheduler, "MOST", 3)
     clock = Clock()
 
     async def main() -> None:
-        async with sagas.open(place, [kind := nightly()], clock=clock) as store:
+        async with sagas.open(location, [kind := nightly()], clock=clock) as store:
             await store.schedule("n", kind, every=EVERY, catch_up=catch_up)
             await store.schedule("p", kind, every=EVERY, catch_up="all")
             await store.pause_schedule("p")
@@ -198,22 +202,22 @@ def test_times_that_were_missed(place: str, catch_up: str, monkeypatch: pytest.M
             f"n@2026-03-0{day}T{hour:02}:00:00Z" for day in (1, 2, 3) for hour in (0, 6, 12, 18)
         ][3:11]
         wanted = missed if catch_up == "all" else missed[-1:]  # which is not late
-        async with sagas.open(place, [kind], clock=clock) as store:
+        async with sagas.open(location, [kind], clock=clock) as store:
             await until(lambda: is_at(store, START + 2 * DAY))
-            assert keys(place) == wanted
+            assert keys(location) == wanted
             await store.resume_schedule("p")
-            found = {one.name: one for one in await store.schedules()}
-            assert {one.next_at for one in found.values()} == {START + 2 * DAY + 6 * 3600}
-            assert found["n"].last_at == START + 2 * DAY and found["p"].last_at is None
+            by_name = {one.name: one for one in await store.schedules()}
+            assert {one.next_at for one in by_name.values()} == {START + 2 * DAY + 6 * 3600}
+            assert by_name["n"].last_at == START + 2 * DAY and by_name["p"].last_at is None
             await store.schedule("n", kind, cron="0 2 * * *", timezone="Europe/Berlin")
             (one, _) = await store.schedules()
             assert one.next_at == START + 2 * DAY + 13 * 3600 and one.every is None
         clock.now += DAY / 2 + 120
-        async with sagas.open(place, [kind], clock=clock) as store:
+        async with sagas.open(location, [kind], clock=clock) as store:
             await store.schedule("s", kind, every=EVERY, catch_up="skip")
-            await until(lambda: len(keys(place)) == len(wanted) + 2)
+            await until(lambda: len(keys(location)) == len(wanted) + 2)
             await until(lambda: is_at(store, START + 2 * DAY + 12 * 3600, "p"))
-            assert keys(place)[-2:] == ["p@2026-03-03T18:00:00Z", "p@2026-03-04T00:00:00Z"]
+            assert keys(location)[-2:] == ["p@2026-03-03T18:00:00Z", "p@2026-03-04T00:00:00Z"]
 
     async def is_at(store: sagas.Store, at: float, name: str = "n") -> bool:
         return any((one.name, one.last_at) == (name, at) for one in await store.schedules())
@@ -222,84 +226,86 @@ def test_times_that_were_missed(place: str, catch_up: str, monkeypatch: pytest.M
 
 
 @pytest.mark.parametrize("what", ["pause", "remove", "change"])
-def test_nothing_is_started_behind_the_answer(place: str, what: str) -> None:
+def test_nothing_is_started_after_a_change(location: str, what: str) -> None:
     """Several times are due; when the first saga has started, another program changes that."""
-    clock, told = Clock(), list[str]()
+    clock, event_names = Clock(), list[str]()
 
     def change(event: sagas.Event) -> None:
-        if event.name == "saga_started" and not told:
-            told.append(event.name)
-            with contextlib.closing(admin.connect(place, "rw")) as link:
+        if event.name == "saga_started" and not event_names:
+            event_names.append(event.name)
+            with contextlib.closing(admin.connect(location, "rw")) as link:
                 if what == "change":
                     Schedules(link).put("n", ("simple", 1), "7", "{}", when, clock.now)
                 else:
                     getattr(Schedules(link), what)("n")
 
     async def main() -> None:
-        async with sagas.open(place, [kind := nightly()], clock=clock) as store:
+        async with sagas.open(location, [kind := nightly()], clock=clock) as store:
             await store.schedule("n", kind, every=EVERY, catch_up="all")
-            await store.schedule("z", kind, every=EVERY)  # its turn is behind that of the other one
+            await store.schedule("z", kind, every=EVERY)  # its turn is after that of the other one
         clock.now += 2 * DAY
-        async with sagas.open(place, [kind], clock=clock, on_event=change) as store:
-            await until(lambda: any(key.startswith("z@") for key in keys(place)))
-            assert keys(place) == ["n@2026-03-01T18:00:00Z", "z@2026-03-03T12:00:00Z"]
-            found = {one.name: one for one in await store.schedules()}
+        async with sagas.open(location, [kind], clock=clock, on_event=change) as store:
+            await until(lambda: any(key.startswith("z@") for key in keys(location)))
+            assert keys(location) == ["n@2026-03-01T18:00:00Z", "z@2026-03-03T12:00:00Z"]
+            by_name = {one.name: one for one in await store.schedules()}
             if what == "pause":
-                assert found["n"].paused and found["n"].last_at == START + DAY / 4
+                assert by_name["n"].paused and by_name["n"].last_at == START + DAY / 4
             elif what == "change":
-                assert found["n"].input == 7 and found["n"].next_at > clock.now
+                assert by_name["n"].input == 7 and by_name["n"].next_at > clock.now
 
     when = timing.timing(None, EVERY, "UTC", "all")
     run(main())
 
 
 def test_a_time_zone_that_this_system_does_not_have(
-    place: str, monkeypatch: pytest.MonkeyPatch
+    location: str, monkeypatch: pytest.MonkeyPatch
 ) -> None:
-    """Its schedule is left to other nodes, which is told; all others go on, and so does it once its zone is there."""
-    monkeypatch.setattr(scheduler, "MAX_PAUSE", 0.1)
-    clock, kind, said = Clock(), nightly(), list[str | None]()
+    """Its schedule is left to other nodes, which is logged; all others continue, and so does it
+    once its zone exists.
+    """
+    monkeypatch.setattr(scheduler, "MOST_PAUSE", 0.1)
+    clock, kind, details = Clock(), nightly(), list[str | None]()
 
     def zone(name: str) -> None:
-        with contextlib.closing(admin.connect(place, "rw")) as link:
+        with contextlib.closing(admin.connect(location, "rw")) as link:
             link.changed("UPDATE schedules SET timezone = ? WHERE name = 'far'", name)
             link.notify("requests")
 
     def hears(event: sagas.Event) -> None:
         if event.name == "schedule_failed":
-            said.append(event.detail)
+            details.append(event.detail)
 
     async def main() -> None:
-        async with sagas.open(place, [kind], clock=clock, on_event=hears) as store:
+        async with sagas.open(location, [kind], clock=clock, on_event=hears) as store:
             await store.schedule("far", kind, cron="0 * * * *")
             await store.schedule("near", kind, every=EVERY)
             zone("Mars/Utopia")
             for hours in (6, 12):
                 clock.now = START + hours * 3600
                 await until(
-                    lambda: len([key for key in keys(place) if key.startswith("near@")])
+                    lambda: len([key for key in keys(location) if key.startswith("near@")])
                     == hours // 6
                 )
-            (told,) = said
-            assert told and told.startswith(
+            (detail,) = details
+            assert detail and detail.startswith(
                 "far: timezone='Mars/Utopia': this system does not have"
             )
             with pytest.raises(sagas.InvalidSchedule, match="this system does not have"):
                 await store.pause_schedule("far")
                 await store.resume_schedule("far")
-            with contextlib.closing(admin.connect(place, "rw")) as link:
+            with contextlib.closing(admin.connect(location, "rw")) as link:
                 link.changed("UPDATE schedules SET paused = 0")
             zone("UTC")
-            await until(lambda: [key for key in keys(place) if key.startswith("far@")])
+            await until(lambda: [key for key in keys(location) if key.startswith("far@")])
 
     run(main())
 
 
-def test_other_times_are_not_those_that_were_read(place: str) -> None:
-    """A node that read the schedule before a change does not say when its next time is."""
-    with sagas.open_sync(place, [nightly()]):
+def test_other_times_are_not_those_that_were_read(location: str) -> None:
+    """A node that read the schedule before a change does not report its next time."""
+    with sagas.open_sync(location, [nightly()]):
         pass
-    with contextlib.closing(admin.connect(place, "rw")) as link:
+    with contextlib.closing(admin.connect(location, "rw")) as link:
         schedules, what = Schedules(link), ("n", ("simple", 1), "null", "{}")
         long, short = (timing.timing(None, EVERY / parts, "UTC", "all") for parts in (1, 3))
         schedules.put(*what, long, START)
@@ -310,14 +316,14 @@ def test_other_times_are_not_those_that_were_read(place: str) -> None:
         assert read.next_at == of_row(changed[0]).next_at and link.ask(ALL) == changed
 
 
-def test_a_schedule_that_is_declared_again(place: str) -> None:
-    """It goes on as it is, though its input is another text with a codec, by the newest key."""
+def test_a_schedule_that_is_declared_again(location: str) -> None:
+    """It continues unchanged, though its input is another text with a codec, by the newest key."""
     clock, hour = Clock(), datetime.timedelta(hours=1)
 
     async def declare(given: object, **keys: bytes) -> float:
         codec = Encryption(**keys) if keys else None
-        words: dict[str, Any] = {"clock": clock, "accept_new": False, "codec": codec}
-        async with sagas.open(place, [kind := nightly()], **words) as store:
+        options: dict[str, Any] = {"clock": clock, "accept_new": False, "codec": codec}
+        async with sagas.open(location, [kind := nightly()], **options) as store:
             await store.schedule("n", kind, given, every=hour)
             (one,) = await store.schedules()
             assert one.input == given
@@ -330,19 +336,20 @@ def test_a_schedule_that_is_declared_again(place: str) -> None:
             assert await declare("a", **keys) == first
         assert await declare("b", b=NEW) == first + DAY
         clock.now += DAY
-        assert await declare("b", a=OLD) == first + 2 * DAY  # nobody can say that it is the same
+        # no program can find that it is the same
+        assert await declare("b", a=OLD) == first + 2 * DAY
 
     run(main())
 
 
 def test_a_saga_that_cannot_be_started(tmp_path: pathlib.Path) -> None:
-    """The key has another saga: that is told and kept, and the next time comes."""
-    told: list[sagas.Event] = []
+    """The key has another saga: that is logged and stored, and the next time comes."""
+    events: list[sagas.Event] = []
     path, clock = str(tmp_path / "store.db"), Clock()
 
     async def main() -> None:
         other = nightly()
-        async with sagas.open(path, [other], clock=clock, on_event=told.append) as store:
+        async with sagas.open(path, [other], clock=clock, on_event=events.append) as store:
             await store.start(other, "n@2026-03-01T18:00:00Z", "mine")
             await store.schedule("n", other, every=EVERY)
             clock.now += 6 * 3600
@@ -355,12 +362,14 @@ def test_a_saga_that_cannot_be_started(tmp_path: pathlib.Path) -> None:
         return [one for one in await store.schedules() if one.error]
 
     run(main())
-    assert [one.key for one in told if one.name == "schedule_failed"] == ["n@2026-03-01T18:00:00Z"]
+    assert [one.key for one in events if one.name == "schedule_failed"] == [
+        "n@2026-03-01T18:00:00Z"
+    ]
 
 
-def test_the_command(place: str, capsys: pytest.CaptureFixture[str]) -> None:
-    shell, clock = Shell(place, capsys), Clock()
-    with sagas.open_sync(place, [kind := nightly()], clock=clock) as store:
+def test_the_command(location: str, capsys: pytest.CaptureFixture[str]) -> None:
+    shell, clock = Shell(location, capsys), Clock()
+    with sagas.open_sync(location, [kind := nightly()], clock=clock) as store:
         store.schedule("night", kind, {"n": 1}, cron="0 2 * * *", timezone="Europe/Berlin")
         store.schedule("tick", kind, every=datetime.timedelta(hours=1))
     assert shell("schedules").splitlines()[1:] == [
@@ -397,7 +406,7 @@ NODE = """
 
 @contextlib.contextmanager
 def node(file: pathlib.Path, path: str, notes: pathlib.Path) -> Any:
-    """A program with a schedule; it is killed in the end."""
+    """Start a program with a schedule; it is killed in the end."""
     file.write_text(textwrap.dedent(NODE.format(path=path, notes=str(notes))))
     environment = {**os.environ, "PYTHONPATH": str(HERE.parent / "src"), "SAGAS_PROGRAM": program()}
     with subprocess.Popen(
@@ -410,11 +419,14 @@ def node(file: pathlib.Path, path: str, notes: pathlib.Path) -> Any:
             process.kill()
 
 
-def test_each_time_comes_once_over_killed_nodes(place: str, tmp_path: pathlib.Path) -> None:
-    """Over PostgreSQL two nodes at once. They are killed at any moment, one behind the other; no
-    second is left out, and none has two sagas. The notes are written outside of the store."""
+def test_each_time_comes_once_over_killed_nodes(location: str, tmp_path: pathlib.Path) -> None:
+    """Over PostgreSQL two nodes run at once.
+
+    They are killed at random moments, one after the other; no second is left out, and none has two
+    sagas. The notes are written outside of the store.
+    """
     notes, files = tmp_path / "notes", [tmp_path / "a.py", tmp_path / "b.py"]
-    is_shared = place.startswith("postgresql:")
+    is_shared = location.startswith("postgresql:")
 
     def noted() -> Counter[str]:
         return Counter(notes.read_text().split()) if notes.exists() else Counter()
@@ -422,75 +434,79 @@ def test_each_time_comes_once_over_killed_nodes(place: str, tmp_path: pathlib.Pa
     for wanted in (3, 7):
         with contextlib.ExitStack() as stack:
             for file in files if is_shared else files[:1]:
-                stack.enter_context(node(file, place, notes))
+                stack.enter_context(node(file, location, notes))
             asyncio.run(until(lambda: len(noted()) >= wanted))
-    with contextlib.closing(admin.connect(place, "rw")) as link:
+    with contextlib.closing(admin.connect(location, "rw")) as link:
         for name in ("n", "m"):
             Schedules(link).remove(name)
 
     async def rest() -> None:
-        async with sagas.open(place, [nightly()], lease=2.0) as store:
+        async with sagas.open(location, [nightly()], lease=2.0) as store:
             await store.wait_idle()
 
     run(rest())
     for name in ("n", "m"):
-        times = [key.partition("@")[2] for key in keys(place) if key.startswith(f"{name}@")]
+        times = [key.partition("@")[2] for key in keys(location) if key.startswith(f"{name}@")]
         seconds = [datetime.datetime.fromisoformat(time).timestamp() for time in times]
         assert seconds == [seconds[0] + number for number in range(len(seconds))]
-    assert {*noted()} <= {*keys(place)}
+    assert {*noted()} <= {*keys(location)}
 
 
 SECOND = datetime.timedelta(seconds=1)
 
 
-def test_how_many_missed_times_are_started(place: str) -> None:
-    """The last ones, at most so many, by several nodes; the others are told."""
-    clock, told = Clock(), list[str]()
+def test_how_many_missed_times_are_started(location: str) -> None:
+    """Several nodes start the last ones, up to a limit; the others are logged."""
+    clock, details = Clock(), list[str]()
 
     def listen(event: sagas.Event) -> None:
         if event.name == "schedule_missed":
-            told.append(str(event.detail))
+            details.append(str(event.detail))
 
     async def main() -> None:
-        async with sagas.open(place, [kind := nightly()], clock=clock) as store:
+        async with sagas.open(location, [kind := nightly()], clock=clock) as store:
             await store.schedule("e", kind, every=SECOND, catch_up="all", max=3)
             await store.schedule("c", kind, cron="0 * * * *", catch_up="all", max=2)
-            found = {
+            by_name = {
                 one.name: (one.catch_up, one.max, one.overlap) for one in await store.schedules()
             }
-            assert found == {"e": ("all", 3, "allow"), "c": ("all", 2, "allow")}
+            assert by_name == {"e": ("all", 3, "allow"), "c": ("all", 2, "allow")}
         clock.now += 90 * DAY
         async with contextlib.AsyncExitStack() as nodes:
-            count = 1 if "://" not in place else 10
+            count = 1 if "://" not in location else 10
             for _ in range(count):
                 await nodes.enter_async_context(
-                    sagas.open(place, [kind], clock=clock, on_event=listen)
+                    sagas.open(location, [kind], clock=clock, on_event=listen)
                 )
-            await until(lambda: len(keys(place)) >= 5)
+            await until(lambda: len(keys(location)) >= 5)
 
     run(main())
     last = [f"e@2026-05-30T{at}Z" for at in ("11:59:58", "11:59:59", "12:00:00")]
-    assert keys(place) == ["c@2026-05-30T11:00:00Z", "c@2026-05-30T12:00:00Z", *last]
+    assert keys(location) == ["c@2026-05-30T11:00:00Z", "c@2026-05-30T12:00:00Z", *last]
     assert {
         "e: only the last 3 missed times are started",
         "c: only the last 2 missed times are started",
-    } == {*told}
+    } == {*details}
 
 
 def test_times_that_were_missed_before_a_pause(
-    place: str, capsys: pytest.CaptureFixture[str], caplog: pytest.LogCaptureFixture
+    location: str, capsys: pytest.CaptureFixture[str], caplog: pytest.LogCaptureFixture
 ) -> None:
-    """They are not started, which the command says, and the schedule, and the log of a program."""
+    """They are not started; the command, the schedule and the log of a program report that."""
 
     async def main() -> None:
         clock = Clock()
-        async with sagas.open(place, [kind := nightly()], clock=clock) as store:
+        async with sagas.open(location, [kind := nightly()], clock=clock) as store:
             for name, catch_up in (("a", "all"), ("l", "last"), ("s", "skip")):
                 await store.schedule(name, kind, every=EVERY, catch_up=catch_up)
-        assert store_command.main([place, "schedules", "pause", "a"]) == 0  # by the clock of today
+        assert (
+            store_command.main([location, "schedules", "pause", "a"]) == 0
+        )  # by the present clock
         assert "a: 100 missed times before the pause were not started" in capsys.readouterr().err
-        async with sagas.Client(place) if "://" in place else sagas.open(
-            place, [kind], clock=clock, accept_new=False
+        async with (
+            sagas.Client(location)
+            if "://" in location
+            else sagas.open(location, [kind], clock=clock, accept_new=False)
         ) as store:
             clock.now += DAY
             await store.pause_schedule("l")
@@ -506,15 +522,15 @@ def test_times_that_were_missed_before_a_pause(
         assert (
             caplog.text.count("schedule 'l': 1 missed time before the pause was not started") == 1
         )
-        assert keys(place) == []
+        assert keys(location) == []
 
     run(main())
 
 
 @pytest.mark.parametrize("overlap", ["skip", "queue", "allow"])
-def test_a_time_while_the_saga_before_is_open(place: str, overlap: str) -> None:
-    """It is left out, waits, or is started."""
-    clock, told = Clock(), list[str]()
+def test_a_time_while_the_saga_before_is_open(location: str, overlap: str) -> None:
+    """It is skipped, waits, or is started."""
+    clock, event_names = Clock(), list[str]()
     opened = asyncio.Event()
 
     async def work(task: Task) -> None:
@@ -522,43 +538,43 @@ def test_a_time_while_the_saga_before_is_open(place: str, overlap: str) -> None:
 
     async def main() -> None:
         kind = simple(work)
-        listen = lambda event: told.append(event.name)  # noqa: E731
-        async with sagas.open(place, [kind], clock=clock, on_event=listen) as store:
+        listen = lambda event: event_names.append(event.name)  # noqa: E731
+        async with sagas.open(location, [kind], clock=clock, on_event=listen) as store:
             await store.schedule("n", kind, every=EVERY, overlap=overlap)
             for turn in (1, 2):
                 clock.now += EVERY.total_seconds()
                 store._coordinator.look()
                 if turn == 1 or overlap == "allow":
-                    await until(lambda: len(keys(place)) == turn)
+                    await until(lambda: len(keys(location)) == turn)
                 elif overlap == "skip":
-                    await until(lambda: "schedule_missed" in told)
+                    await until(lambda: "schedule_missed" in event_names)
             if overlap == "queue":
                 await asyncio.sleep(0.1)
-            assert len(keys(place)) == (2 if overlap == "allow" else 1)
+            assert len(keys(location)) == (2 if overlap == "allow" else 1)
             opened.set()
             await store.wait_idle()
             if overlap == "queue":
-                await until(lambda: len(keys(place)) == 2)
+                await until(lambda: len(keys(location)) == 2)
             await store.wait_idle()
-        assert len(keys(place)) == (1 if overlap == "skip" else 2)
+        assert len(keys(location)) == (1 if overlap == "skip" else 2)
 
     run(main())
 
 
-def test_a_program_that_lacks_the_definition(place: str) -> None:
-    """It is told once, and the schedule says so until a program starts it."""
-    clock, told = Clock(), list[str]()
+def test_a_program_that_lacks_the_definition(location: str) -> None:
+    """It is logged once, and the schedule reports it until a program starts it."""
+    clock, messages = Clock(), list[str]()
     other = sagas.Saga("other")
     other.step(name="a", undo=0)(lambda task: None)
 
     def listen(event: sagas.Event) -> None:
-        told.append(f"{event.name}: {event.detail}")
+        messages.append(f"{event.name}: {event.detail}")
 
     async def main() -> None:
-        async with sagas.open(place, [kind := nightly()], clock=clock) as store:
+        async with sagas.open(location, [kind := nightly()], clock=clock) as store:
             await store.schedule("n", kind, every=EVERY)
         clock.now += DAY
-        async with sagas.open(place, [other], clock=clock, on_event=listen) as store:
+        async with sagas.open(location, [other], clock=clock, on_event=listen) as store:
 
             async def error() -> str | None:
                 return (await store.schedules())[0].error
@@ -567,9 +583,9 @@ def test_a_program_that_lacks_the_definition(place: str) -> None:
             store._coordinator.look()
             await asyncio.sleep(0)
             assert await error() == "no program has its saga 'simple' (version 1)"
-        assert told == ["schedule_failed: n: no program has its saga 'simple' (version 1)"]
-        async with sagas.open(place, [kind], clock=clock) as store:
-            await until(lambda: keys(place))
+        assert messages == ["schedule_failed: n: no program has its saga 'simple' (version 1)"]
+        async with sagas.open(location, [kind], clock=clock) as store:
+            await until(lambda: keys(location))
 
             async def has_no_error() -> bool:
                 return (await store.schedules())[0].error is None
@@ -579,10 +595,16 @@ def test_a_program_that_lacks_the_definition(place: str) -> None:
     run(main())
 
 
-def test_bounds_and_overlaps_that_are_none() -> None:
-    for words in ({"max": 0}, {"max": True}, {"max": "3"}, {"max": 10_001}, {"overlap": "queued"}):
-        most, overlap = words.get("max", 100), words.get("overlap", "allow")
-        with pytest.raises(sagas.InvalidSchedule, match=next(iter(words))):
+def test_invalid_bounds_and_overlaps() -> None:
+    for options in (
+        {"max": 0},
+        {"max": True},
+        {"max": "3"},
+        {"max": 10_001},
+        {"overlap": "queued"},
+    ):
+        most, overlap = options.get("max", 100), options.get("overlap", "allow")
+        with pytest.raises(sagas.InvalidSchedule, match=next(iter(options))):
             timing.timing(None, SECOND, "UTC", "all", most, overlap)
     some = timing.timing(None, SECOND, "UTC", "all", 7, "queue")
     assert timing.policy_of(some.policy) == (some.catch_up, 7, some.overlap)
@@ -590,28 +612,30 @@ def test_bounds_and_overlaps_that_are_none() -> None:
 
 
 def test_a_schedule_of_a_later_release_stops_no_other(tmp_path: pathlib.Path) -> None:
-    """It has options that this release does not know: it is left to other programs, which is told once, and the others start."""
-    place, saga, told = str(tmp_path / "store.db"), sagas.Saga("report"), list[str]()
+    """It has options that this release does not know: it is left to other programs, which is logged
+    once, and the others start.
+    """
+    location, saga, event_names = str(tmp_path / "store.db"), sagas.Saga("report"), list[str]()
     saga.step(name="only")(lambda task: None)
 
     async def main() -> None:
         store = sagas.open(
-            place,
+            location,
             [saga],
-            on_event=lambda event: told.append(event.name)
-            if event.name == "schedule_failed"
-            else None,
+            on_event=lambda event: (
+                event_names.append(event.name) if event.name == "schedule_failed" else None
+            ),
         )
         async with store:
             for name in ("a", "b"):
                 await store.schedule(name, saga, every=datetime.timedelta(seconds=1))
-            with contextlib.closing(sqlite3.connect(place)) as link, link:
+            with contextlib.closing(sqlite3.connect(location)) as link, link:
                 link.execute("UPDATE schedules SET catch_up = 'all overlap=wait' WHERE name = 'a'")
             before = {one.key for one in await store.list()}
             while not any(
                 one.key.startswith("b@") and one.key not in before for one in await store.list()
             ):
                 await asyncio.sleep(0.05)
-            assert told == ["schedule_failed"]
+            assert event_names == ["schedule_failed"]
 
     asyncio.run(asyncio.wait_for(main(), 60))

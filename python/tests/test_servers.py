@@ -1,4 +1,6 @@
-"""What becomes of the database's server: a standby takes over, its connections are used up, its disk is full."""
+"""Failures of the database's server: a standby takes over, its connections are used up, its disk is
+full.
+"""
 
 from __future__ import annotations
 
@@ -33,7 +35,9 @@ from sagas.storage.postgresql import connections, hosts
 
 
 def test_a_synchronous_standby_takes_over(tmp_path: pathlib.Path) -> None:
-    """The primary fails while sagas are under way, and its standby is promoted: nothing that was told is lost, by witness, judge and record."""
+    """The primary fails while sagas are in progress, and its standby is promoted: no acknowledged
+    result is lost, by witness, verifier and record.
+    """
     record = tmp_path / "record"
 
     async def main(url: str) -> None:
@@ -41,9 +45,8 @@ def test_a_synchronous_standby_takes_over(tmp_path: pathlib.Path) -> None:
         async with sagas.open(url, node.sagas, concurrency=64, lease=60, record=record) as store:
             work = [asyncio.create_task(node.one(store, number)) for number in range(40)]
             await until(lambda: len(node.called) == 40)
-            for number in range(
-                20
-            ):  # some are over, some at their second step, some at their first
+            # some are over, some at their second step, some at their first
+            for number in range(20):
                 node.gates[f"k{number}", "a"].set()
             for number in range(10):
                 node.gates[f"k{number}", "b"].set()
@@ -51,9 +54,10 @@ def test_a_synchronous_standby_takes_over(tmp_path: pathlib.Path) -> None:
             await asyncio.to_thread(pair.fail_over)
             node.open_all()
             await asyncio.gather(*work)
+            # this program was not killed
             assert Counter(node.called) == {
                 (f"k{number}", step): 1 for number in range(40) for step in "ab"
-            }  # this program lived
+            }
 
     with paired(synchronous=True) as pair:
         url = pair.url(pair.primary.create().rpartition("/")[2])
@@ -66,7 +70,7 @@ def test_a_synchronous_standby_takes_over(tmp_path: pathlib.Path) -> None:
 
 
 def test_large_values_go_to_the_server_that_takes_writes() -> None:
-    """With the standby first in the address, and after it has taken over."""
+    """The standby comes first in the address; then again after it has taken over."""
     with paired(synchronous=False) as pair:
         hosts = f"127.0.0.1:{pair.standby.port},127.0.0.1:{pair.primary.port}"
         with contextlib.closing(
@@ -84,13 +88,15 @@ def test_large_values_go_to_the_server_that_takes_writes() -> None:
 def test_an_asynchronous_standby_may_lack_the_last_commits(
     monkeypatch: pytest.MonkeyPatch, tmp_path: pathlib.Path, room: int
 ) -> None:
-    """A saga of which the standby knows goes back to what it knows, and its step is called again with its token; one that it lacks is not there, and is
-    started again. The store goes on, also where a whole log is lacking, and gives no saga another's tokens. The node's record is allowed, and says what was
-    acknowledged and lost; it is not allowed where a synchronous standby is claimed."""
+    """A saga that the standby has goes back to its state there, and its step is called again with
+    its token; a saga that it lacks does not exist, and is started again. The store continues, also
+    if a whole log is missing, and gives no saga another's tokens. The node's record is allowed, and
+    has what was acknowledged and lost; it is not allowed if a synchronous standby is claimed.
+    """
     record = tmp_path / "record"
     monkeypatch.setattr("sagas.definition.shelf.SHARD_CAPACITY", room)
     calls: Counter[tuple[str, str]] = Counter()
-    whose: dict[str, set[str]] = defaultdict(set)
+    keys_of: dict[str, set[str]] = defaultdict(set)
     late = asyncio.Event()
     held = HeldAudits(tmp_path) if room == 1 else None
     if held:  # so that no full shard is closed before the standby takes over
@@ -100,7 +106,7 @@ def test_an_asynchronous_standby_may_lack_the_last_commits(
     @kind.step
     async def a(task: Task) -> str:
         calls[task.key, "a"] += 1
-        whose[task.idempotency_key].add(task.key)
+        keys_of[task.idempotency_key].add(task.key)
         if task.key == "there":
             await late.wait()
         return task.idempotency_key
@@ -134,8 +140,8 @@ def test_an_asynchronous_standby_may_lack_the_last_commits(
                     )
                 )
             )
-            assert all(said.startswith("yes") for said in (await store.audit()).values())
-            assert all(len(keys) == 1 for keys in whose.values()), whose
+            assert all(verdict.startswith("yes") for verdict in (await store.audit()).values())
+            assert all(len(keys) == 1 for keys in keys_of.values()), keys_of
 
     with paired(synchronous=False) as pair:
         url = pair.url(pair.primary.create().rpartition("/")[2])
@@ -144,7 +150,9 @@ def test_an_asynchronous_standby_may_lack_the_last_commits(
 
 
 def check_losses(url: str, record: pathlib.Path, room: int) -> None:
-    """By its record, the saga `there` goes on behind its first commit, and `lacking` begins anew."""
+    """Check that by its record, the saga `there` continues after its first commit, and `lacking`
+    starts again.
+    """
     shards, faults = fleet.judged(url, [record])
     assert all(one.good for one in shards) and len(faults) == sum(len(one.losses) for one in shards)
     lost = [
@@ -157,8 +165,11 @@ def check_losses(url: str, record: pathlib.Path, room: int) -> None:
 def test_a_log_that_is_about_to_be_closed(
     monkeypatch: pytest.MonkeyPatch, tmp_path: pathlib.Path
 ) -> None:
-    """An asynchronous standby takes over while a settled log is audited. The saga in it, which is
-    open on that server, goes on; the log is closed once that saga is over there too."""
+    """An asynchronous standby takes over while a finished log is audited.
+
+    The saga in it, which is open on that server, continues; the log is closed once that saga is
+    over there too.
+    """
     monkeypatch.setattr("sagas.definition.shelf.SHARD_CAPACITY", 1)
     held = HeldAudits(tmp_path)
     monkeypatch.setenv("SAGAS_PROGRAM", str(held.program))
@@ -191,8 +202,9 @@ def test_a_log_that_is_about_to_be_closed(
 
 @pytest.mark.parametrize("bounds", [{"fleet_concurrency": 2}, {"rate_limit": (100, 1)}], ids=str)
 def test_a_limit_holds_at_an_asynchronous_standby(bounds: dict[str, Any]) -> None:
-    """Its places were made on the server before, and the one that took over lacks them: they are
-    made anew, with no restart of a node."""
+    """Its slots were made on the former server, and the new one lacks them: they are made again,
+    without a restart of a node.
+    """
     begun = Counter[str]()
     most = 0
 
@@ -221,7 +233,7 @@ def test_a_limit_holds_at_an_asynchronous_standby(bounds: dict[str, Any]) -> Non
 
 
 class HeldAudits:
-    """The program, whose audits wait until they are let go."""
+    """The program, whose audits wait until they are released."""
 
     def __init__(self, folder: pathlib.Path) -> None:
         self.program, self.asked = folder / "held", folder / "asked"
@@ -238,20 +250,20 @@ class HeldAudits:
         self.program.chmod(0o755)
 
     def let_go(self) -> None:
-        """The one that waits goes on, and later ones do not wait."""
+        """Let the waiting audit continue; later ones do not wait."""
         self._free.touch()
         self._gate.write_text("on\n")
 
 
 async def rows(url: str, text: LiteralString) -> AsyncIterator[tuple[object, ...]]:
-    """What a statement gives."""
+    """Return the rows of a statement."""
     async with await psycopg.AsyncConnection.connect(url) as link:
         for row in await (await link.execute(text)).fetchall():
             yield row
 
 
 async def started_again(store: sagas.Store, kind: sagas.Saga, key: str) -> sagas.SagaResult:
-    """Starts it, as long as the store cannot be written, and waits for its end."""
+    """Start it until the store can be written, and wait for its end."""
     while True:
         try:
             return await ended(store, kind, key)
@@ -260,14 +272,15 @@ async def started_again(store: sagas.Store, kind: sagas.Saga, key: str) -> sagas
 
 
 class Parted:
-    """A saga of three steps, and a server and its standby, which takes over while that lives. Two steps wait for their gates; the second is inside, by an
-    async function or a plain one."""
+    """A saga of three steps, and a server and its standby, which takes over while the server still
+    runs. Two steps wait for their gates; the second is inside, by an async function or a plain one.
+    """
 
     def __init__(self, pair: Pair, in_thread: bool) -> None:
         self.pair, self.database = pair, pair.primary.create().rpartition("/")[2]
         self.gates: dict[str, asyncio.Event] = defaultdict(asyncio.Event)
         self.calls: list[str] = []
-        self.said: list[str] = []
+        self.event_names: list[str] = []
         self.ask(pair.primary, "CREATE TABLE book(key text)")
         self.kind, text = sagas.Saga("booking"), "INSERT INTO public.book VALUES (%s)"
 
@@ -296,13 +309,15 @@ class Parted:
             self.calls.append("c")
 
     def ask(self, server: Server, text: str) -> list[tuple[Any, ...]]:
-        """A statement at one of the two."""
+        """Execute a statement at one of the two."""
         with psycopg.connect(server.url(self.database), autocommit=True) as link:
             cursor = link.execute(text)  # type: ignore[arg-type]
             return cursor.fetchall() if cursor.description else []
 
     def part(self) -> None:
-        """The standby takes over: who is connected to the primary goes on there, and who connects from now on is at the other one."""
+        """Let the standby take over: existing connections stay at the primary, and new ones go to
+        the other server.
+        """
         self.pair.hold_back()
         self.pair.standby.promote()
         self.ask(
@@ -311,40 +326,45 @@ class Parted:
         )
 
     def end_sessions(self, but: Sequence[int] = ()) -> None:
-        """The primary ends those of the node."""
+        """Let the primary end the sessions of the node."""
         kept = f"pid <> pg_backend_pid() AND pid <> ALL(ARRAY{[*but]}::int[])"
         self.ask(
             self.pair.primary,
-            f"SELECT pg_terminate_backend(pid) FROM pg_stat_activity WHERE datname = current_database() AND {kept}",
+            (
+                "SELECT pg_terminate_backend(pid) FROM pg_stat_activity WHERE datname ="
+                f" current_database() AND {kept}"
+            ),
         )
 
     async def play(self, moment: Callable[[Parted], Coroutine[Any, Any, None]]) -> None:
-        """A node over both."""
+        """Run a node over both."""
         self.loop = asyncio.get_running_loop()
         async with sagas.open(
             self.pair.url(self.database),
             [self.kind],
             lease=600,
-            on_event=lambda event: self.said.append(event.name),
+            on_event=lambda event: self.event_names.append(event.name),
         ) as store:
             going = await store.start(self.kind, "k")
             await moment(self)
             assert (await going.wait()).ok
-            assert all(said.startswith("yes") for said in (await store.audit()).values())
+            assert all(verdict.startswith("yes") for verdict in (await store.audit()).values())
         assert self.ask(self.pair.standby, "SELECT key FROM book") == [("k",)]
         assert self.calls.count("c") == 1 and self.calls[-1] == "c" and self.calls.count("b") >= 2
 
 
 @pytest.mark.parametrize("in_thread", [False, True])
 def test_a_step_inside_ends_at_a_server_that_took_over(in_thread: bool) -> None:
-    """Its node does not know that server yet, which lacks what the node wrote meanwhile: nothing is kept there before the node has begun again from it."""
+    """Its node does not know that server yet, which lacks the node's last writes: nothing is stored
+    there before the node has recovered from it.
+    """
 
     async def moment(two: Parted) -> None:
         await until(lambda: two.calls)
         await asyncio.to_thread(two.part)
         for step in "ab":
             two.gates[step].set()
-        await until(lambda: "commit_failed" in two.said or "saga_ended" in two.said)
+        await until(lambda: "commit_failed" in two.event_names or "saga_ended" in two.event_names)
         assert (
             two.ask(
                 two.pair.standby, "SELECT key FROM book UNION ALL SELECT value FROM sagas.attempts"
@@ -359,8 +379,10 @@ def test_a_step_inside_ends_at_a_server_that_took_over(in_thread: bool) -> None:
         assert two.calls.count("a") == 2
 
 
-def test_a_step_inside_that_is_alone_ends_at_the_server_that_was_there_before() -> None:
-    """Its commit is done there when its node has begun again from the server that took over, which does not have it: it is called again there."""
+def test_a_lone_step_inside_ends_at_the_former_server() -> None:
+    """Its commit is done there when its node has recovered from the new server, which does not have
+    it: it is called again there.
+    """
     with paired(synchronous=False) as pair:
         two = Parted(pair, in_thread=False)
         run(two.play(ends_at_the_one_before))
@@ -368,7 +390,9 @@ def test_a_step_inside_that_is_alone_ends_at_the_server_that_was_there_before() 
 
 
 async def ends_at_the_one_before(two: Parted) -> None:
-    """The commit waits for a lock while the node goes over; and that server is gone once it is done."""
+    """Let the commit wait for a lock while the node changes servers; the former server ends once it
+    is done.
+    """
     two.gates["a"].set()
     await until(lambda: "b" in two.calls)
     await asyncio.to_thread(two.part)
@@ -377,17 +401,22 @@ async def ends_at_the_one_before(two: Parted) -> None:
     ) as stranger:
         stranger.execute("LOCK TABLE sagas.attempts IN EXCLUSIVE MODE")
         two.gates["b"].set()
-        waits = "SELECT pid FROM pg_stat_activity WHERE datname = current_database() AND wait_event_type = 'Lock'"
+        waits = (
+            "SELECT pid FROM pg_stat_activity WHERE datname = current_database() AND"
+            " wait_event_type = 'Lock'"
+        )
         ((process,),) = await until(lambda: two.ask(two.pair.primary, waits))
         two.end_sessions(but=[process, stranger.info.backend_pid])
-        await until(lambda: "lease_expired" in two.said)
+        await until(lambda: "lease_expired" in two.event_names)
     await until(lambda: two.ask(two.pair.primary, "SELECT key FROM book"))
     await asyncio.to_thread(two.pair.primary.stop)
 
 
 class Lacking:
-    """Two sagas in one log, of whose second one the standby does not know when it takes over. Their
-    step is inside, one at a time: the second one's begins once the first one's is over."""
+    """Two sagas in one log; the standby lacks the second one when it takes over.
+
+    Their step is inside, one at a time: the second one's starts once the first one's is over.
+    """
 
     def __init__(self, pair: Pair, in_thread: bool) -> None:
         self.pair, self.database = pair, pair.primary.create().rpartition("/")[2]
@@ -427,33 +456,35 @@ class Lacking:
         self.ask(pair.primary, "CREATE TABLE book(key text)")
 
     def ask(self, server: Server, text: str) -> list[tuple[Any, ...]]:
-        """A statement at one of the two."""
+        """Execute a statement at one of the two."""
         with psycopg.connect(server.url(self.database), autocommit=True) as link:
             cursor = link.execute(text.encode())
             return cursor.fetchall() if cursor.description else []
 
     def heard(self, event: sagas.Event) -> None:
-        """What happens in the node."""
+        """Note an event of the node."""
         self.names.append(event.name)
         if event.name == "commit_failed" and event.key:
             self.lost.append(event.key)
 
     def booked(self) -> list[str]:
-        """The effects at the server that took over."""
+        """Return the effects at the new server."""
         return [key for (key,) in self.ask(self.pair.standby, "SELECT key FROM book ORDER BY key")]
 
     def rests(self) -> bool:
-        """Whether nothing goes on at the server that took over."""
+        """Return whether nothing is in progress at the new server."""
         busy = "datname = current_database() AND pid <> pg_backend_pid() AND state <> 'idle'"
         return not self.ask(self.pair.standby, f"SELECT 1 FROM pg_stat_activity WHERE {busy}")
 
-    def is_told(self, taken_up: bool, in_thread: bool) -> bool:
-        """Whether it has come out what became of the second one's step."""
+    def is_decided(self, taken_up: bool, in_thread: bool) -> bool:
+        """Return whether the outcome of the second one's step is known."""
         over = taken_up and (bool(self.over) or not in_thread) and self.rests()
         return bool("lacking" in self.booked() or self.lost or over)
 
     async def part(self, store: sagas.Store) -> None:
-        """Both begin, and the standby takes over, which has the log and the first one of them."""
+        """Start both, and let the standby take over, which has the log and the first one
+        of them.
+        """
         self.loop = asyncio.get_running_loop()
         await store.start(self.kind, "there")
         await until(lambda: self.calls == ["there"], 60)
@@ -467,7 +498,7 @@ class Lacking:
         self.ask(self.pair.primary, text)
 
     async def goes_over(self) -> None:
-        """The node knows of the other server, and the second saga's step begins there."""
+        """Let the node find the other server, where the second saga's step starts."""
         mine = "datname = current_database() AND pid <> pg_backend_pid()"
         text = f"SELECT pg_terminate_backend(pid) FROM pg_stat_activity WHERE {mine}"
         self.ask(self.pair.primary, text)
@@ -478,9 +509,10 @@ class Lacking:
 
 @pytest.mark.parametrize("taken_up", [False, True])
 @pytest.mark.parametrize("in_thread", [False, True])
-def test_a_step_inside_of_a_saga_that_is_not_there(in_thread: bool, taken_up: bool) -> None:
-    """Its node knows that another server has taken over, and takes the log up from there only then,
-    or meanwhile: nothing of a saga is written that the server lacks."""
+def test_a_step_inside_of_a_saga_that_the_new_server_lacks(in_thread: bool, taken_up: bool) -> None:
+    """Its node knows that another server has taken over, and loads the log from there only then, or
+    in the meantime: nothing of a saga is written that the server lacks.
+    """
 
     async def main(two: Lacking) -> None:
         url, hook = two.pair.url(two.database), two.heard
@@ -490,13 +522,13 @@ def test_a_step_inside_of_a_saga_that_is_not_there(in_thread: bool, taken_up: bo
             await two.part(store)
             held = await psycopg.AsyncConnection.connect(two.pair.standby.url(two.database))
             async with held:
-                await held.execute("LOCK TABLE sagas.shards IN SHARE MODE")  # none is taken up
+                await held.execute("LOCK TABLE sagas.shards IN SHARE MODE")  # none is loaded
                 await two.goes_over()
                 if taken_up:
                     await held.commit()
                     await until(lambda: not store.active_attempts("lacking"), 60)
                 two.gates["lacking"].set()
-                await until(lambda: two.is_told(taken_up, in_thread), 60)
+                await until(lambda: two.is_decided(taken_up, in_thread), 60)
                 assert "lacking" not in two.booked()
             assert (await store.wait("there")).ok
             assert (await started_again(store, two.kind, "lacking")).ok
@@ -507,7 +539,9 @@ def test_a_step_inside_of_a_saga_that_is_not_there(in_thread: bool, taken_up: bo
 
 
 def test_a_standby_that_has_no_tables(caplog: pytest.LogCaptureFixture) -> None:
-    """It was copied before the store was made, and takes over: the node makes its tables there, and executes what is started from then on."""
+    """It was copied before the store was made, and takes over: the node makes its tables there, and
+    runs sagas that are started from then on.
+    """
     kind = simple(lambda task: "done")
 
     async def main(url: str) -> None:
@@ -526,7 +560,7 @@ def test_a_standby_that_has_no_tables(caplog: pytest.LogCaptureFixture) -> None:
 
 
 def test_tables_that_are_gone(url: str, caplog: pytest.LogCaptureFixture) -> None:
-    """At the server that had them nothing is made: the node says so, once."""
+    """At the server that had them nothing is made: the node reports that, once."""
     kind = simple(lambda task: "done")
 
     async def main() -> None:
@@ -536,15 +570,15 @@ def test_tables_that_are_gone(url: str, caplog: pytest.LogCaptureFixture) -> Non
                 link.execute("DROP SCHEMA sagas CASCADE")
                 with pytest.raises(sagas.InvalidStore, match="the tables of the store are gone"):
                     await store.serve()
-                await asyncio.sleep(2.5)  # further beats
+                await asyncio.sleep(2.5)  # further heartbeats
                 assert link.execute("SELECT to_regclass('sagas.sagas')").fetchone() == (None,)
 
     run(main())
     assert caplog.text.count("the tables of the store are gone") == 1
 
 
-def test_a_program_ends_whose_tables_are_gone(url: str, tmp_path: pathlib.Path) -> None:
-    """One without async, and the service."""
+def test_a_program_ends_if_its_tables_are_gone(url: str, tmp_path: pathlib.Path) -> None:
+    """A program without async does, and so does the service."""
     with served(tmp_path, store=url) as service:
         with sagas.open_sync(url, [simple(lambda task: "done")]) as store:
             with psycopg.connect(url, autocommit=True) as link:
@@ -552,14 +586,15 @@ def test_a_program_ends_whose_tables_are_gone(url: str, tmp_path: pathlib.Path) 
             with pytest.raises(sagas.InvalidStore, match="the tables of the store are gone"):
                 store.serve()
         assert service.process and service.process.wait(LONG) == 4
-        assert "sagas serve: postgresql://" in service.told()
-        assert "the tables of the store are gone" in service.told().splitlines()[-1]
+        assert "sagas serve: postgresql://" in service.log_text()
+        assert "the tables of the store are gone" in service.log_text().splitlines()[-1]
 
 
 @pytest.mark.parametrize("is_over", [True, False])
 def test_a_start_that_the_standby_has_as_taken(is_over: bool) -> None:
-    """A node has taken a client's start, and its saga has begun, or is over, where the standby does
-    not know of it: there the start is that node's still, which begins it anew."""
+    """A node has taken a client's start, and its saga has started, or is over, which the standby
+    does not know: there the start is still that node's, which starts it again.
+    """
     calls = Counter[str]()
     gate = asyncio.Event()
 
@@ -597,7 +632,9 @@ def test_a_start_that_the_standby_has_as_taken(is_over: bool) -> None:
 
 
 def test_all_connections_are_taken() -> None:
-    """Strangers have all that the server gives: what is open goes on or waits, what is to be opened is refused by name; nothing is called twice."""
+    """Other programs have all that the server has: open sagas continue or wait, an opening is
+    refused by name, and no function is called twice.
+    """
     calls: Counter[str] = Counter()
 
     async def step(task: Task) -> str:
@@ -636,7 +673,7 @@ def test_all_connections_are_taken() -> None:
 
 @contextlib.contextmanager
 def small_disk(size: str) -> Iterator[pathlib.Path]:
-    """A file system of this test's own, in memory."""
+    """Mount a file system of this test's own, in memory."""
     folder = pathlib.Path(tempfile.mkdtemp(prefix="sagas-disk-", dir="/tmp"))
     try:
         done = subprocess.run(
@@ -647,7 +684,8 @@ def small_disk(size: str) -> Iterator[pathlib.Path]:
         )
         if done.returncode:
             pytest.fail(
-                f"no file system can be mounted: run the tests as root, in a container with --cap-add SYS_ADMIN ({done.stderr.strip()})"
+                "no file system can be mounted: run the tests as root, in a container with"
+                f" --cap-add SYS_ADMIN ({done.stderr.strip()})"
             )
         try:
             yield folder
@@ -658,7 +696,7 @@ def small_disk(size: str) -> Iterator[pathlib.Path]:
 
 
 def fill(path: pathlib.Path) -> None:
-    """Writes a file until there is no room."""
+    """Write a file until the disk is full."""
     with open(path, "wb", buffering=0) as file:
         block = bytes(1 << 16)
         while block:
@@ -669,7 +707,9 @@ def fill(path: pathlib.Path) -> None:
 
 
 def test_the_databases_disk_is_full() -> None:
-    """`start` raises StoreUnavailable and nothing was begun; results wait for room; nothing is called twice by this program."""
+    """`start` raises StoreUnavailable and nothing was started; results wait for space; this program
+    calls no function twice.
+    """
     calls: Counter[str] = Counter()
     gate = asyncio.Event()
     large = [secrets.token_hex(20_000) for _ in range(20)]
@@ -692,7 +732,7 @@ def test_the_databases_disk_is_full() -> None:
             ends = await asyncio.gather(*(one.wait() for one in first))
             assert [end.results["a"] for end in ends] == large[:19]
             assert (await started_again(store, kind, "k19")).ok
-            assert all(said.startswith("yes") for said in (await store.audit()).values())
+            assert all(verdict.startswith("yes") for verdict in (await store.audit()).values())
 
     with small_disk("160m") as disk, serving(inside=disk) as server:
         run(main(server.create(), disk / "ballast"))
@@ -701,9 +741,11 @@ def test_the_databases_disk_is_full() -> None:
 
 @pytest.mark.parametrize("by", ["node", "client", "late"])
 def test_a_primary_that_was_replaced_and_lives(by: str, monkeypatch: pytest.MonkeyPatch) -> None:
-    """Its standby was promoted, and it still says that it takes writes: its commits wait for that
-    standby. Once one took too long, the server of the highest timeline is taken, and kept. `late`:
-    commits wait before there is such a server, and later statements wait for the first of them."""
+    """Its standby was promoted, and it still reports that it takes writes: its commits wait for
+    that standby. Once one took too long, the node uses the server of the highest timeline, and
+    keeps to it. `late`: commits wait before there is such a server, and later statements wait for
+    the first of them.
+    """
     monkeypatch.setattr(connections, "PATIENCE", 2.0)
     monkeypatch.setattr(connections, "LIMITED", "SET statement_timeout = '1s'")
     calls, looks = Counter[str](), list[str]()
@@ -747,20 +789,20 @@ def test_a_primary_that_was_replaced_and_lives(by: str, monkeypatch: pytest.Monk
 
 
 def noted(calls: list[str], function: Callable[..., Any]) -> Callable[..., Any]:
-    """The same function, whose calls are noted."""
+    """Return a function that notes its calls."""
 
-    async def called(*words: Any) -> Any:
+    async def called(*arguments: Any) -> Any:
         calls.append("called")
-        return await function(*words)
+        return await function(*arguments)
 
     return called
 
 
 @contextlib.contextmanager
 def pooled(server: Server, mode: str, *more: str) -> Iterator[int]:
-    """PgBouncer before a server, in one of its modes; its port."""
+    """Run PgBouncer before a server, in one of its modes; return its port."""
     port, settings = free_port(), server.folder.parent / "pgbouncer.ini"
-    words = [
+    lines = [
         "[databases]",
         f"* = host=127.0.0.1 port={server.port} user=owner",
         "[pgbouncer]",
@@ -771,7 +813,7 @@ def pooled(server: Server, mode: str, *more: str) -> Iterator[int]:
         f"pool_mode = {mode}",
         *more,
     ]
-    settings.write_text("\n".join(words))
+    settings.write_text("\n".join(lines))
     settings.chmod(0o644)
     command = server._as_other("pgbouncer", str(settings))
     command[-2] = shutil.which("pgbouncer", path=f"{os.environ['PATH']}:/usr/sbin") or "pgbouncer"
@@ -796,21 +838,23 @@ POOLERS = {
 }
 
 
-@pytest.mark.parametrize("words", POOLERS.values(), ids=POOLERS)
-def test_a_pooler(postgresql: Server, url: str, words: tuple[str, ...]) -> None:
-    """One that pools sessions serves a node and a client. Any other is refused by name, and
-    strangers who have its sessions find no setting of ours in them."""
+@pytest.mark.parametrize("modes", POOLERS.values(), ids=POOLERS)
+def test_a_pooler(postgresql: Server, url: str, modes: tuple[str, ...]) -> None:
+    """One that pools sessions serves a node and a client.
+
+    Any other is refused by name, and other users of its sessions find no setting of ours in them.
+    """
     kind = simple(lambda task: "done")
     with sagas.open_sync(url, [kind]):
         pass
-    with pooled(postgresql, *words) as port:
+    with pooled(postgresql, *modes) as port:
         there = postgresql.url(url.rpartition("/")[2], port=port)
-        if words[0] == "session":
+        if modes[0] == "session":
             with sagas.open_sync(there, [kind]), sagas.SyncClient(there) as client:
                 assert client.start(kind, "k").wait(60).ok
             return
         with psycopg.connect(there, autocommit=True) as idle:
-            idle.execute("SELECT 1")  # a session that rests
+            idle.execute("SELECT 1")  # an idle session
         for opens in (sagas.open_sync(there, [kind]), sagas.SyncClient(there)):
             with pytest.raises(sagas.InvalidStore, match="pools transactions, as PgBouncer does"):
                 with opens:

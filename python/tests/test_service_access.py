@@ -1,4 +1,6 @@
-"""Who may do what: tokens with roles, sessions with their forms, other pages' requests, and texts that are no markup."""
+"""Permissions: tokens with roles, sessions with their forms, requests of other pages, and texts as
+markup.
+"""
 
 from __future__ import annotations
 
@@ -54,7 +56,7 @@ needs = ["pay"]
 """,
     "late.service.toml": '[step.sign]\nkind = "approval"\n[step.seal]\nkind = "approval"\n',
 }
-"""Approvals that do not begin as long as no worker comes."""
+"""Approvals that do not start as long as no worker comes."""
 
 
 ROLES = ("caller", "approver", "worker", "operator", "metrics")
@@ -101,7 +103,7 @@ CALLS: list[tuple[str, str, str, Any, int]] = [
     (OPERATE, "DELETE", "/v1/schedules/{name}", None, 404),
     ("metrics", "GET", "/metrics", None, 200),
 ]
-"""The roles that may besides operators, the call, and what it comes to for them."""
+"""The roles that may besides operators, the call, and its status for them."""
 FREE = [
     "/health/live",
     "/health/ready",
@@ -111,11 +113,11 @@ FREE = [
     "/ui/static/{name}",
     "/ui/login",
 ]
-"""What needs no token."""
+"""Routes without a token."""
 
 
 def answer_of(client: httpx.Client, method: str, path: str, body: Any) -> tuple[int, str]:
-    """A status, and the name of an error; of a stream its head alone."""
+    """Return a status, and the name of an error; of a stream only its head."""
     with client.stream(method, path, json=body) as answer:
         if answer.headers["content-type"] == "application/problem+json":
             answer.read()
@@ -124,24 +126,24 @@ def answer_of(client: httpx.Client, method: str, path: str, body: Any) -> tuple[
 
 
 def test_each_route_has_its_roles(guarded: Guarded) -> None:
-    """The calls of the test below are all that there are."""
+    """The calls of the test below are complete."""
     routes = {(one.method, one.path) for some in (*API, *PAGES) for one in some.operations}
-    asked = {
+    tested = {
         (method, re.sub(r"/v1/sagas/(roles|asks|nobody)", "/v1/sagas/{key}", path))
         for _, method, path, _, _ in CALLS
     }
-    asked = {
+    tested = {
         (
             method,
             path.replace("/v1/tasks/x/", "/v1/tasks/{attempt_id}/").replace(
                 "steps/review", "steps/{step}"
             ),
         )
-        for method, path in asked
+        for method, path in tested
     }
-    asked = {(method, path.partition("?")[0]) for method, path in asked}
+    tested = {(method, path.partition("?")[0]) for method, path in tested}
     pages = {(method, path) for method, path in routes if path.startswith("/ui")}
-    assert routes - pages - asked == {("GET", path) for path in FREE if not path.startswith("/ui")}
+    assert routes - pages - tested == {("GET", path) for path in FREE if not path.startswith("/ui")}
     assert {path for method, path in pages if method == "POST"} == {
         "/ui/login",
         *(path.replace("KEY", "{key}").replace("msg_1", "{id}") for path in POSTED),
@@ -149,8 +151,7 @@ def test_each_route_has_its_roles(guarded: Guarded) -> None:
 
 
 def test_roles(guarded: Guarded) -> None:
-    """Each call is for its roles, and for operators; nobody comes in without a token, or with a
-    wrong one."""
+    """Each call is for its roles, and for operators; a missing or wrong token is refused."""
     clients = {role: guarded.client(role) for role in ROLES}
     strangers = [
         guarded.client(None),
@@ -162,29 +163,38 @@ def test_roles(guarded: Guarded) -> None:
     try:
         for good, method, path, body, status in CALLS:
             for role, client in clients.items():
-                found, name = answer_of(client, method, path, body)
+                returned, name = answer_of(client, method, path, body)
                 if role == "approver" and path.startswith("/v1/sagas/asks/steps/review/"):
-                    assert (found, name) == (
+                    # a compensation is not an approval: see below
+                    assert (returned, name) == (
                         403,
                         "Forbidden",
-                    )  # a compensation is not an approval: see below
+                    )
                 elif role in (*good.split(), "operator"):
-                    assert found == status and name != "Forbidden", (
+                    assert returned == status and name != "Forbidden", (
                         role,
                         method,
                         path,
-                        found,
+                        returned,
                         name,
                     )
                 else:
-                    assert (found, name) == (403, "Forbidden"), (role, method, path, found, name)
+                    assert (returned, name) == (403, "Forbidden"), (
+                        role,
+                        method,
+                        path,
+                        returned,
+                        name,
+                    )
             for stranger in strangers:
                 assert answer_of(stranger, method, path, body)[0] in (401, 429), (method, path)
-        nobody = strangers[0]
+        anonymous = strangers[0]
         assert (
-            nobody.get("/health/live").status_code == nobody.get("/health/ready").status_code == 200
+            anonymous.get("/health/live").status_code
+            == anonymous.get("/health/ready").status_code
+            == 200
         )
-        assert nobody.get("/ui/events").status_code == 403
+        assert anonymous.get("/ui/events").status_code == 403
     finally:
         for client in (*clients.values(), *strangers):
             client.close()
@@ -205,7 +215,8 @@ POSTED = (
 
 def test_pages_have_no_roles_but_a_session(guarded: Guarded) -> None:
     """No bearer token opens them, and none of them does anything: each form is refused before it is
-    read."""
+    read.
+    """
     for role in (None, *ROLES):
         with guarded.client(role) as client:
             for path in POSTED:
@@ -251,7 +262,7 @@ BOTH = [
 
 
 def test_an_approval_is_given_on_purpose(guarded: Guarded) -> None:
-    """By a `result`, or an `error`; else that is said, and nothing is done."""
+    """It needs a `result` or an `error`; else the response says so, and nothing is done."""
     with guarded.client("approver") as approver, guarded.client("caller") as caller:
         start(caller, "order", "purpose")
         waits(approver, "purpose", "approval")
@@ -282,9 +293,10 @@ def test_an_approval_is_given_on_purpose(guarded: Guarded) -> None:
         }
 
 
-def test_who_may_approve(guarded: Guarded) -> None:
-    """Neither whoever starts a saga nor a worker; and an approver says nothing of any other
-    step."""
+def test_the_right_to_approve(guarded: Guarded) -> None:
+    """Neither the token that starts a saga nor a worker's may; and an approver reports no other
+    step.
+    """
     with contextlib.ExitStack() as stack:
         clients = {role: stack.enter_context(guarded.client(role)) for role in ROLES}
         caller, approver, operator = clients["caller"], clients["approver"], clients["operator"]
@@ -328,8 +340,10 @@ def test_who_may_approve(guarded: Guarded) -> None:
 
 
 def test_an_approval_before_it_begins(guarded: Guarded) -> None:
-    """By whoever may approve; of the other step of the saga an approver says nothing. The page of
-    the saga has it, with a form."""
+    """A token that may approve may do so; an approver reports no other step of the saga.
+
+    The page of the saga has it, with a form.
+    """
     with guarded.client("caller") as caller, guarded.client("approver") as approver:
         start(caller, "late", "ahead")
         where = "/v1/sagas/ahead/steps"
@@ -343,16 +357,16 @@ def test_an_approval_before_it_begins(guarded: Guarded) -> None:
         late = approver.post(f"{where}/seal/fail", json={"error": "no", "early": False})
         assert (late.status_code, error_of(late)) == (409, "StepNotWaiting")
         with logged_in(guarded) as page:
-            told = page.get("/ui/sagas/ahead").text
-            assert "its success is reported" in told and "Approve sign before" not in told
-            assert "Approve seal before it begins" in told
+            page_text = page.get("/ui/sagas/ahead").text
+            assert "its success is reported" in page_text and "Approve sign before" not in page_text
+            assert "Approve seal before it begins" in page_text
             form = "/ui/sagas/ahead/steps/seal/failed"
             assert "Refuse step seal?" in page.get(form).text
             sent = {"csrf": csrf_of(page, form), "failed": "too dear"}
             assert page.post(form, data=sent).status_code == 303
             assert "its failure is reported" in page.get("/ui/sagas/ahead").text
-        told = {"seal": "fail", "sign": "complete"}
-        assert caller.get("/v1/sagas/ahead").json()["early"] == told
+        page_text = {"seal": "fail", "sign": "complete"}
+        assert caller.get("/v1/sagas/ahead").json()["early"] == page_text
 
 
 @contextlib.contextmanager
@@ -364,13 +378,15 @@ def logged_in(guarded: Guarded) -> Iterator[httpx.Client]:
 
 
 def csrf_of(client: httpx.Client, path: str) -> str:
-    found = re.search(r'name="csrf" value="([^"]+)"', client.get(path).text)
-    assert found
-    return found[1]
+    match = re.search(r'name="csrf" value="([^"]+)"', client.get(path).text)
+    assert match
+    return match[1]
 
 
 def test_the_page_wants_a_session(guarded: Guarded) -> None:
-    """It sends to the login, which takes an operator's token alone, and goes nowhere else from there."""
+    """It redirects to the login, which takes an operator's token only, and redirects to no other
+    site.
+    """
     with guarded.client(None) as client:
         for path in (
             "/ui",
@@ -408,15 +424,15 @@ def test_the_page_wants_a_session(guarded: Guarded) -> None:
                 "%C3%A9?unfold=a&b=%26",
             )
         ]
-        asked = [urlsplit(client.get(path).headers["location"]).query for path in paths]
-        assert [parse_qs(query)["next"] for query in asked] == [[path] for path in paths]
+        queries = [urlsplit(client.get(path).headers["location"]).query for path in paths]
+        assert [parse_qs(query)["next"] for query in queries] == [[path] for path in paths]
         for path in paths:
             answer = client.post(
                 "/ui/login", data={"token": guarded.tokens["operator"], "next": path}
             )
             assert answer.headers["location"] == path
     with guarded.client("operator") as bearer:
-        assert bearer.get("/ui").status_code == 303  # a bearer token is no session
+        assert bearer.get("/ui").status_code == 303  # a bearer token is not a session
 
 
 FOREIGN = (
@@ -432,11 +448,13 @@ FOREIGN = (
     ({"Sec-Fetch-Site": "cross-site"}, "has the Sec-Fetch-Site 'cross-site'"),
     ({"Sec-Fetch-Site": "same-site"}, "has the Sec-Fetch-Site 'same-site'"),
 )
-"""Headers of requests that are of no page of the service, and what is said of them."""
+"""Headers of requests that come from other pages, and their responses."""
 
 
 def test_forms_are_the_session_s_own(guarded: Guarded) -> None:
-    """Without its CSRF token a form does nothing, with another session's neither; and no other page's request changes anything."""
+    """Without its CSRF token, or with another session's, a form does nothing; and no other page's
+    request changes anything.
+    """
     with guarded.client("caller") as caller:
         start(caller, "order", "forms")
     with logged_in(guarded) as client, logged_in(guarded) as other:
@@ -445,18 +463,18 @@ def test_forms_are_the_session_s_own(guarded: Guarded) -> None:
         )
         for csrf in ("", "x", foreign, "ü"):
             assert client.post("/ui/sagas/forms/abort", data={"csrf": csrf}).status_code == 403
-        for headers, told in FOREIGN:
+        for headers, message in FOREIGN:
             answer = client.post("/ui/sagas/forms/abort", data={"csrf": right}, headers=headers)
             assert (answer.status_code, answer.headers["content-type"]) == (
                 403,
                 "text/html; charset=utf-8",
             )
             assert "A page of another site sent the request" in answer.text
-            assert told.replace("HOST", guarded.service.address) in html.unescape(answer.text)
+            assert message.replace("HOST", guarded.service.address) in html.unescape(answer.text)
             with guarded.client("caller") as caller:
                 answer = caller.post("/v1/sagas/forms/abort", json={}, headers=headers)
                 assert (answer.status_code, error_of(answer)) == (403, "CrossOrigin")
-                assert told.replace("HOST", guarded.service.address) in answer.json()["detail"]
+                assert message.replace("HOST", guarded.service.address) in answer.json()["detail"]
         assert (
             client.post(
                 "/ui/sagas/forms/abort", content=b"{}", headers={"content-type": "text/plain"}
@@ -480,7 +498,7 @@ def test_forms_are_the_session_s_own(guarded: Guarded) -> None:
 
 
 def test_the_cookies_of_two_services(guarded: Guarded) -> None:
-    """A browser sends those of a host to all of its ports: each service has a name of its own."""
+    """A browser sends those of a host to all of its ports: each service has its own name."""
     port = guarded.service.address.rpartition(":")[2]
     with guarded.client(None) as client:
         for host, name in (
@@ -504,35 +522,39 @@ def test_the_cookies_of_two_services(guarded: Guarded) -> None:
 def half_sent(
     service: Served, path: str, kind: str, body: bytes, **headers: str
 ) -> Iterator[tuple[Any, bytes]]:
-    """A request whose body comes later but for its first byte: its connection, and the rest."""
-    told = {
+    """Send a request except for its body, of which only the first byte is sent; return its
+    connection, and the rest.
+    """
+    fields = {
         "Host": service.address,
         "Content-Type": f"application/{kind}",
         "Content-Length": str(len(body)),
         **headers,
     }
-    head = "".join(f"{name}: {value}\r\n" for name, value in told.items())
+    head = "".join(f"{name}: {value}\r\n" for name, value in fields.items())
     with raw(service) as one:
         one.sendall(f"POST {path} HTTP/1.1\r\n{head}\r\n".encode() + body[:1])
         yield one, body[1:]
 
 
-def test_a_token_that_is_taken_away(tmp_path: pathlib.Path) -> None:
-    """Its bearer and its sessions end with it, without a new start, and so does a request whose body is still to come; a file that cannot be read leaves the others."""
-    words = {
+def test_a_revoked_token(tmp_path: pathlib.Path) -> None:
+    """Its bearer and its sessions end with it, without a restart, and so does a request whose body
+    is still to come; if the file cannot be read, the others stay valid.
+    """
+    tokens = {
         role: token(tmp_path, role, role.rpartition("-")[2])
         for role in ("an-operator", "a-caller", "second-operator")
     }
     file = tmp_path / "tokens.toml"
-    assert file.stat().st_mode & 0o077 == 0 and words["an-operator"] not in file.read_text()
+    assert file.stat().st_mode & 0o077 == 0 and tokens["an-operator"] not in file.read_text()
     with contextlib.ExitStack() as stack:
         service = stack.enter_context(served(tmp_path, DEFINITIONS, "--token-file", str(file)))
         first, caller, second = (
-            stack.enter_context(service.client(word)) for word in words.values()
+            stack.enter_context(service.client(word)) for word in tokens.values()
         )
         page = stack.enter_context(service.client())
         assert first.get("/v1/sagas").status_code == second.get("/v1/sagas").status_code == 200
-        page.post("/ui/login", data={"token": words["an-operator"]})
+        page.post("/ui/login", data={"token": tokens["an-operator"]})
         assert page.get("/ui").status_code == 200
         start(second, "order", "late")
         note, form = (
@@ -545,14 +567,14 @@ def test_a_token_that_is_taken_away(tmp_path: pathlib.Path) -> None:
             "/v1/sagas/late/abort",
             "json",
             note,
-            Authorization=f"Bearer {words['an-operator']}",
+            Authorization=f"Bearer {tokens['an-operator']}",
         )
         narrowed = half_sent(
             service,
             "/v1/sagas/late/abort",
             "json",
             note,
-            Authorization=f"Bearer {words['a-caller']}",
+            Authorization=f"Bearer {tokens['a-caller']}",
         )
         sent = half_sent(
             service, "/ui/sagas/late/abort", "x-www-form-urlencoded", form, Cookie=cookie
@@ -575,14 +597,14 @@ def test_a_token_that_is_taken_away(tmp_path: pathlib.Path) -> None:
         assert second.get("/v1/sagas/late").json()["aborted"] is False
         assert page.get("/ui").status_code == 303 and second.get("/v1/sagas").status_code == 200
         file.write_text("[[token]\n")
-        while "tokens.toml: cannot be read" not in service.told():
+        while "tokens.toml: cannot be read" not in service.log_text():
             assert second.get("/v1/sagas").status_code == 200 and time.monotonic() < deadline
             time.sleep(0.1)
-        assert "the previous tokens stay valid until it is fixed" in service.told()
+        assert "the previous tokens stay valid until it is fixed" in service.log_text()
 
 
 def test_texts_are_no_markup(guarded: Guarded) -> None:
-    """Keys, inputs, results, errors, notes and names stand in pages and pictures as what they are."""
+    """Keys, inputs, results, errors, notes and names are shown as text in pages and pictures."""
     key = f"k{NASTY}/../x"
     with guarded.client("operator") as client, logged_in(guarded) as page:
         stuck(client, "plain")
@@ -619,10 +641,10 @@ def test_texts_are_no_markup(guarded: Guarded) -> None:
             page.get("/ui/sagas?phase=resolved").text,
             page.get(f"/ui/sagas/{quoted(NASTY)}").text,
         ]
-        for place, text in enumerate(texts):
+        for number, text in enumerate(texts):
             assert "<script>alert" not in text and "49" not in re.findall(
                 r"&#39;&amp;(\d+)", text
-            ), place
+            ), number
         assert sum("&lt;script&gt;" in text for text in texts) >= 9
 
 
@@ -633,7 +655,7 @@ def quoted(text: str) -> str:
 
 
 def test_headers(guarded: Guarded) -> None:
-    """Each answer says that nothing is fetched from elsewhere, framed, guessed or kept."""
+    """Each response forbids fetching from elsewhere, framing, sniffing and caching."""
     with guarded.client("operator") as client, logged_in(guarded) as page:
         for answer in (
             page.get("/ui"),
@@ -657,7 +679,9 @@ def test_headers(guarded: Guarded) -> None:
 
 
 def test_without_tokens_only_the_loopback_s_names(tmp_path: pathlib.Path) -> None:
-    """A name that some page made point here is not answered to; and rates are limited."""
+    """A request for a name that another page made point here gets no answer; and rates
+    are limited.
+    """
     with served(tmp_path, DEFINITIONS, "--rate", "0.4") as service, service.client() as client:
         assert (
             error_of(client.get("/v1/sagas", headers={"Host": "elsewhere.example"}))
@@ -665,9 +689,9 @@ def test_without_tokens_only_the_loopback_s_names(tmp_path: pathlib.Path) -> Non
         )
         for name in ("localhost:1", "127.0.0.1", "[::1]:80"):
             assert client.get("/health/live", headers={"Host": name}).status_code == 200
-        assert "every local user has full access" in service.told()
-        found = {client.get("/v1/sagas").status_code for _ in range(60)}
-        assert 429 in found and found <= {200, 429}
+        assert "every local user has full access" in service.log_text()
+        statuses = {client.get("/v1/sagas").status_code for _ in range(60)}
+        assert 429 in statuses and statuses <= {200, 429}
         deadline = time.monotonic() + LONG
         while client.get("/v1/sagas").status_code != 200:
             assert time.monotonic() < deadline

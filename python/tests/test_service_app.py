@@ -1,4 +1,5 @@
-"""What `sagas serve` takes over from a store of `--app`, and what clients decode."""
+"""The options that `sagas serve` takes from a store of `--app`, and the values that clients decode.
+"""
 
 from __future__ import annotations
 
@@ -57,7 +58,7 @@ plain = [order]
 
 @pytest.fixture
 def shop(tmp_path: pathlib.Path, monkeypatch: pytest.MonkeyPatch) -> Iterator[Any]:
-    """The module of the store, in the current folder."""
+    """Return the module of the store, in the current folder."""
     (tmp_path / "app_shop.py").write_text(APP)
     monkeypatch.chdir(tmp_path)
     monkeypatch.syspath_prepend(str(tmp_path))
@@ -66,24 +67,26 @@ def shop(tmp_path: pathlib.Path, monkeypatch: pytest.MonkeyPatch) -> Iterator[An
     sys.modules.pop("app_shop", None)
 
 
-def settings(*words: str) -> Any:
-    """What the words of `sagas serve` come to."""
-    return command_module.settings_of(command_module.parser().parse_args(["x.db", *words]))
+def settings(*arguments: str) -> Any:
+    """Return the settings of arguments of `sagas serve`."""
+    return command_module.settings_of(command_module.parser().parse_args(["x.db", *arguments]))
 
 
 def test_options_of_a_store_are_taken(shop: Any) -> None:
-    """Each that is given to the store; an option of the command counts before that. What a service
-    cannot have is refused."""
+    """Each option of the store is taken; an option of the command precedes it.
+
+    An option that a service cannot have is refused.
+    """
     for name in ("store", "blocking"):
-        found = settings("--app", f"app_shop:{name}")
-        options = found.store.options
+        taken = settings("--app", f"app_shop:{name}")
+        options = taken.store.options
         assert options["codec"] is shop.codec and options["context"] is shop.shop
         assert options["concurrency"] == 3 and options["blob_threshold"] == 300
         assert options["retention"] == datetime.timedelta(days=1)
-        assert found.store.on_event is shop.words["on_event"] and found.shutdown_timeout == 7
+        assert taken.store.on_event is shop.words["on_event"] and taken.shutdown_timeout == 7
         assert not {"path", "sagas", "on_event", "clock"} & options.keys()
-        assert sorted(saga.name for saga in found.sagas) == ["leaf", "mid", "order", "top"]
-    words = (
+        assert sorted(saga.name for saga in taken.sagas) == ["leaf", "mid", "order", "top"]
+    arguments = (
         "--concurrency",
         "5",
         "--retention",
@@ -93,7 +96,7 @@ def test_options_of_a_store_are_taken(shop: Any) -> None:
         "--context",
         "app_shop:seen",
     )
-    options = settings("--app", "app_shop:store", *words, "--blobs", "more").store.options
+    options = settings("--app", "app_shop:store", *arguments, "--blobs", "more").store.options
     assert (options["concurrency"], options["archive_dir"], options["context"]) == (
         5,
         "old",
@@ -114,11 +117,14 @@ def test_options_of_a_store_are_taken(shop: Any) -> None:
 
 
 def test_a_store_is_served(shop: Any, tmp_path: pathlib.Path) -> None:
-    """With its context, codec and blobs. Children of children are undone. Clients of the service
-    read values with the codec and the blobs, and others get what is stored."""
+    """It has its context, codec and blobs.
+
+    Children of children are undone. Clients of the service read values with the codec and the
+    blobs, and others get the stored form.
+    """
     with served(tmp_path, {"few.toml": FEW}, "--app", "app_shop:store") as service:
-        words: dict[str, Any] = {"codec": shop.codec, "blobs": shop.words["blobs"]}
-        with sagas.ServiceClient(service.url, **words) as client, sagas.ServiceClient(
+        options: dict[str, Any] = {"codec": shop.codec, "blobs": shop.words["blobs"]}
+        with sagas.ServiceClient(service.url, **options) as client, sagas.ServiceClient(
             service.url
         ) as plain:
             small = {"shop": "ours", "big": "x", "seen": []}
@@ -142,7 +148,7 @@ def test_a_store_is_served(shop: Any, tmp_path: pathlib.Path) -> None:
 
 
 class Later:
-    """A blob store of coroutines."""
+    """A blob store with coroutines."""
 
     def __init__(self, values: dict[str, bytes]) -> None:
         self.values = values
@@ -163,7 +169,9 @@ class Later:
 
 
 def test_values_of_a_service() -> None:
-    """Blobs of coroutines are read also where a loop runs; what is missing is told without values."""
+    """Blobs of coroutines are read also if a loop runs; missing ones are reported without
+    values.
+    """
     blob = {"$blob": "ab/1/c", "bytes": 3, "digest": "0" * 64}
     values = ServiceValues(None, Later({"ab/1/c": b"[1]"}))
 

@@ -1,4 +1,4 @@
-"""What needs a person in pages, and deeds on many sagas by a filter, over both databases."""
+"""Pages of what needs an operator, and actions on many sagas by a filter, over both databases."""
 
 from __future__ import annotations
 
@@ -40,11 +40,16 @@ def client(service: Served) -> Iterator[httpx.Client]:
 
 
 def test_attention_and_many(client: httpx.Client) -> None:
-    """What needs a person is paged and filtered; deeds on many are counted first, and tell who was
-    refused."""
+    """What needs an operator is paged and filtered; actions on many are counted first, and report
+    the refused ones.
+    """
     for number in range(5):
-        told = {"definition": "licence", "key": f"many-{number}", "labels": {"of": str(number % 2)}}
-        assert client.post("/v1/sagas", json=told).status_code == 201
+        start_body = {
+            "definition": "licence",
+            "key": f"many-{number}",
+            "labels": {"of": str(number % 2)},
+        }
+        assert client.post("/v1/sagas", json=start_body).status_code == 201
     for number in range(3):
         start(client, "order", f"asked-{number}")
     for _ in range(5):
@@ -70,8 +75,8 @@ def test_attention_and_many(client: httpx.Client) -> None:
         "many-3"
     ]
     for path, name in (("/v1/attention?kind=stuck", "entries"), ("/v1/sagas?", "sagas")):
-        found = client.get(f"{path}&label=of=1&search=many-").json()[name]
-        assert sorted(one["key"] for one in found) == ["many-1", "many-3"], path
+        listed = client.get(f"{path}&label=of=1&search=many-").json()[name]
+        assert sorted(one["key"] for one in listed) == ["many-1", "many-3"], path
     assert client.get("/v1/sagas?label=of").status_code == 422
     now = client.get("/v1/sagas/many-2").json()
     assert now["labels"] == {"of": "0"}
@@ -79,8 +84,8 @@ def test_attention_and_many(client: httpx.Client) -> None:
         (f"started_after={now['started_at']}", 3),
         (f"started_before={now['started']}", 2),
     ):
-        found = client.get(f"/v1/sagas?search=many-&{query}").json()["sagas"]
-        assert len(found) == count, query
+        listed = client.get(f"/v1/sagas?search=many-&{query}").json()["sagas"]
+        assert len(listed) == count, query
     assert {one["kind"] for one in client.get("/v1/attention").json()["entries"]} >= {
         "stuck",
         "approval",
@@ -98,15 +103,15 @@ def test_attention_and_many(client: httpx.Client) -> None:
         "/v1/bulk/resolve", json={**wanted, "dry_run": False, "count": 5, "limit": 3}
     ).json()
     assert (done["done"], done["left"], done["refused"]) == (3, 2, [])
-    asked: dict[str, Any] = {
+    action: dict[str, Any] = {
         "filter": {"kind": "approval", "step": "review", "search": "asked-"},
         "result": 1,
     }
-    assert client.post("/v1/bulk/complete", json=asked).json()["count"] == 3
+    assert client.post("/v1/bulk/complete", json=action).json()["count"] == 3
     labeled = {**wanted, "filter": {"kind": "stuck", "labels": {"of": "1"}}}
     assert client.post("/v1/bulk/resolve", json=labeled).json()["count"] == 1
     assert (
-        client.post("/v1/bulk/complete", json={**asked, "dry_run": False, "count": 3}).json()[
+        client.post("/v1/bulk/complete", json={**action, "dry_run": False, "count": 3}).json()[
             "done"
         ]
         == 3
@@ -131,7 +136,9 @@ def test_attention_and_many(client: httpx.Client) -> None:
 
 
 def test_an_abort_of_many_gets_on(client: httpx.Client) -> None:
-    """Each call aborts the next sagas: those that were aborted before are open until they are undone, and are not counted again."""
+    """Each call aborts the next sagas: those that were aborted before are open until they are
+    undone, and are not counted again.
+    """
     late = {"definition": "few", "key": "gets-on-late", "deadline": 0.1}
     assert client.post("/v1/sagas", json=late).status_code == 201
     take(client, "few/a")  # so its abort has to wait
@@ -141,16 +148,21 @@ def test_an_abort_of_many_gets_on(client: httpx.Client) -> None:
     until = time.monotonic() + LONG
     while not client.get("/v1/sagas/gets-on-late").json()["aborted"]:
         assert time.monotonic() < until
-    found, some = [], {"filter": {"search": "gets-on-"}, "limit": 1}
+    outcomes, some = [], {"filter": {"search": "gets-on-"}, "limit": 1}
     for count in (4, 3, 2, 1, 0):
         assert client.post("/v1/bulk/abort", json=some).json()["count"] == count
-        told = client.post("/v1/bulk/abort", json={**some, "dry_run": False, "count": count}).json()
-        assert told["left"] == max(0, count - 1)
-        found.append(
-            (told["done"], [(one["key"], one["problem"]["detail"]) for one in told["refused"]])
+        outcome = client.post(
+            "/v1/bulk/abort", json={**some, "dry_run": False, "count": count}
+        ).json()
+        assert outcome["left"] == max(0, count - 1)
+        outcomes.append(
+            (
+                outcome["done"],
+                [(one["key"], one["problem"]["detail"]) for one in outcome["refused"]],
+            )
         )
-    said = "saga 'gets-on-late' has ended, or was aborted before"
-    assert found == [(0, [("gets-on-late", said)]), (1, []), (1, []), (1, []), (0, [])]
+    detail = "saga 'gets-on-late' has ended, or was aborted before"
+    assert outcomes == [(0, [("gets-on-late", detail)]), (1, []), (1, []), (1, []), (0, [])]
     sagas = client.get("/v1/sagas?search=gets-on-&phase=open").json()["sagas"]
     assert len(sagas) == 4 and all(
         client.get(f"/v1/sagas/{one['key']}").json()["aborted"] for one in sagas
@@ -158,7 +170,7 @@ def test_an_abort_of_many_gets_on(client: httpx.Client) -> None:
 
 
 def test_reports_of_many_are_of_the_step(client: httpx.Client) -> None:
-    """Its compensation is meant where `undo` says so; in the inbox it is in a group of its own."""
+    """Its compensation is meant if `undo` says so; in the inbox it is in its own group."""
     for key in ("asks-a", "asks-undo"):
         start(client, "asks", key)
     for task in take(client, "asks/a", most=2):
@@ -174,22 +186,25 @@ def test_reports_of_many_are_of_the_step(client: httpx.Client) -> None:
         assert time.monotonic() < until
     for more, key in (({}, "asks-a"), ({"undo": False}, "asks-a"), ({"undo": True}, "asks-undo")):
         some = {"filter": {"kind": "exhausted", "step": "a", **more}, "result": 1}
-        told = client.post("/v1/bulk/complete", json=some).json()
-        assert (told["count"], told["keys"]) == (1, [key]), more
+        outcome = client.post("/v1/bulk/complete", json=some).json()
+        assert (outcome["count"], outcome["keys"]) == (1, [key]), more
     page = client.get("/ui?kind=exhausted&definition=asks").text
     assert page.count('name="group"') == 2 and "· undoing a: timeout" in page
-    told = client.post("/v1/bulk/complete", json={**some, "dry_run": False, "count": 1}).json()
-    assert (told["done"], told["left"]) == (1, 0)
+    outcome = client.post("/v1/bulk/complete", json={**some, "dry_run": False, "count": 1}).json()
+    assert (outcome["done"], outcome["left"]) == (1, 0)
     assert client.get("/v1/sagas/asks-undo/wait").json()["states"]["a"] == "undone"
     assert client.get("/v1/sagas/asks-a").json()["states"]["a"] == "begun"
 
 
 def test_a_filter_that_selects_nothing_by_mistake(client: httpx.Client) -> None:
-    """Labels that are empty are refused, and what nothing has is said."""
-    told = {"definition": "order", "key": "labeled", "labels": {"customer": "7"}}
-    assert client.post("/v1/sagas", json=told).status_code == 201
+    """Empty labels are refused, and names that nothing has are reported."""
+    start_body = {"definition": "order", "key": "labeled", "labels": {"customer": "7"}}
+    assert client.post("/v1/sagas", json=start_body).status_code == 201
     answer = client.post("/v1/bulk/abort", json={"filter": {"labels": {}}})
-    assert answer.status_code == 422 and "filter.labels: an empty object selects every saga" in answer.text
+    assert (
+        answer.status_code == 422
+        and "filter.labels: an empty object selects every saga" in answer.text
+    )
     for labels, text in (
         ({"custmer": "7"}, "no saga has a label 'custmer'; did you mean 'customer'?"),
         ({"customer": "8"}, "no saga has the label customer='8'"),
@@ -202,7 +217,7 @@ def test_a_filter_that_selects_nothing_by_mistake(client: httpx.Client) -> None:
 
 
 def test_the_cause_is_the_last_failure(client: httpx.Client) -> None:
-    """Of two steps that failed, whatever their order in the definition."""
+    """Of two failed steps it is the later one, whatever their order in the definition."""
     for key, order in (("two-ab", "ab"), ("two-ba", "ba")):
         start(client, "pair", key)
         tasks = {one["step"]: one for step in "ab" for one in take(client, f"pair/{step}")}

@@ -1,4 +1,4 @@
-"""The service for callers and workers: a real process, and what it answers."""
+"""The service for callers and workers: a real process, and its responses."""
 
 from __future__ import annotations
 
@@ -34,7 +34,9 @@ import sagas
 
 @pytest.fixture(scope="module")
 def service(tmp_path_factory: pytest.TempPathFactory, store: str | None) -> Iterator[Served]:
-    """One service for the cases of this file, over each kind of database; each case has keys of its own, and takes only its own tasks."""
+    """Return a service for the cases of this file, over each kind of database; each case has its
+    own keys, and takes only its own tasks.
+    """
     with served(tmp_path_factory.mktemp("service"), store=store) as one:
         yield one
 
@@ -52,7 +54,7 @@ def get(client: httpx.Client, path: str, status: int = 200) -> Any:
 
 
 def measured(client: httpx.Client, line: str) -> bool:
-    """Whether `/metrics` comes to have this line: it is counted again at most each second."""
+    """Return whether `/metrics` gets this line: it is counted again at most each second."""
     deadline = time.monotonic() + LONG
     while line not in client.get("/metrics").text.splitlines():
         if time.monotonic() > deadline:
@@ -62,7 +64,9 @@ def measured(client: httpx.Client, line: str) -> bool:
 
 
 def test_a_start_is_once(client: httpx.Client) -> None:
-    """The same key again is the same saga; another input, or another definition, is a conflict; what is no saga is told."""
+    """The same key again is the same saga; another input, or another definition, is a conflict; an
+    unknown saga is an error.
+    """
     assert start(client, "order", "once", {"a": 1}).status_code == 201
     again = start(client, "order", "once", {"a": 1})
     assert (again.status_code, again.json()) == (
@@ -74,11 +78,11 @@ def test_a_start_is_once(client: httpx.Client) -> None:
     none = start(client, "nothing", "x")
     assert (none.status_code, none.json()["detail"]) == (
         404,
-        "there is no definition 'nothing', but few, licence, order, trip",
+        "the service has no definition 'nothing'. It has: few, licence, order, trip",
     )
     for body, kind, status, says in (
-        ('{"key":', "application/json", 400, "the body is not JSON at line 1"),
-        ("NaN", "application/json", 400, "the body is not JSON"),
+        ('{"key":', "application/json", 400, "the body is not valid JSON (line 1)"),
+        ("NaN", "application/json", 400, "the body is not accepted as JSON"),
         ("{}", "text/plain", 415, "send it with Content-Type: application/json"),
         ("[1]", "application/json", 422, "must be an object"),
     ):
@@ -98,7 +102,9 @@ def test_a_start_is_once(client: httpx.Client) -> None:
 
 
 def test_a_saga_through_workers(client: httpx.Client) -> None:
-    """Tasks with their inputs, results and tokens; a failure is planned for, and the plan's certificate is right."""
+    """Tasks have their inputs, results and tokens; a failure leads to a plan, and the plan's
+    certificate is right.
+    """
     start(client, "trip", "t/1 ü", {"to": "Rome"})
     (flight,) = take(client, "trip/flight")
     assert (flight["key"], flight["input"], flight["results"], flight["attempt"]) == (
@@ -170,8 +176,11 @@ def test_a_saga_through_workers(client: httpx.Client) -> None:
 
 
 def test_leases(client: httpx.Client) -> None:
-    """One that runs out gives the task to another with the same token; failed counts under the
-    newest, done under any that was given; the first report stays."""
+    """An expired lease gives the task to another worker with the same token.
+
+    A failure counts only under the newest lease, success under any that was issued; the first
+    report stays.
+    """
     start(client, "trip", "leases")
     (old,) = take(client, "trip/flight", lease=0.5)
     (new,) = take(client, "trip/flight")
@@ -209,7 +218,9 @@ def test_leases(client: httpx.Client) -> None:
 
 
 def test_a_deadline(service: Served, client: httpx.Client) -> None:
-    """A saga has it until its start says otherwise; workers and operators see it; what is no time is refused, and starts nothing."""
+    """A saga has the default until its start overrides it; workers and operators see it; an invalid
+    time is refused, and starts nothing.
+    """
 
     def put(key: str, deadline: Any) -> httpx.Response:
         return client.post(
@@ -222,19 +233,19 @@ def test_a_deadline(service: Served, client: httpx.Client) -> None:
     get(client, "/v1/sagas/timely", 404)
     began = time.time()
     assert put("timely", 3600).status_code == 201 and put("timely", 7200).json()["new"] is False
-    told = get(client, "/v1/sagas/timely")
-    assert began + 3599 < told["deadline"] < time.time() + 3601 and told["deadline_at"].endswith(
+    saga = get(client, "/v1/sagas/timely")
+    assert began + 3599 < saga["deadline"] < time.time() + 3601 and saga["deadline_at"].endswith(
         "Z"
     )
     (listed,) = get(client, "/v1/sagas?search=timely")["sagas"]
-    assert (listed["deadline"], listed["deadline_at"]) == (told["deadline"], told["deadline_at"])
+    assert (listed["deadline"], listed["deadline_at"]) == (saga["deadline"], saga["deadline_at"])
     assert (
-        f'<dt>Deadline</dt><dd><time class="exact" datetime="{told["deadline_at"][:16]}'
+        f'<dt>Deadline</dt><dd><time class="exact" datetime="{saga["deadline_at"][:16]}'
         in client.get("/ui/sagas/timely").text
     )
     (flight,) = take(client, "trip/flight")
     assert (
-        flight["deadline"] == pytest.approx(told["deadline"], abs=1e-3)
+        flight["deadline"] == pytest.approx(saga["deadline"], abs=1e-3)
         and flight["until"] < flight["deadline"]
     )
     assert report(client, flight, result=1).status_code == 200
@@ -247,7 +258,7 @@ def test_a_deadline(service: Served, client: httpx.Client) -> None:
 
     worker.run()
     assert seen[0].tzinfo is datetime.timezone.utc and seen[0].timestamp() == pytest.approx(
-        told["deadline"], abs=1e-3
+        saga["deadline"], abs=1e-3
     )
     assert client.post("/v1/sagas/timely/abort", json={}).json()["aborted"] is True
     all_done(client, "trip/car/undo")
@@ -262,12 +273,14 @@ def test_a_deadline(service: Served, client: httpx.Client) -> None:
     client.post("/v1/sagas/never/abort", json={})
 
 
-def test_what_has_begun(client: httpx.Client) -> None:
-    """Until a worker takes it, it has begun and waits for one; then it runs, at that worker; and when the lease has run out it waits again."""
+def test_started_attempts(client: httpx.Client) -> None:
+    """Until a worker takes it, it has started and waits for one; then it runs at that worker; and
+    when the lease has expired it waits again.
+    """
 
     def flight() -> tuple[str, list[tuple[str, str | None]]]:
-        told = get(client, "/v1/sagas/begun")
-        return told["states"]["flight"], [(one["why"], one["said"]) for one in told["waits"]]
+        saga = get(client, "/v1/sagas/begun")
+        return saga["states"]["flight"], [(one["why"], one["said"]) for one in saga["waits"]]
 
     def comes(wanted: tuple[str, list[tuple[str, str | None]]]) -> None:
         deadline = time.monotonic() + LONG
@@ -282,8 +295,8 @@ def test_what_has_begun(client: httpx.Client) -> None:
     (task,) = take(client, "trip/flight")
     comes(("running", [("external", "local/w")]))
     report(client, task, "fail", error="no seat", final=True)
-    told = get(client, "/v1/sagas/begun/wait?seconds=60")
-    assert (told["states"]["flight"], told["errors"], told["waits"]) == (
+    saga = get(client, "/v1/sagas/begun/wait?seconds=60")
+    assert (saga["states"]["flight"], saga["errors"], saga["waits"]) == (
         "failed",
         {"flight": "no seat"},
         [],
@@ -291,7 +304,9 @@ def test_what_has_begun(client: httpx.Client) -> None:
 
 
 def test_a_refund_that_fails(client: httpx.Client) -> None:
-    """By defaults alone it is in the inbox, in the figures and on the page; one call, or one for all, has it attempted again."""
+    """With defaults it is in the inbox, in the metrics and on the page; one call, or one for all,
+    retries it.
+    """
     figure = 'sagas_attention_required{reason="exhausted"} '
     for key in ("refund-1", "refund-2"):
         start(client, "few", key)
@@ -302,9 +317,9 @@ def test_a_refund_that_fails(client: httpx.Client) -> None:
         report(client, undo, "fail", error="the bank is closed")
         assert not report(client, undo, "fail", error="the bank is closed").is_error
     assert measured(client, f"{figure}2.0")
-    told = get(client, "/v1/attention?kind=exhausted")
-    assert told["counts"]["exhausted"] == 2
-    one = told["entries"][0]
+    listed = get(client, "/v1/attention?kind=exhausted")
+    assert listed["counts"]["exhausted"] == 2
+    one = listed["entries"][0]
     assert (one["key"], one["step"], one["undo"], one["detail"]) == (
         "refund-1",
         "a",
@@ -340,15 +355,15 @@ def test_a_refund_that_fails(client: httpx.Client) -> None:
 
 
 def test_a_compensation_that_failed(client: httpx.Client) -> None:
-    """The list has such sagas by a phase of their own; each tells what was raised."""
+    """The list has such sagas by their own phase; each shows its error."""
     start(client, "trip", "undo-failed")
     all_done(client, "trip/flight", "trip/car")
     for _ in range(2):
         (tour,) = take(client, "trip/tour")
         report(client, tour, "fail", error="full")
     all_done(client, "trip/car/undo", failing=["trip/car/undo"])
-    told = get(client, "/v1/sagas/undo-failed/wait?seconds=60")
-    assert (told["phase"], told["states"]["car"], told["errors"]) == (
+    saga = get(client, "/v1/sagas/undo-failed/wait?seconds=60")
+    assert (saga["phase"], saga["states"]["car"], saga["errors"]) == (
         "recovered",
         "undo_failed",
         {"car": "no", "tour": "full"},
@@ -371,8 +386,8 @@ def test_a_compensation_that_failed(client: httpx.Client) -> None:
     first = client.get("/ui?kind=undo_failed&search=undo-failed").text
     assert "undoing car: no" in first and "/resolve" in page
     assert client.get("/ui/sagas/undo-failed/resolve").status_code == 200
-    said = client.post("/v1/sagas/undo-failed/resolve", json={"note": "given back by hand"})
-    assert said.status_code == 200
+    answer = client.post("/v1/sagas/undo-failed/resolve", json={"note": "given back by hand"})
+    assert answer.status_code == 200
     assert get(client, "/v1/sagas/undo-failed")["phase"] == "resolved"
     assert get(client, "/v1/sagas?phase=undo_failed")["sagas"] == []
     assert measured(client, f"{figure}0.0")
@@ -383,7 +398,7 @@ def test_a_compensation_that_failed(client: httpx.Client) -> None:
 
 
 def test_a_beaten_lease_holds(client: httpx.Client) -> None:
-    """As long as it is beaten for, nobody else gets the task."""
+    """As long as heartbeats come, no other worker gets the task."""
     start(client, "trip", "beats")
     (task,) = take(client, "trip/flight", lease=2)
     until = client.post(
@@ -397,7 +412,7 @@ def test_a_beaten_lease_holds(client: httpx.Client) -> None:
 
 
 def test_a_report_takes_the_next(client: httpx.Client) -> None:
-    """In one request; what is wrong with it is told before anything is kept."""
+    """They are in one request; its errors are reported before anything is stored."""
     for key in ("next-1", "next-2"):
         start(client, "trip", key)
     (first,) = take(client, "trip/flight")
@@ -423,20 +438,24 @@ def test_a_report_takes_the_next(client: httpx.Client) -> None:
 
 
 def test_a_limit_holds_for_leases(service: Served, client: httpx.Client) -> None:
-    """Two are out at once. Whoever waits gets the next one when one is reported, is unknown, or its lease has run out; compensations are not counted."""
+    """Two are out at once.
+
+    A waiting worker gets the next one when one is reported, is unknown, or its lease has expired;
+    compensations are not counted.
+    """
     for number in range(5):
         start(client, "few", f"few-{number}")
     first, second = take(client, "few/a", most=10)
     assert take(client, "few/a", wait=0) == []
-    found: list[Any] = []
+    claimed: list[Any] = []
     with service.client() as other:
         taker = threading.Thread(
-            target=lambda: found.extend(take(other, "few/a", most=10, lease=1))
+            target=lambda: claimed.extend(take(other, "few/a", most=10, lease=1))
         )
         taker.start()
         report(client, first)
         taker.join(LONG)
-    (third,) = found  # its lease runs out, and then the next one is there
+    (third,) = claimed  # its lease expires, and then the next one is available
     (fourth,) = take(client, "few/a", most=10)
     assert {first["key"], second["key"], third["key"], fourth["key"]} >= {
         f"few-{number}" for number in range(3)
@@ -446,7 +465,7 @@ def test_a_limit_holds_for_leases(service: Served, client: httpx.Client) -> None
             f"/v1/tasks/{third['attempt_id']}/heartbeat", json={"lease": third["lease"]}
         )
         assert error_of(late) == "LeaseLost" and "have its place" in late.json()["detail"]
-        assert report(client, third).status_code == 200  # done counts all the same
+        assert report(client, third).status_code == 200  # success counts anyway
     report(client, second, "unknown", error="who knows")
     left = {f"few-{number}" for number in range(5)} - {first["key"]}
     assert report(client, fourth).status_code == 200
@@ -486,8 +505,9 @@ def test_a_limit_holds_for_leases(service: Served, client: httpx.Client) -> None
 
 
 def test_a_task_that_is_offered_again_has_no_worker(client: httpx.Client) -> None:
-    """After an unknown outcome, until it is claimed again: the dashboard's page shows that nobody
-    has it, and no lease has expired."""
+    """After an unknown outcome, until it is claimed again: the dashboard's page shows that no
+    worker has it, and no lease has expired.
+    """
     start(client, "few", "offered-again")
     (task,) = [one for one in take(client, "few/a", most=100) if one["key"] == "offered-again"]
     assert "offered-again" in client.get("/ui/workers").text
@@ -504,8 +524,10 @@ def test_a_task_that_is_offered_again_has_no_worker(client: httpx.Client) -> Non
     assert report(client, task).status_code == 200
 
 
-def test_unknown_is_said_once_under_a_lease(client: httpx.Client) -> None:
-    """Also when the task waits for a worker again; under that lease nothing else counts but that it is done."""
+def test_unknown_is_reported_once_per_lease(client: httpx.Client) -> None:
+    """It holds also when the task waits for a worker again; under that lease only a success counts
+    then.
+    """
     start(client, "few", "hazy-few")
     (task,) = take(client, "few/a")
     assert report(client, task, "unknown", error="who knows").json()["repeated"] is False
@@ -530,8 +552,10 @@ def test_unknown_is_said_once_under_a_lease(client: httpx.Client) -> None:
     assert get(client, "/v1/sagas/hazy-few/wait?seconds=60")["results"]["a"] == 1
 
 
-def test_nobody_knows(client: httpx.Client) -> None:
-    """After an unknown outcome, where no more are allowed, a person has to say; no lease of before gives the task to anybody."""
+def test_unknown_outcomes(client: httpx.Client) -> None:
+    """After the last unknown outcome an operator must report; no earlier lease gives the task to a
+    worker.
+    """
     start(client, "trip", "hazy")
     all_done(client, "trip/flight", "trip/car")
     (tour,) = take(client, "trip/tour", lease=1)
@@ -560,7 +584,7 @@ def test_nobody_knows(client: httpx.Client) -> None:
 
 
 def test_an_approval(client: httpx.Client) -> None:
-    """It waits for a word; once it is said, another is too late."""
+    """It waits for a decision; a second one is too late."""
     start(client, "order", "approve-me")
     deadline = time.monotonic() + LONG
     while not get(client, "/v1/sagas/approve-me")["waits"]:
@@ -588,7 +612,9 @@ def test_an_approval(client: httpx.Client) -> None:
 
 
 def test_a_report_comes_before_its_step(client: httpx.Client) -> None:
-    """It is stored until the step begins, and no worker gets that; the page of the saga says so."""
+    """It is stored until the step starts, and no worker gets that step; the page of the saga shows
+    it.
+    """
     start(client, "order", "ahead")
     where = "/v1/sagas/ahead/steps"
     for _ in range(2):
@@ -601,7 +627,7 @@ def test_a_report_comes_before_its_step(client: httpx.Client) -> None:
     assert end["phase"] == "completed" and end["results"]["send"] == "sent" and end["early"] == {}
 
 
-def test_an_aborted_task_that_nobody_took_is_not_begun(client: httpx.Client) -> None:
+def test_an_aborted_task_without_a_worker_is_not_started(client: httpx.Client) -> None:
     start(client, "order", "early")
     client.post("/v1/sagas/early/steps/review/complete", json={"result": None})
     assert client.post("/v1/sagas/early/abort", json={"note": "wrong address"}).json() == {
@@ -614,43 +640,45 @@ def test_an_aborted_task_that_nobody_took_is_not_begun(client: httpx.Client) -> 
 
 
 def test_a_long_take_is_woken(service: Served, client: httpx.Client) -> None:
-    """Whoever waits for a task gets it when it comes; one who has gone gets none."""
+    """A worker that waits for a task gets it when it comes; one that has gone gets none."""
     with pytest.raises(httpx.ReadTimeout), service.client() as gone:
         gone.post("/v1/tasks/claim", json={"steps": ["licence/server"], "wait": 30}, timeout=0.5)
-    found: list[Any] = []
+    claimed: list[Any] = []
     with service.client() as other:
         taker = threading.Thread(
-            target=lambda: found.extend(take(other, "licence/server", wait=30))
+            target=lambda: claimed.extend(take(other, "licence/server", wait=30))
         )
         taker.start()
         time.sleep(1.0)
         start(client, "licence", "woken")
         taker.join(LONG)
-    assert [task["key"] for task in found] == ["woken"]
-    report(client, found[0])
+    assert [task["key"] for task in claimed] == ["woken"]
+    report(client, claimed[0])
     all_done(client, "licence/licence")
 
 
 def test_the_list(client: httpx.Client) -> None:
-    """Newest first, by pages, filtered and searched; a search is no pattern."""
+    """It is newest first, by pages, filtered and searched; a search is not a pattern."""
     keys = [f"list%_{number}" for number in range(5)]
     for key in keys:
         start(client, "order", key)
-    found: list[str] = []
+    listed: list[str] = []
     after = ""
     while True:
         page = get(client, f"/v1/sagas?search=list%25_&definition=order&phase=open&limit=2{after}")
-        found += [saga["key"] for saga in page["sagas"]]
+        listed += [saga["key"] for saga in page["sagas"]]
         if page["next"] is None:
             break
         after = f"&after={page['next']}"
-    assert found == keys[::-1]
+    assert listed == keys[::-1]
     assert get(client, "/v1/sagas?search=list_%25")["sagas"] == []
     assert client.get("/v1/sagas?phase=none").status_code == 422
 
 
 def test_events_are_streamed(service: Served, client: httpx.Client) -> None:
-    """Those of one saga, from now on; again behind the last that was seen."""
+    """The stream has those of one saga, from now on; again after the last one that the
+    client saw.
+    """
     with service.client() as other, other.stream("GET", "/v1/events?key=streamed") as stream:
         lines = stream.iter_lines()
         assert next(lines).startswith("retry")
@@ -682,7 +710,7 @@ def test_events_are_streamed(service: Served, client: httpx.Client) -> None:
         assert "event: missed" in [line.strip() for _, line in zip(range(3), stream.iter_lines())]
 
 
-def test_a_stuck_one_is_resolved(client: httpx.Client) -> None:
+def test_a_stuck_saga_is_resolved(client: httpx.Client) -> None:
     stuck(client, "stuck-1")
     assert get(client, "/v1/sagas/stuck-1")["plan"] == {
         "cost": None,
@@ -715,7 +743,9 @@ def test_a_stuck_one_is_resolved(client: httpx.Client) -> None:
 
 
 def test_an_answer_is_sent_at_once(client: httpx.Client) -> None:
-    """Its body does not wait until the client's system has acknowledged its head: each answer would take 40 ms on a connection that is kept."""
+    """Its body does not wait until the client's system has acknowledged its head: each response
+    would take 40 ms on a kept connection.
+    """
 
     def seconds() -> float:
         began = time.monotonic()
@@ -728,7 +758,7 @@ def test_an_answer_is_sent_at_once(client: httpx.Client) -> None:
 
 
 def test_figures_and_life(client: httpx.Client) -> None:
-    """What Prometheus reads has each figure that the page of the docs names."""
+    """Prometheus reads each metric that the page of the docs names."""
     start(client, "licence", "figures")
     all_done(client, "licence/server", "licence/licence")
     get(client, "/v1/sagas/figures/wait?seconds=60")
@@ -755,28 +785,33 @@ def test_figures_and_life(client: httpx.Client) -> None:
 
 
 def test_the_log_is_lines_of_json(service: Served, client: httpx.Client) -> None:
-    """What happens to a saga, and each request with who made it."""
+    """It has the events of a saga, and each request with its token."""
     start(client, "licence", "logged")
     all_done(client, "licence/server", "licence/licence", failing=["licence/licence"])
     get(client, "/v1/sagas/logged/wait?seconds=60")
     deadline = time.monotonic() + LONG
-    while (
-        '"/v1/sagas/logged/wait"' not in service.told()
-    ):  # a request is logged once it is answered
+    # a request is logged once it is answered
+    while '"/v1/sagas/logged/wait"' not in service.log_text():
         assert time.monotonic() < deadline
         time.sleep(0.05)
-    told = [
+    # the lines before are the service's start
+    log_lines = [
         json.loads(line)
-        for line in service.told().splitlines()
+        for line in service.log_text().splitlines()
         if not line.startswith("sagas serve: ")
-    ]  # what it says before
-    assert all({"at", "level", "logger", "message"} <= set(line) for line in told)
+    ]
+    assert all({"at", "level", "logger", "message"} <= set(line) for line in log_lines)
     (stuck,) = (
-        line for line in told if line.get("name") == "saga_stuck" and line["key"] == "logged"
+        line for line in log_lines if line.get("name") == "saga_stuck" and line["key"] == "logged"
     )
     assert (stuck["level"], stuck["logger"], stuck["saga"]) == ("error", "sagas", "licence")
-    asked = next(line for line in told if line.get("path") == "/v1/sagas/logged/wait")
-    assert (asked["logger"], asked["method"], asked["status"], asked["who"]) == (
+    request_line = next(line for line in log_lines if line.get("path") == "/v1/sagas/logged/wait")
+    assert (
+        request_line["logger"],
+        request_line["method"],
+        request_line["status"],
+        request_line["who"],
+    ) == (
         "sagas.http",
         "GET",
         200,
@@ -784,10 +819,10 @@ def test_the_log_is_lines_of_json(service: Served, client: httpx.Client) -> None
     )
 
 
-def test_it_goes_on_after_a_kill(tmp_path: pathlib.Path, place: str) -> None:
+def test_it_continues_after_a_kill(tmp_path: pathlib.Path, location: str) -> None:
     """Leases, approvals and reports outlive the service; the same report again is still one."""
     with served(
-        tmp_path, DEFINITIONS, "--node", "one", store=place
+        tmp_path, DEFINITIONS, "--node", "one", store=location
     ) as service, service.client() as client:
         start(client, "trip", "k")
         (flight,) = take(client, "trip/flight", lease=600)
@@ -803,11 +838,11 @@ def test_it_goes_on_after_a_kill(tmp_path: pathlib.Path, place: str) -> None:
         all_done(client, "order/send")
         assert get(client, "/v1/sagas/o/wait?seconds=60")["results"]["review"] == 1
         assert service.stop() == 0
-    assert "Traceback" not in service.told()
+    assert "Traceback" not in service.log_text()
 
 
 def test_it_stops_although_clients_ask_on(tmp_path: pathlib.Path) -> None:
-    """Connections that come while it ends, and one that asks on and on, do not keep it."""
+    """Connections that come while it ends, and one that repeats its requests, do not delay it."""
     with served(tmp_path, DEFINITIONS) as service:
         over, ended = threading.Event(), []
 
@@ -841,7 +876,7 @@ def test_it_stops_although_clients_ask_on(tmp_path: pathlib.Path) -> None:
 
 
 @pytest.mark.parametrize(
-    "files, words, says",
+    "files, arguments, says",
     [
         ({}, (), "has no definition NAME.toml"),
         ({"a.toml": "format = 2\nname = "}, (), "a.toml:2: invalid TOML: Invalid value"),
@@ -870,13 +905,13 @@ def test_it_stops_although_clients_ask_on(tmp_path: pathlib.Path) -> None:
         (DEFINITIONS, ("--app", "nowhere:store"), "--app nowhere:store: No module"),
     ],
 )
-def test_what_cannot_be_served(
-    tmp_path: pathlib.Path, files: dict[str, str], words: tuple[str, ...], says: str
+def test_invalid_options_of_a_service(
+    tmp_path: pathlib.Path, files: dict[str, str], arguments: tuple[str, ...], says: str
 ) -> None:
-    """It says what is wrong and where, and does not start."""
+    """It reports what is wrong and where, and does not start."""
     from serving import environment
 
-    one = Served(tmp_path, files, *words)
+    one = Served(tmp_path, files, *arguments)
     done = subprocess.run(
         one.command(), env=environment(), capture_output=True, text=True, timeout=LONG, cwd=tmp_path
     )
@@ -884,8 +919,10 @@ def test_what_cannot_be_served(
     assert "Traceback" not in done.stderr
 
 
-def test_numbers_that_options_do_not_take() -> None:
-    """They end the command with status 2 and a line that says what to use, before anything starts; so do names that are none."""
+def test_invalid_option_values() -> None:
+    """They end the command with status 2 and a line that says what to use, before anything starts;
+    so do invalid names.
+    """
     for option in (
         "--rate",
         "--lease",
@@ -900,26 +937,28 @@ def test_numbers_that_options_do_not_take() -> None:
                 done.returncode == 2
                 and f"argument {option}: invalid value '{value}': use " in done.stderr
             ), done.stderr
-    for words in (
+    for arguments in (
         ("--app", ":x"),
         ("--app", ".shop:x"),
         ("--listen", "127.0.0.1:²"),
         ("--listen", "127.0.0.1:" + "1" * 5000),
     ):
-        done = command("serve", "x.db", *words)
+        done = command("serve", "x.db", *arguments)
         assert (
-            done.returncode == 2 and f"sagas serve: invalid {words[0]} " in done.stderr
+            done.returncode == 2 and f"sagas serve: invalid {arguments[0]} " in done.stderr
         ), done.stderr
 
 
-def test_what_is_meant_for_a_database(tmp_path: pathlib.Path) -> None:
-    """A list of words and a misspelled URL are no file's name: nothing is made, and the password is not printed."""
+def test_connection_parameters_instead_of_a_file(tmp_path: pathlib.Path) -> None:
+    """Connection parameters and a misspelled URL are not a file's name: nothing is made, and the
+    password is not printed.
+    """
     from serving import environment
 
     for store in ("password=s3cret host=127.0.0.1", "postgresql//me:s3cret@host/a"):
-        asked = Served(tmp_path, store=store).command()
+        arguments = Served(tmp_path, store=store).command()
         done = subprocess.run(
-            asked, env=environment(), capture_output=True, text=True, timeout=LONG, cwd=tmp_path
+            arguments, env=environment(), capture_output=True, text=True, timeout=LONG, cwd=tmp_path
         )
         assert done.returncode == 2 and "a store is an SQLite file" in done.stderr, done.stderr
         assert "s3cret" not in done.stderr + done.stdout
@@ -929,9 +968,10 @@ def test_what_is_meant_for_a_database(tmp_path: pathlib.Path) -> None:
 def test_a_module_s_steps_run_here(tmp_path: pathlib.Path) -> None:
     """`--app module:store`: functions in the service, and steps of the same saga by workers."""
     (tmp_path / "shop.py").write_text(
-        'import sagas, threading\nshop = sagas.Saga("shop")\n\n@shop.step\ndef price(task):\n    return task.input * 2\n\n'
-        'send = shop.step(external=True, name="send", needs=[price])\nlong = sagas.Saga("long")\n\n'
-        '@long.step(concurrency=1)\ndef once(task):\n    threading.Event().wait()\n\nstore = sagas.open("unused.db", [shop, long])\n'
+        'import sagas, threading\nshop = sagas.Saga("shop")\n\n@shop.step\ndef price(task):\n   '
+        ' return task.input * 2\n\nsend = shop.step(external=True, name="send",'
+        ' needs=[price])\nlong = sagas.Saga("long")\n\n@long.step(concurrency=1)\ndef once(task):\n'
+        '    threading.Event().wait()\n\nstore = sagas.open("unused.db", [shop, long])\n'
     )
     with served(
         tmp_path, {"order.toml": ORDER_OF_ONE}, "--app", "shop:store"

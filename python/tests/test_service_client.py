@@ -1,4 +1,5 @@
-"""`sagas.ServiceClient` at a real service, beyond what the contract of all clients (clients/contract) has."""
+"""`sagas.ServiceClient` at a real service, beyond the contract of all clients (clients/contract).
+"""
 
 from __future__ import annotations
 
@@ -39,7 +40,9 @@ def client(service: Served) -> Iterator[sagas.ServiceClient]:
 
 
 def test_a_saga_from_its_start_to_its_end(service: Served, client: sagas.ServiceClient) -> None:
-    """Started by its definition or its name; what waits is told; its end has what a result of a store has."""
+    """It is started by its definition or its name; `pending` lists it; its end has the attributes
+    of a store's result.
+    """
     soon = datetime.datetime.now(datetime.timezone.utc) + datetime.timedelta(hours=1)
     run = client.start(ORDER, "full", {"n": 2**70}, labels={"of": "client"}, deadline=soon)
     again = client.start("order", "full", {"n": 2**70}, version=1)
@@ -72,7 +75,7 @@ def test_a_saga_from_its_start_to_its_end(service: Served, client: sagas.Service
 
 
 def test_a_plan(client: sagas.ServiceClient) -> None:
-    """A saga that is aborted has the cost of its plan."""
+    """An aborted saga has the cost of its plan."""
     run = client.start("order", "aborted")
     assert run.abort() is True
     end = run.wait(timeout=LONG)
@@ -86,7 +89,10 @@ def test_a_plan(client: sagas.ServiceClient) -> None:
 
 
 def test_errors_are_those_of_a_store(client: sagas.ServiceClient) -> None:
-    """Where a store has the exception; else `ServiceRefused` has the problem's name. What is not valid is not sent."""
+    """It raises the exception that a store has; else `ServiceRefused` has the problem's name.
+
+    Invalid arguments are not sent.
+    """
     client.start("order", "known", {"card": "4111"})
     with pytest.raises(sagas.KeyConflict) as conflict:
         client.start("order", "known", {"card": "4222"})
@@ -128,11 +134,11 @@ def test_lists(client: sagas.ServiceClient) -> None:
         client.start("order", key, labels={"list": "a=b"})
     client.fail(keys[0], "review", "too ünusual")
     assert client.wait(keys[0], timeout=LONG).errors == {"review": "too ünusual"}
-    found = list(client.list(labels={"list": "a=b"}, saga=ORDER, page_size=2))
+    listed = list(client.list(labels={"list": "a=b"}, saga=ORDER, page_size=2))
     assert (
-        [one.key for one in found] == keys[::-1]
-        and found[0].phase == "open"
-        and found[0].labels == {"list": "a=b"}
+        [one.key for one in listed] == keys[::-1]
+        and listed[0].phase == "open"
+        and listed[0].labels == {"list": "a=b"}
     )
     moment = datetime.datetime.fromtimestamp(before, datetime.timezone.utc)
     assert len(list(client.list(search="listed", started_after=moment))) == 5
@@ -141,8 +147,10 @@ def test_lists(client: sagas.ServiceClient) -> None:
     assert [one.key for one in client.list(phase="recovered", search="listed")] == [keys[0]]
 
 
-def test_events_go_on_behind_the_last_one(service: Served) -> None:
-    """Connections are cut, and a later stream goes on behind an id: nothing is missed, and nothing comes twice."""
+def test_events_continue_after_the_last_one(service: Served) -> None:
+    """Connections are cut, and a later stream continues after an id: no event is missed, and none
+    comes twice.
+    """
     address, _, port = service.address.rpartition(":")
     with relaying(int(port), host=address) as relay:
         with sagas.ServiceClient(f"http://127.0.0.1:{relay.port}", timeout=LONG) as client:
@@ -166,8 +174,8 @@ def test_events_go_on_behind_the_last_one(service: Served) -> None:
     )
 
 
-def test_nobody_answers(service: Served) -> None:
-    """That is told once the time is over; the next one of several services is asked."""
+def test_an_unreachable_service(service: Served) -> None:
+    """The error comes once the time is over; the next one of several services is asked."""
     dead = f"http://{host()}:9"
     with sagas.ServiceClient(dead, timeout=0.2) as client:
         for call in (
@@ -185,20 +193,20 @@ def test_nobody_answers(service: Served) -> None:
         assert client.get("late") is None and client.url == service.url
 
 
-def test_close_ends_what_waits(service: Served) -> None:
+def test_close_ends_waits(service: Served) -> None:
     """A wait raises `Closed`, a loop over events ends, and so does each later call."""
-    client, told = sagas.ServiceClient(service.url), []
+    client, ended = sagas.ServiceClient(service.url), []
     client.start("order", "closed")
     events = client.events(key="closed").open()
 
     def waits() -> None:
         with pytest.raises(sagas.Closed):
             client.wait("closed")
-        told.append("wait")
+        ended.append("wait")
 
     def follows() -> None:
-        told.extend(f"event of {event.key}" for event in events)
-        told.append("events")
+        ended.extend(f"event of {event.key}" for event in events)
+        ended.append("events")
 
     threads = [threading.Thread(target=waits), threading.Thread(target=follows)]
     for thread in threads:
@@ -206,24 +214,24 @@ def test_close_ends_what_waits(service: Served) -> None:
     client.close()
     for thread in threads:
         thread.join(LONG)
-    assert sorted(told)[-2:] == ["events", "wait"] and list(client.events()) == []
+    assert sorted(ended)[-2:] == ["events", "wait"] and list(client.events()) == []
     with pytest.raises(sagas.Closed, match="the client is closed"):
         client.get("closed")
 
 
 def test_a_fork_has_connections_of_its_own(client: sagas.ServiceClient) -> None:
-    """Parent and child ask by turns, with the client that was made before."""
+    """Parent and child send requests alternately, with the client that was made before."""
     client.start("order", "fork")
     child = os.fork()
     if not child:
-        found = [client.get("fork") is not None for _ in range(5)]
-        os._exit(0 if all(found) else 1)
+        answered = [client.get("fork") is not None for _ in range(5)]
+        os._exit(0 if all(answered) else 1)
     assert all(client.get("fork") for _ in range(5))
     assert os.waitpid(child, 0)[1] == 0
 
 
-def test_what_it_is_made_with(tmp_path: pathlib.Path) -> None:
-    """What is not valid is told at once, and no token is in a message."""
+def test_invalid_arguments(tmp_path: pathlib.Path) -> None:
+    """Invalid arguments are reported at once, and no token is in a message."""
     for url, token, timeout in (
         ("nowhere", None, 1),
         ([], None, 1),

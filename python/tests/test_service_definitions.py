@@ -1,4 +1,4 @@
-"""What is wrong with the service's definition files is told by file and line of the TOML."""
+"""Errors in the service's definition files are reported with file and line of the TOML."""
 
 from __future__ import annotations
 
@@ -25,7 +25,7 @@ name = "review"
 needs = ["car"]
 tries = 9
 """
-BESIDE = """# beside it
+SERVICE_FILE = """# beside it
 [step.review]
 kind = "approval"
 timeout = 60
@@ -37,164 +37,185 @@ concurrency = 4
 FAULTS = [
     (
         GOOD.replace('"trip"', '"Trip"'),
-        BESIDE,
+        SERVICE_FILE,
         "a.toml:3: saga 'Trip': invalid name: use 1 to 32 characters a-z",
     ),
     (
         GOOD.replace("format = 2", "format = 3"),
-        BESIDE,
+        SERVICE_FILE,
         "a.toml:2: invalid definition: a definition has the keys format (1 or 2), name and step",
     ),
     (
         GOOD + "price = 1\n",
-        BESIDE,
+        SERVICE_FILE,
         "a.toml:15: invalid definition: step 'review' has no key 'price'",
     ),
     (
         GOOD.replace("format", "author = 1\nformat"),
-        BESIDE,
+        SERVICE_FILE,
         "a.toml:2: invalid definition: a definition has the keys",
     ),
-    (GOOD.replace('name = "trip"\n', ""), BESIDE, "a.toml:1: invalid definition: it has no name"),
+    (
+        GOOD.replace('name = "trip"\n', ""),
+        SERVICE_FILE,
+        "a.toml:1: invalid definition: it has no name",
+    ),
     (
         GOOD.replace('name = "car"\n', ""),
-        BESIDE,
+        SERVICE_FILE,
         "a.toml:5: invalid definition: step 1 has no name",
     ),
     (
         GOOD.replace('name = "car"', "name = 5"),
-        BESIDE,
+        SERVICE_FILE,
         "a.toml:6: invalid definition: step 1 has no name",
     ),
     (
         GOOD.replace('name = "car"', 'name = "a car"'),
-        BESIDE,
+        SERVICE_FILE,
         "a.toml:6: saga 'trip', step 'a car': invalid name: use 1 to 32",
     ),
     (
         GOOD.replace("undo = 5", "undo = -5"),
-        BESIDE,
+        SERVICE_FILE,
         "a.toml:9: saga 'trip', step 'car': undo=-5: must be an integer",
     ),
     (
         GOOD.replace("undo = 5", 'undo = "nevr"'),
-        BESIDE,
+        SERVICE_FILE,
         "a.toml:9: saga 'trip', step 'car': undo='nevr': must be",
     ),
     (
         GOOD.replace("tries = 9", "tries = 10"),
-        BESIDE,
+        SERVICE_FILE,
         "a.toml:14: saga 'trip', step 'review': tries=10 of its function",
     ),
     (
         GOOD.replace('needs = ["car"]', 'needs = "car"'),
-        BESIDE,
+        SERVICE_FILE,
         "a.toml:13: saga 'trip', step 'review': needs='car': must be a list",
     ),
     (
         GOOD.replace('needs = ["car"]', 'needs = ["cr"]'),
-        BESIDE,
+        SERVICE_FILE,
         "a.toml:11: saga 'trip', step 'review': needs unknown step 'cr'",
     ),
     (
         GOOD.replace('[  # "hotel",', '[ "review",'),
-        BESIDE,
+        SERVICE_FILE,
         "a.toml:5: saga 'trip', step 'car': is in a cycle of needs",
     ),
     (
         GOOD.replace('"review"', '"car"'),
-        BESIDE.replace("step.review", "step.car2"),
+        SERVICE_FILE.replace("step.review", "step.car2"),
         "a.toml:12: saga 'trip', step 'car': another step has this name",
     ),
     (
         GOOD + "keep = 7\n",
-        BESIDE,
+        SERVICE_FILE,
         "a.toml:15: step 'review': an approval cannot have run or keep",
     ),
-    (GOOD.replace("undo = 5", "undo = "), BESIDE, "a.toml:9: invalid TOML: Invalid value"),
-    (GOOD.replace("tries = 9\n", "tries ="), BESIDE, "a.toml:14: invalid TOML: Invalid value"),
+    (GOOD.replace("undo = 5", "undo = "), SERVICE_FILE, "a.toml:9: invalid TOML: Invalid value"),
+    (
+        GOOD.replace("tries = 9\n", "tries ="),
+        SERVICE_FILE,
+        "a.toml:14: invalid TOML: Invalid value",
+    ),
     (
         'format = 2\nname = "trip"\nstep = [{ name = "car", price = 1 }]\n',
         "",
         "a.toml:3: invalid definition: step 'car' has no key 'price'",
     ),
     ('format = 2\n\nname = "trip"\n', "", "a.toml:3: saga 'trip': it has no step"),
-    (GOOD, BESIDE + "[other]\n", "a.service.toml:9: only [step.NAME] tables are allowed"),
+    (GOOD, SERVICE_FILE + "[other]\n", "a.service.toml:9: only [step.NAME] tables are allowed"),
     (
         GOOD,
-        BESIDE.replace("approval", "aproval"),
+        SERVICE_FILE.replace("approval", "aproval"),
         "a.service.toml:3: step 'review': kind must be one of work, approval, wait",
     ),
     (
         GOOD,
-        BESIDE.replace("timeout = 60", "until = 60"),
+        SERVICE_FILE.replace("timeout = 60", "until = 60"),
         "a.service.toml:4: step 'review': approval has no key 'until'; its keys are kind, timeout",
     ),
     (
         GOOD,
-        BESIDE.replace("timeout = 60", "timeout = -1"),
+        SERVICE_FILE.replace("timeout = 60", "timeout = -1"),
         "a.service.toml:4: step 'review': timeout must be a number from 0 to 100,000,000,000",
     ),
     (
         GOOD,
-        BESIDE.replace("timeout = 60", "timeout = inf"),
+        SERVICE_FILE.replace("timeout = 60", "timeout = inf"),
         "a.service.toml:4: step 'review': timeout must be a number from 0 to 100,000,000,000",
     ),
     (
         GOOD,
-        BESIDE.replace("timeout = 60", "timeout = 0"),
+        SERVICE_FILE.replace("timeout = 60", "timeout = 0"),
         "a.service.toml:4: saga 'trip', step 'review': timeout=datetime.timedelta(0): must be",
     ),
     (
         GOOD,
-        BESIDE.replace("initial", "intial"),
-        "a.service.toml:7: step 'car': backoff must have only the keys initial, jitter, maximum, multiplier, each with a number",
+        SERVICE_FILE.replace("initial", "intial"),
+        (
+            "a.service.toml:7: step 'car': backoff must have only the keys initial, jitter,"
+            " maximum, multiplier, each with a number"
+        ),
     ),
     (
         GOOD,
-        BESIDE.replace("initial = 1", "initial = -1"),
+        SERVICE_FILE.replace("initial = 1", "initial = -1"),
         "a.service.toml:7: saga 'trip', step 'car': Backoff(initial=-1",
     ),
     (
         GOOD,
-        BESIDE.replace("initial = 1", 'initial = "1"'),
-        "a.service.toml:7: step 'car': backoff must have only the keys initial, jitter, maximum, multiplier, each with a number",
+        SERVICE_FILE.replace("initial = 1", 'initial = "1"'),
+        (
+            "a.service.toml:7: step 'car': backoff must have only the keys initial, jitter,"
+            " maximum, multiplier, each with a number"
+        ),
     ),
     (
         GOOD,
-        BESIDE.replace("concurrency = 4", "concurrency = 0"),
+        SERVICE_FILE.replace("concurrency = 4", "concurrency = 0"),
         "a.service.toml:8: saga 'trip', step 'car': concurrency=0: must be an integer >= 1",
     ),
-    (GOOD, BESIDE.replace("step.car", "step.cra"), "a.service.toml:6: the definition has no step 'cra'"),
     (
         GOOD,
-        BESIDE.replace('kind = "approval"\ntimeout = 60', 'kind = "wait"'),
+        SERVICE_FILE.replace("step.car", "step.cra"),
+        "a.service.toml:6: the definition has no step 'cra'",
+    ),
+    (
+        GOOD,
+        SERVICE_FILE.replace('kind = "approval"\ntimeout = 60', 'kind = "wait"'),
         "a.service.toml:2: step 'review': kind 'wait' requires the key until",
     ),
     (
         GOOD,
-        BESIDE.replace("concurrency = 4", "concurrency = "),
+        SERVICE_FILE.replace("concurrency = 4", "concurrency = "),
         "a.service.toml:8: invalid TOML: Invalid value",
     ),
 ]
 
 
-@pytest.mark.parametrize("text, beside, says", FAULTS)
-def test_a_fault_has_its_line(tmp_path: pathlib.Path, text: str, beside: str, says: str) -> None:
-    """Of the file that it is in; and never a line of the package."""
+@pytest.mark.parametrize("text, service_file, says", FAULTS)
+def test_a_fault_has_its_line(
+    tmp_path: pathlib.Path, text: str, service_file: str, says: str
+) -> None:
+    """It is the line of its own file; never a line of the package."""
     (tmp_path / "a.toml").write_text(text)
-    (tmp_path / "a.service.toml").write_text(beside)
+    (tmp_path / "a.service.toml").write_text(service_file)
     with pytest.raises(sagas.DefinitionError) as fault:
         definition_files.read(tmp_path)
     assert str(fault.value).startswith(f"{tmp_path}/{says}"), str(fault.value)
     assert ".py" not in str(fault.value)
 
 
-def test_what_is_good(tmp_path: pathlib.Path) -> None:
-    """It is read; its warnings have their lines as well, and two of one name and version name
-    both."""
+def test_valid_files(tmp_path: pathlib.Path) -> None:
+    """It is read; its warnings have their lines as well, and two of one name and version
+    name both.
+    """
     (tmp_path / "a.toml").write_text(GOOD.replace("undo = 5", "undo = 5\nkeep = 1"))
-    (tmp_path / "a.service.toml").write_text(BESIDE)
+    (tmp_path / "a.service.toml").write_text(SERVICE_FILE)
     (saga,) = definition_files.read(tmp_path)
     assert [step.name for step in saga.steps] == ["car", "review"] and saga.steps[
         0
@@ -207,8 +228,8 @@ def test_what_is_good(tmp_path: pathlib.Path) -> None:
     with pytest.raises(sagas.DefinitionError) as fault:
         definition_files.read(tmp_path)
     remedy = "use another name, or `# version 2` as the first line"
-    told = f"{tmp_path}/b.toml:3: saga 'trip' is already defined at {tmp_path}/a.toml; {remedy}"
-    assert str(fault.value) == told
+    message = f"{tmp_path}/b.toml:3: saga 'trip' is already defined at {tmp_path}/a.toml; {remedy}"
+    assert str(fault.value) == message
 
 
 ODD = '''# version 2
@@ -248,6 +269,7 @@ PLACES = [
 
 @pytest.mark.parametrize("path, line", PLACES)
 def test_lines_of_odd_texts(path: tuple[str | int, ...], line: int) -> None:
-    """Brackets and headers within strings and comments are none; what has no line of its own has
-    the one around it."""
+    """Brackets and headers within strings and comments do not count; an item without its own line
+    has that of its parent.
+    """
     assert Lines(ODD).of(*path) == line

@@ -1,5 +1,7 @@
-"""Deliveries of webhooks in the dashboard and by `sagas store STORE deliveries`, over both kinds of
-database: who may look at them, and have them posted again."""
+"""Deliveries of webhooks, in the dashboard and by `sagas store STORE deliveries`.
+
+The tests check who may see them and repeat them, over both kinds of database.
+"""
 
 from __future__ import annotations
 
@@ -28,7 +30,7 @@ TOKENS: dict[str, tuple[str, ...]] = {
 
 @pytest.fixture(scope="module")
 def receiver() -> Iterator[Receiver]:
-    """It wants the first post no more, and takes the others."""
+    """Return a receiver that refuses the first post permanently, and takes the others."""
     one = Receiver(410)
     yield one
     one.server.shutdown()
@@ -38,51 +40,53 @@ def receiver() -> Iterator[Receiver]:
 def world(
     tmp_path_factory: pytest.TempPathFactory, receiver: Receiver, store: str | None
 ) -> Iterator[World]:
-    """A service with a delivery that was given up, and one that came."""
+    """Return a service with a delivery that was given up, and one that succeeded."""
     folder = tmp_path_factory.mktemp("deliveries")
-    tokens = {name: token(folder, name, *words) for name, words in TOKENS.items()}
+    tokens = {name: token(folder, name, *options) for name, options in TOKENS.items()}
     hooks = written(folder, table(receiver.url))
-    words = "--token-file", str(folder / "tokens.toml"), "--local-webhooks", "--webhooks", hooks
+    options = "--token-file", str(folder / "tokens.toml"), "--local-webhooks", "--webhooks", hooks
     receiver.got.clear()
     receiver.left[:] = [410]
-    with served(folder, DEFINITIONS, *words, store=store) as service:
-        found = World(service, tokens)
+    with served(folder, DEFINITIONS, *options, store=store) as service:
+        services = World(service, tokens)
         for key in ("<b>given-up", "came"):
-            assert start(found["caller"], "order", key).status_code == 201
-            settled(found["operator"], key)
-        yield found
-        for client in found.clients.values():
+            assert start(services["caller"], "order", key).status_code == 201
+            settled(services["operator"], key)
+        yield services
+        for client in services.clients.values():
             client.close()
 
 
 def settled(operator: httpx.Client, key: str, attempts: int = 1) -> dict[str, Any]:
-    """The delivery of a saga, once it is over."""
+    """Return the delivery of a saga, once it is over."""
     deadline = time.monotonic() + LONG
     while True:
-        told = operator.get("/v1/webhooks/deliveries").json()["deliveries"]
-        for one in told:
+        deliveries = operator.get("/v1/webhooks/deliveries").json()["deliveries"]
+        for one in deliveries:
             if one["key"] == key and one["state"] != "pending" and one["attempts"] == attempts:
                 return dict(one)
-        assert time.monotonic() < deadline, told
+        assert time.monotonic() < deadline, deliveries
         time.sleep(0.05)
 
 
 def rows(text: str) -> list[list[str]]:
-    """The first words of the rows of a page's table."""
+    """Return the first words of the rows of a page's table."""
     body = re.search(r"<tbody>(.*?)</tbody>", text, re.S)
-    found = re.findall(r"<tr>(.*?)</tr>", body[1], re.S) if body else []
-    cells = [re.findall(r"<t[hd][^>]*>(.*?)</t[hd]>", row, re.S) for row in found]
+    parts = re.findall(r"<tr>(.*?)</tr>", body[1], re.S) if body else []
+    cells = [re.findall(r"<t[hd][^>]*>(.*?)</t[hd]>", row, re.S) for row in parts]
     return [[html.unescape(re.sub(r"<[^>]*>", "", cell)).strip() for cell in row] for row in cells]
 
 
 def csrf_of(text: str) -> str:
-    found = re.search(r'name="csrf" value="([^"]+)"', text)
-    assert found
-    return found[1]
+    match = re.search(r'name="csrf" value="([^"]+)"', text)
+    assert match
+    return match[1]
 
 
 def test_the_page_lists_them(world: World, receiver: Receiver) -> None:
-    """The newest first, by state and by webhook; texts are escaped, and no secret is there."""
+    """The newest comes first, by state and by webhook; texts are escaped, and no secret
+    is shown.
+    """
     page = world.page("operator")
     text = page.get("/ui/webhooks").text
     assert [row[:4] for row in rows(text)] == [
@@ -102,8 +106,8 @@ def test_the_page_lists_them(world: World, receiver: Receiver) -> None:
     assert page.get("/ui/webhooks?state=lost").status_code == 422
 
 
-def test_who_may_look_and_post_again(world: World, receiver: Receiver) -> None:
-    """Operators that see all definitions, by a form of their own session."""
+def test_the_right_to_see_and_repeat_deliveries(world: World, receiver: Receiver) -> None:
+    """Operators that see all definitions may, by a form of their own session."""
     one = settled(world["operator"], "<b>given-up")
     again = f"/ui/webhooks/{one['id']}/redeliver"
     kept = world.page("of-order")
@@ -114,58 +118,61 @@ def test_who_may_look_and_post_again(world: World, receiver: Receiver) -> None:
         world.page("operator").post(again, data={"csrf": csrf_of(kept.get("/ui").text)}),
     ):
         assert answer.status_code == 403, answer.text
-    with world.service.client() as nobody:
-        assert nobody.get("/ui/webhooks").headers["location"].startswith("/ui/login?next=")
-        assert nobody.post(again, data={"csrf": "x"}).status_code == 403
+    with world.service.client() as stranger:
+        assert stranger.get("/ui/webhooks").headers["location"].startswith("/ui/login?next=")
+        assert stranger.post(again, data={"csrf": "x"}).status_code == 403
     assert settled(world["operator"], "<b>given-up")["status"] == 410
     page = world.page("operator")
-    words = {"csrf": csrf_of(page.get("/ui/webhooks").text), "state": "failed", "webhook": ""}
-    missing = page.post("/ui/webhooks/msg_none/redeliver", data=words)
+    form = {"csrf": csrf_of(page.get("/ui/webhooks").text), "state": "failed", "webhook": ""}
+    missing = page.post("/ui/webhooks/msg_none/redeliver", data=form)
     assert missing.status_code == 404 and "no delivery has the id" in missing.text
     count = len(receiver.got)
-    answer = page.post(again, data=words)
+    answer = page.post(again, data=form)
     assert (answer.status_code, answer.headers["location"]) == (303, "/ui/webhooks?state=failed")
     receiver.wait(count + 1)
     assert settled(world["operator"], "<b>given-up")["status"] == 204
-    assert f"operator has the delivery {one['id']} posted again" in world.service.told()
+    assert f"operator has the delivery {one['id']} posted again" in world.service.log_text()
     assert rows(page.get("/ui/webhooks?state=failed").text) == []
 
 
-def started(store: str, *words: str) -> str:
-    """What `sagas store STORE deliveries ..` prints as a program of its own, beside the service
-    that has the store."""
-    told = [sys.executable, "-m", "sagas", "store", store, "deliveries", *words]
-    done = subprocess.run(told, env=environment(), capture_output=True, text=True, check=True)
+def started(store: str, *arguments: str) -> str:
+    """Return the output of `sagas store STORE deliveries` as a separate program, while the service
+    has the store.
+    """
+    command_line = [sys.executable, "-m", "sagas", "store", store, "deliveries", *arguments]
+    done = subprocess.run(
+        command_line, env=environment(), capture_output=True, text=True, check=True
+    )
     return done.stdout
 
 
 def test_the_command(world: World, receiver: Receiver) -> None:
-    """It lists them, as a table and as JSON, and has one posted again by the service."""
+    """It lists them, as a table and as JSON, and lets the service repeat one."""
     store = str(world.service.store)
-    told = started(store, "--json")
-    found = {one["key"]: one for one in json.loads(told)}
-    assert {*found} == {"came", "<b>given-up"} and found["came"]["state"] == "delivered"
-    assert "body" not in found["came"] and "whsec_" not in told
-    words = ["--state", "delivered", "--webhook", "one", "--limit", "1"]
-    lines = command("store", store, "deliveries", *words).stdout
+    output = started(store, "--json")
+    deliveries = {one["key"]: one for one in json.loads(output)}
+    assert {*deliveries} == {"came", "<b>given-up"} and deliveries["came"]["state"] == "delivered"
+    assert "body" not in deliveries["came"] and "whsec_" not in output
+    arguments = ["--state", "delivered", "--webhook", "one", "--limit", "1"]
+    lines = command("store", store, "deliveries", *arguments).stdout
     head, line = lines.splitlines()
     assert head.split() == "ID WEBHOOK TYPE KEY AT STATE ATTEMPTS ANSWER".split()
     assert line.startswith("msg_") and line.split()[-3:] == ["delivered", "1", "204"]
-    count, id = len(receiver.got), found["came"]["id"]
+    count, id = len(receiver.got), deliveries["came"]["id"]
     assert started(store, "redeliver", id) == f"{id}: pending\n"
     receiver.wait(count + 1)
     assert receiver.got[-1][0]["webhook-id"] == id
     settled(world["operator"], "came")
-    for words, status, text in (
+    for arguments, status, text in (
         (("redeliver", "msg_none"), 1, "no delivery has the id 'msg_none'"),
         (("redeliver",), 2, "pass the id"),
         (("--limit", "-1"), 2, "argument --limit: invalid value '-1'"),
         (("--state", "lost"), 2, "invalid choice: 'lost'"),
     ):
-        done = command("store", store, "deliveries", *words)
-        assert (done.returncode, done.stdout) == (status, "") and text in done.stderr, words
+        done = command("store", store, "deliveries", *arguments)
+        assert (done.returncode, done.stdout) == (status, "") and text in done.stderr, arguments
 
 
-def test_a_store_that_is_none(tmp_path: pathlib.Path) -> None:
+def test_a_file_that_is_not_a_store(tmp_path: pathlib.Path) -> None:
     done = command("store", str(tmp_path / "none.db"), "deliveries")
     assert done.returncode == 4 and "the file does not exist" in done.stderr

@@ -1,5 +1,4 @@
-"""Whoever has no token keeps nobody from the service: bodies that trickle, heads alone, streams
-without end."""
+"""Clients without a token do not block the service: slow bodies, heads only, endless streams."""
 
 from __future__ import annotations
 
@@ -25,7 +24,7 @@ MOST = 60
 
 
 class Trickler(threading.Thread):
-    """A client that sends a body of which there is always more to come, over and over."""
+    """A client that sends an endless body, over and over."""
 
     def __init__(self, service: Served, head: bytes, part: bytes) -> None:
         super().__init__(daemon=True)
@@ -46,7 +45,7 @@ class Trickler(threading.Thread):
 
 @contextlib.contextmanager
 def trickling(service: Served, count: int, head: str, part: bytes) -> Iterator[None]:
-    """So many of them, each with its head sent at least, until the block ends."""
+    """Run `count` of them, each with at least its head sent, until the block ends."""
     text = "\r\n".join([head, f"Host: {service.address}", "Content-Type: application/json", "", ""])
     some = [Trickler(service, text.encode(), part) for _ in range(count)]
     for one in some:
@@ -74,13 +73,13 @@ HEADS = [
 def limited(
     request: pytest.FixtureRequest, tmp_path_factory: pytest.TempPathFactory
 ) -> Iterator[Served]:
-    """A service that takes few connections."""
+    """Return a service that takes few connections."""
     folder = tmp_path_factory.mktemp("limited")
-    words = ["--most-connections", str(MOST)]
+    options = ["--most-connections", str(MOST)]
     if request.param:
         token(folder, "a", "caller")
-        words += ["--token-file", str(folder / "tokens.toml")]
-    with served(folder, DEFINITIONS, *words) as service:
+        options += ["--token-file", str(folder / "tokens.toml")]
+    with served(folder, DEFINITIONS, *options) as service:
         yield service
 
 
@@ -90,8 +89,9 @@ def limited(
     ids=["a length", "chunks", "the login", "an answer that has come", "a head alone"],
 )
 def test_bodies_that_trickle(limited: Served, head: str, part: bytes) -> None:
-    """More of them than there may be connections: each question by somebody else is answered at
-    once."""
+    """There are more of them than connections: each request of another client is answered
+    at once.
+    """
     with trickling(limited, MOST + 1, head, part):
         for _ in range(25):
             with limited.client() as client:
@@ -107,7 +107,7 @@ def raw(service: Served) -> Iterator[socket.socket]:
 
 
 def answered(one: socket.socket) -> tuple[int, str]:
-    """The status of the next answer, and the name of its error."""
+    """Return the status of the next response, and the name of its error."""
     text = b""
     while b"\r\n\r\n" not in text:
         text += one.recv(65536)
@@ -119,12 +119,12 @@ def answered(one: socket.socket) -> tuple[int, str]:
     )
     while len(body) < length:
         body += one.recv(65536)
-    told = json.loads(body) if body.startswith(b"{") else {}
-    return int(head.split(b" ")[1]), told.get("type", "").rpartition(":")[2]
+    problem = json.loads(body) if body.startswith(b"{") else {}
+    return int(head.split(b" ")[1]), problem.get("type", "").rpartition(":")[2]
 
 
 def test_a_client_that_goes_before_its_body_is_whole(tmp_path: pathlib.Path) -> None:
-    """It is no fault of the service, whose log says that the request got no answer."""
+    """It is not an error of the service, whose log says that the request got no response."""
     with served(tmp_path, DEFINITIONS, "--log", "json") as service:
         with raw(service) as one:
             one.sendall(
@@ -132,10 +132,12 @@ def test_a_client_that_goes_before_its_body_is_whole(tmp_path: pathlib.Path) -> 
                 "application/json\r\nContent-Length: 20\r\n\r\n{".encode()
             )
         deadline = time.monotonic() + LONG
-        while not (told := [line for line in service.told().splitlines() if "/k/abort" in line]):
+        while not (
+            logged := [line for line in service.log_text().splitlines() if "/k/abort" in line]
+        ):
             assert time.monotonic() < deadline
             time.sleep(0.05)
-    (line,) = map(json.loads, told)
+    (line,) = map(json.loads, logged)
     assert (line["logger"], line["status"]) == ("sagas.http", 0)
 
 
@@ -159,16 +161,17 @@ REFUSED: list[tuple[str, str | None, set[int]]] = [
 
 @pytest.fixture(scope="module")
 def guarded(tmp_path_factory: pytest.TempPathFactory) -> Iterator[tuple[Served, dict[str, str]]]:
-    """A service with tokens, by their roles."""
+    """Return a service with tokens, by their roles."""
     folder = tmp_path_factory.mktemp("heads")
     tokens = {role: token(folder, role, role) for role in ("caller", "worker", "approver")}
     with served(folder, DEFINITIONS, "--token-file", str(folder / "tokens.toml")) as service:
         yield service, tokens
 
 
-def test_who_may_not_is_told_by_the_head_alone(guarded: tuple[Served, dict[str, str]]) -> None:
-    """Before a byte of the body is there; what comes of it is thrown away, and the connection goes
-    on."""
+def test_a_refusal_needs_only_the_head(guarded: tuple[Served, dict[str, str]]) -> None:
+    """The response comes before a byte of the body; the body is discarded, and the connection stays
+    usable.
+    """
     service, tokens = guarded
     for path, name, statuses in REFUSED:
         form = "x-www-form-urlencoded" if path.startswith("/ui") else "json"
@@ -181,13 +184,13 @@ def test_who_may_not_is_told_by_the_head_alone(guarded: tuple[Served, dict[str, 
             one.sendall(f"{head}Content-Length: 100000\r\n\r\n".encode())
             status, error = answered(one)
             assert status in statuses and time.monotonic() - began < 10, (path, name, error)
-            one.sendall(b"[" * 100_000)  # no JSON, and deep: nobody reads it
+            one.sendall(b"[" * 100_000)  # not JSON, and deep: it is never read
             one.sendall(f"GET /health/live HTTP/1.1\r\nHost: {service.address}\r\n\r\n".encode())
             assert answered(one) == (200, "")
 
 
-def test_a_body_is_looked_at_behind_the_token(guarded: tuple[Served, dict[str, str]]) -> None:
-    """What is no JSON is told only to who may send it."""
+def test_a_body_is_checked_after_the_token(guarded: tuple[Served, dict[str, str]]) -> None:
+    """A body that is not JSON is reported only to clients that may send it."""
     service, tokens = guarded
     for role, status in (("worker", 403), ("approver", 403), ("caller", 400)):
         with service.client(tokens[role]) as client:
@@ -199,15 +202,15 @@ Ask = Callable[[tuple[str, int]], Awaitable[None]]
 
 
 def inside(folder: pathlib.Path, ask: Ask, **more: object) -> None:
-    """Asks a service in this program, with settings that a process would take too long for."""
+    """Request a service in this program, with settings for which a process would take too long."""
     Served(folder)
     some = definition_files.read(folder / "definitions")
-    told = Settings(str(folder / "store.db"), some, **more)  # type: ignore[arg-type]
+    settings = Settings(str(folder / "store.db"), some, **more)  # type: ignore[arg-type]
 
     async def main() -> None:
         opened = asyncio.Event()
         with socket.create_server((host(), 0)) as listening:
-            at_work = asyncio.create_task(uvicorn_server.run(told, listening, opened.set))
+            at_work = asyncio.create_task(uvicorn_server.run(settings, listening, opened.set))
             await opened.wait()
             try:
                 await ask(listening.getsockname())
@@ -218,8 +221,8 @@ def inside(folder: pathlib.Path, ask: Ask, **more: object) -> None:
     asyncio.run(asyncio.wait_for(main(), LONG))
 
 
-def test_a_body_has_one_time(tmp_path: pathlib.Path, monkeypatch: pytest.MonkeyPatch) -> None:
-    """Whatever trickles in between: then it is 408, and the connection ends."""
+def test_a_body_has_one_time_limit(tmp_path: pathlib.Path, monkeypatch: pytest.MonkeyPatch) -> None:
+    """Whatever bytes come in between: then it is 408, and the connection ends."""
     monkeypatch.setenv("SAGAS_PROGRAM", program())
 
     async def ask(address: tuple[str, int]) -> None:
@@ -229,7 +232,7 @@ def test_a_body_has_one_time(tmp_path: pathlib.Path, monkeypatch: pytest.MonkeyP
         ):
             back, there = await asyncio.open_connection(*address)
             there.write(
-                f"POST /v1/sagas HTTP/1.1\r\nHost: 127.0.0.1\r\n"
+                "POST /v1/sagas HTTP/1.1\r\nHost: 127.0.0.1\r\n"
                 f"Content-Type: application/json\r\n{length}\r\n\r\n".encode()
             )
             began, answer = time.monotonic(), asyncio.ensure_future(back.readuntil(b"\r\n\r\n"))
@@ -248,13 +251,13 @@ class Browsing:
 
     def __init__(self, address: tuple[str, int], tokens: dict[str, str]) -> None:
         self.tokens = tokens
-        words: dict[str, Any] = {"trust_env": False, "verify": False, "timeout": LONG}
-        words["base_url"] = f"http://{address[0]}:{address[1]}"
+        options: dict[str, Any] = {"trust_env": False, "verify": False, "timeout": LONG}
+        options["base_url"] = f"http://{address[0]}:{address[1]}"
         self.clients = {
-            name: httpx.AsyncClient(headers={"Authorization": f"Bearer {text}"}, **words)
+            name: httpx.AsyncClient(headers={"Authorization": f"Bearer {text}"}, **options)
             for name, text in tokens.items()
         }
-        self.clients["page"] = httpx.AsyncClient(**words)
+        self.clients["page"] = httpx.AsyncClient(**options)
         self.there: list[httpx.Response] = []
 
     async def log_in(self) -> None:
@@ -263,7 +266,7 @@ class Browsing:
         )
 
     async def stream(self, name: str) -> tuple[int, str]:
-        """Opens one; gives its status, and what was said where it was refused."""
+        """Open a stream; return its status, and the error if it was refused."""
         path = "/ui/events" if name == "page" else "/v1/events"
         client = self.clients[name]
         answer = await client.send(client.build_request("GET", path), stream=True)
@@ -281,7 +284,9 @@ class Browsing:
 
 
 def test_streams_are_shared(tmp_path: pathlib.Path, monkeypatch: pytest.MonkeyPatch) -> None:
-    """A token has so many, and all tokens leave some to the dashboard; one that ends makes room."""
+    """A token has a limited number, and all tokens leave some to the dashboard; a stream that ends
+    frees its slot.
+    """
     monkeypatch.setenv("SAGAS_PROGRAM", program())
     tokens = {name: token(tmp_path, name, "operator") for name in "abc"}
 
@@ -289,13 +294,13 @@ def test_streams_are_shared(tmp_path: pathlib.Path, monkeypatch: pytest.MonkeyPa
         some = Browsing(address, tokens)
         await some.log_in()
         assert [(await some.stream("a"))[0] for _ in range(3)] == [200] * 3
-        status, said = await some.stream("a")
-        assert status == 503 and "you have 3 event streams: close some" in said
+        status, detail = await some.stream("a")
+        assert status == 503 and "you have 3 event streams: close some" in detail
         assert [(await some.stream("b"))[0] for _ in range(2)] == [200] * 2
         for name in "bc":
-            status, said = await some.stream(name)
-            assert status == 503 and "there are 5 event streams" in said
-        # the dashboard has its own, though its token has as many others as it may
+            status, detail = await some.stream(name)
+            assert status == 503 and "there are 5 event streams" in detail
+        # the dashboard has its own, though its token has all the others that it may have
         assert [(await some.stream("page"))[0] for _ in range(3)] == [200, 200, 503]
         await some.there[0].aclose()
         while (await some.stream("c"))[0] != 200:
@@ -307,8 +312,9 @@ def test_streams_are_shared(tmp_path: pathlib.Path, monkeypatch: pytest.MonkeyPa
 
 
 def test_idle_ones_give_way_before_those_at_work(tmp_path: pathlib.Path) -> None:
-    """What waits for its answer stays, however many come; what has had its answer goes, the oldest
-    first."""
+    """A request that waits for its response stays, however many come; connections with their
+    response are closed, the oldest first.
+    """
     with served(
         tmp_path, DEFINITIONS, "--most-connections", "16"
     ) as service, contextlib.ExitStack() as stack:
@@ -316,7 +322,8 @@ def test_idle_ones_give_way_before_those_at_work(tmp_path: pathlib.Path) -> None
             start(client, "trip", "slow")
         works = stack.enter_context(raw(service))
         works.sendall(
-            f"GET /v1/sagas/slow/wait?seconds=5 HTTP/1.1\r\nHost: {service.address}\r\n\r\n".encode()
+            "GET /v1/sagas/slow/wait?seconds=5 HTTP/1.1\r\n"
+            f"Host: {service.address}\r\n\r\n".encode()
         )
         idle = [stack.enter_context(raw(service)) for _ in range(15)]
         for one in idle:
@@ -331,7 +338,7 @@ def test_idle_ones_give_way_before_those_at_work(tmp_path: pathlib.Path) -> None
 
 
 def is_over(one: socket.socket) -> bool:
-    """Whether the service has ended this connection."""
+    """Return whether the service has ended this connection."""
     one.settimeout(0.2)
     try:
         return one.recv(1) == b""

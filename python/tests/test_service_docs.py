@@ -1,5 +1,7 @@
-"""The tutorial on the service is run: its commands, in their order, in one shell, each output
-compared. The routes of reference/http.md, the unit and the alerts are looked at."""
+"""The tutorial on the service, executed: its commands in order in one shell, each output compared.
+
+The routes of reference/http.md, the unit and the alerts are checked too.
+"""
 
 from __future__ import annotations
 
@@ -25,37 +27,39 @@ TUTORIAL = (TOP / "docs" / "tutorials" / "service.md").read_text()
 
 
 def commands() -> list[tuple[str, str]]:
-    """Each command of the tutorial, with what it prints."""
-    found = []
+    """Return each command of the tutorial, with its output."""
+    pairs = []
     for kind, block in re.findall(r"^```(\w*)\n(.*?)^```$", TUTORIAL, re.S | re.M):
-        if kind:  # it is no shell's
+        if kind:  # it is not a shell's
             continue
         for part in re.split(r"^\$ ", block, flags=re.M)[1:]:
             command, _, output = part.partition("\n")
-            found.append((command, output))
-    return found
+            pairs.append((command, output))
+    return pairs
 
 
 def folder_of(tmp_path: pathlib.Path) -> dict[str, str]:
-    """A folder with the checkout's parts, and `python3` and `sagas` as the page has them; gives the environment."""
+    """Return the environment of a folder with the checkout's parts, and `python3` and `sagas` as
+    the page has them.
+    """
     for name in ("python", "examples"):
         (tmp_path / name).symlink_to(TOP / name)
     (tmp_path / "bin").mkdir()
-    for name, words in (("python3", ""), ("sagas", "-m sagas ")):
+    for name, arguments in (("python3", ""), ("sagas", "-m sagas ")):
         (tmp_path / "bin" / name).write_text(
-            f'#!/bin/sh\nexec {shlex.quote(sys.executable)} {words}"$@"\n'
+            f'#!/bin/sh\nexec {shlex.quote(sys.executable)} {arguments}"$@"\n'
         )
         (tmp_path / "bin" / name).chmod(0o755)
-    told = {name: value for name, value in environment().items() if name != "PYTHONPATH"}
-    return told | {"PATH": f"{tmp_path / 'bin'}:{os.environ['PATH']}"}
+    variables = {name: value for name, value in environment().items() if name != "PYTHONPATH"}
+    return variables | {"PATH": f"{tmp_path / 'bin'}:{os.environ['PATH']}"}
 
 
 def test_the_page(tmp_path: pathlib.Path) -> None:
-    """From the start of the service to a stuck saga resolved."""
-    told, address = commands(), host()
-    assert len(told) > 20
+    """From the start of the service to a resolved stuck saga."""
+    tutorial, address = commands(), host()
+    assert len(tutorial) > 20
     script = ["trap 'kill $(jobs -p) 2>/dev/null; wait' EXIT"]
-    for number, (command, _) in enumerate(told):
+    for number, (command, _) in enumerate(tutorial):
         script.append(
             f"{{ {command.replace('127.0.0.1', address)}\n}} >{tmp_path}/out.{number} 2>&1"
         )
@@ -72,7 +76,7 @@ def test_the_page(tmp_path: pathlib.Path) -> None:
         timeout=240,
     )
     log = (tmp_path / "service.log").read_text()
-    for number, (command, wanted) in enumerate(told):
+    for number, (command, wanted) in enumerate(tutorial):
         out = (tmp_path / f"out.{number}").read_text().replace(address, "127.0.0.1")
         if not (command.endswith("&") and not wanted):
             assert (
@@ -83,15 +87,17 @@ def test_the_page(tmp_path: pathlib.Path) -> None:
 
 def test_each_path_is_described() -> None:
     """The reference has each call of the schema, and no other."""
-    words = re.findall(r"`(?:GET|POST|DELETE) (/[^`?\s]*)", PAGE)
-    described = {re.sub(r"KEY|STEP|ATTEMPT_ID|ID|NAME", "{}", path) for path in words}
+    routes = re.findall(r"`(?:GET|POST|DELETE) (/[^`?\s]*)", PAGE)
+    described = {re.sub(r"KEY|STEP|ATTEMPT_ID|ID|NAME", "{}", path) for path in routes}
     from sagas.server.app import operations
 
     assert {re.sub(r"\{\w+\}", "{}", one.path) for one in operations()} == described
 
 
 def test_each_command_is_described() -> None:
-    """The pages have each command of `sagas store`, and each option of these, `serve` and `token`."""
+    """The pages have each command of `sagas store`, and each option of these, `serve` and
+    `token`.
+    """
     from sagas.cli.store_command import parser as store
     from sagas.server.command import parser as serve
     from sagas.server.command import token_parser
@@ -116,7 +122,9 @@ def test_each_command_is_described() -> None:
 
 
 def test_metrics_are_described(tmp_path: pathlib.Path) -> None:
-    """The reference has each figure that a service tells, and each that an alert names is among them."""
+    """The reference has each metric of a service, and each one that an alert names is
+    among them.
+    """
     alerts = " ".join(
         re.findall(r"expr: (.*)", (TOP / "examples" / "service" / "alerts.yml").read_text())
     )
@@ -133,21 +141,25 @@ def test_metrics_are_described(tmp_path: pathlib.Path) -> None:
         start(client, "trip", "a")
         take(client, "trip/flight")
         text = client.get("/metrics").text
-    told = {
+    metrics = {
         name for name in re.findall(r"# TYPE (sagas_\w+)", text) if not name.endswith("_created")
     }
-    counted = {name.removesuffix("_total") for name in told}
+    counted = {name.removesuffix("_total") for name in metrics}
     assert names and names <= counted, names - counted
-    assert told == set(re.findall(r"`(sagas_\w+[a-z])[{`]", (REFERENCE / "metrics.md").read_text()))
+    assert metrics == set(
+        re.findall(r"`(sagas_\w+[a-z])[{`]", (REFERENCE / "metrics.md").read_text())
+    )
 
 
 def test_each_wait_is_described() -> None:
-    """The reference has each reason for which an attempt waits, and the page on troubles what the command says of it."""
+    """The reference has each reason for which an attempt waits, and the page on troubleshooting the
+    command's text for it.
+    """
     from sagas.cli.backlog import NEEDS, waits_for
     from sagas.core.states import WAITS_FOR, Suspension
 
     table = PAGE.partition("| `why` |")[2].partition("\n\n")[0]
-    inner = {Suspension.STEP_LIMIT, Suspension.FLEET_LIMIT}  # what the store calls them
+    inner = {Suspension.STEP_LIMIT, Suspension.FLEET_LIMIT}  # the names in the store
     assert set(WAITS_FOR) - inner == set(
         re.findall(r"`(\w+)`", re.sub(r"(?m)^(\|[^|]*)\|.*", r"\1", table))
     )
@@ -156,19 +168,21 @@ def test_each_wait_is_described() -> None:
     rows = [re.sub("NAME|N", ".+", row) for row in re.findall(r"^\| ([^|]*) \|", page, re.M)]
     one = {"until": None, "count": 1, "worker": "w", "saga": "trip", "version": 1}
     kinds = ["unknown", "exhausted", "retry", "cannot_decode", "node", "approval", "wait", "child"]
-    said = [waits_for(one | {"why": why}) for why in kinds]
-    said += [
+    texts = [waits_for(one | {"why": why}) for why in kinds]
+    texts += [
         waits_for(one | {"why": "external", "until": 4e9}),
         waits_for(one | {"why": "unknown", "until": 4e9}),
     ]
-    assert [text for text in said if not any(re.match(row, text) for row in rows)] == []
+    assert [text for text in texts if not any(re.match(row, text) for row in rows)] == []
 
 
 @pytest.mark.parametrize("engine", ["podman", "docker"])
 def test_the_containers_have_one_image_and_its_tokens_can_be_read(
     tmp_path: pathlib.Path, engine: str
 ) -> None:
-    """With docker, root owns the files that a container writes: those of tokens are for others, too."""
+    """With docker, root owns the files that a container writes: token files must be readable for
+    others.
+    """
     deploy = shutil.copytree(TOP / "examples" / "deploy", tmp_path / "deploy")
     places = (TOP / "docs" / "guides" / "service.md", deploy / "Containerfile")
     (image,) = {
@@ -177,7 +191,10 @@ def test_the_containers_have_one_image_and_its_tokens_can_be_read(
         for name in re.findall(r"podman build .* -t (\S+) \.", path.read_text())
     }
     (tmp_path / "bin").mkdir()
-    text = '#!/bin/bash\nwhile [ "$1" != --volume ]; do shift; done; folder=${2%:*}; image=$5; script=${7//\\/made/$folder}\n'
+    text = (
+        '#!/bin/bash\nwhile [ "$1" != --volume ]; do shift; done; folder=${2%:*}; image=$5;'
+        " script=${7//\\/made/$folder}\n"
+    )
     text += (
         f'(umask 022; bash -ec "$script") && stat -c "%a $image" "$folder"/* >>{tmp_path}/made\n'
     )
@@ -189,14 +206,14 @@ def test_the_containers_have_one_image_and_its_tokens_can_be_read(
         path.chmod(0o755)
     for name in ("bash", "sh", "dirname", "mktemp", "rm", "stat", "od", "tr", "cat", "cp", "chmod"):
         (tmp_path / "bin" / name).symlink_to(str(shutil.which(name)))
-    told = subprocess.run(
+    done = subprocess.run(
         [deploy / "setup"],
         env=environment() | {"PATH": str(tmp_path / "bin")},
         capture_output=True,
         text=True,
         check=True,
     )
-    assert re.fullmatch(r"caller:   sagas_\S+\noperator: sagas_\S+\n", told.stdout)
+    assert re.fullmatch(r"caller:   sagas_\S+\noperator: sagas_\S+\n", done.stdout)
     assert (
         "SAGAS_WORKER_TOKEN=sagas_" in (deploy / ".env").read_text()
         and (deploy / ".env").stat().st_mode & 0o077 == 0
@@ -208,21 +225,26 @@ def test_the_containers_have_one_image_and_its_tokens_can_be_read(
 
 
 def test_the_unit_starts_a_service(tmp_path: pathlib.Path) -> None:
-    """Its command, with the folders of this test; it has time to end, and descriptors for its connections."""
+    """It runs its command, with the folders of this test; it has time to end, and descriptors for
+    its connections.
+    """
     unit = configparser.ConfigParser(interpolation=None, strict=False)
     unit.read(TOP / "examples" / "service" / "sagas.service")
     service = unit["Service"]
     assert int(service["TimeoutStopSec"]) > 20 and int(service["LimitNOFILE"]) > 2000
     (tmp_path / "definitions").symlink_to(TOP / "examples" / "service" / "definitions")
     token(tmp_path, "shop", "caller")
-    words = [
+    command = [
         re.sub("^(/var/lib|/etc)/sagas", str(tmp_path), word)
         for word in shlex.split(service["ExecStart"])
     ]
-    assert words[:2] == ["/usr/bin/sagas", "serve"] and words[-2:] == ["--listen", "127.0.0.1:8080"]
-    words[:1], words[-1] = [sys.executable, "-m", "sagas"], f"{host()}:0"
+    assert command[:2] == ["/usr/bin/sagas", "serve"] and command[-2:] == [
+        "--listen",
+        "127.0.0.1:8080",
+    ]
+    command[:1], command[-1] = [sys.executable, "-m", "sagas"], f"{host()}:0"
     with subprocess.Popen(
-        words, env=environment(), cwd=tmp_path, stdout=subprocess.PIPE, text=True
+        command, env=environment(), cwd=tmp_path, stdout=subprocess.PIPE, text=True
     ) as process:
         try:
             assert process.stdout and "http://" in process.stdout.readline()
@@ -234,9 +256,9 @@ def test_the_unit_starts_a_service(tmp_path: pathlib.Path) -> None:
 
 
 def test_the_unit_is_hardened() -> None:
-    """systemd's own measure of what the service may do: at most 2.0 of 10."""
+    """By systemd's own measure of a service's exposure: at most 2.0 of 10."""
     unit = TOP / "examples" / "service" / "sagas.service"
-    words = [
+    command = [
         "systemd-analyze",
         "security",
         "--offline=true",
@@ -244,7 +266,7 @@ def test_the_unit_is_hardened() -> None:
         "--threshold=20",
         str(unit),
     ]
-    done = subprocess.run(words, capture_output=True, text=True, check=False)
+    done = subprocess.run(command, capture_output=True, text=True, check=False)
     assert done.returncode == 0, done.stdout[-300:] + done.stderr
 
 

@@ -1,5 +1,7 @@
-"""A worker's token reports what that worker was given, and nothing else: over a file and a
-database, at the service that drives the saga and at another."""
+"""A worker's token reports only the tasks of that worker.
+
+Over a file and a database, at the service that drives the saga and at another.
+"""
 
 from __future__ import annotations
 
@@ -39,7 +41,7 @@ def price(task):
     threading.Event().wait()
 """
 ROLES = {"ada": "worker", "bob": "worker", "caller": "caller", "operator": "operator"}
-WORDS: list[tuple[str, dict[str, Any]]] = [
+REPORTS: list[tuple[str, dict[str, Any]]] = [
     ("complete", {"result": "forged"}),
     ("fail", {"error": "forged", "final": True}),
     ("fail", {"error": "forged"}),
@@ -61,7 +63,7 @@ class World:
         for name in ("one", "two") if store else ("one",):
             (folder / name).mkdir()
             (folder / name / "shop.py").write_text(SHOP)
-            words = [
+            options = [
                 "--token-file",
                 str(folder / "tokens.toml"),
                 "--app",
@@ -71,7 +73,7 @@ class World:
                 "--lease",
                 "5",
             ]
-            service = Served(folder / name, FILES, *words, store=store)
+            service = Served(folder / name, FILES, *options, store=store)
             stack.callback(service.kill)
             service.start()
             for who, text in tokens.items():
@@ -81,8 +83,10 @@ class World:
         )
 
     def start(self, definition: str, key: str) -> str:
-        """Starts a saga; gives what its tokens begin with, as each worker knows it who had a task
-        of the same log."""
+        """Start a saga; return the prefix of its tokens.
+
+        Each worker that had a task of the same log knows it.
+        """
         assert start(self.caller, definition, key).status_code == 201
         deadline = time.monotonic() + LONG
         while (view := self.looks.ask(one_saga.view(key))) is None:
@@ -93,41 +97,42 @@ class World:
         return self.operator.get(f"/v1/sagas/{key}").json()
 
     def waits(self, key: str, why: str) -> None:
-        """Until the saga waits for that."""
+        """Wait until the saga waits for that."""
         deadline = time.monotonic() + LONG
         while why not in [one["why"] for one in self.saga(key)["waits"]]:
             assert time.monotonic() < deadline, self.saga(key)
 
     def forged(
-        self, task: str, lease: Any, by: str = "bob", verbs: Any = WORDS
+        self, task: str, lease: Any, by: str = "bob", verbs: Any = REPORTS
     ) -> set[tuple[int, str]]:
-        """What the services answer to reports of this task, by each verb at each service."""
-        found = set()
+        """Return the responses to reports of this task, by each verb at each service."""
+        statuses = set()
         for client in self.clients[by]:
             for verb, body in verbs:
                 answer = client.post(f"/v1/tasks/{task}/{verb}", json={"lease": lease, **body})
-                found.add((answer.status_code, error_of(answer) if answer.is_error else ""))
-        return found
+                statuses.add((answer.status_code, error_of(answer) if answer.is_error else ""))
+        return statuses
 
 
 @pytest.fixture(scope="module")
 def world(tmp_path_factory: pytest.TempPathFactory, store: str | None) -> Iterator[World]:
     folder = tmp_path_factory.mktemp("forgeries")
     with contextlib.ExitStack() as stack:
-        found = World(folder, store, stack)
-        found.looks = StoreReader(
+        services = World(folder, store, stack)
+        services.looks = StoreReader(
             PostgreSQL(store).reader() if store else Reader(str(folder / "one" / "store.db"))
         )
-        stack.callback(found.looks.close)
-        yield found
+        stack.callback(services.looks.close)
+        yield services
 
 
 INVALID = {(403, "InvalidLease")}
 
 
 def guesses(world: World) -> list[str]:
-    """Leases that were not issued for the task: well made ones, odd ones, and one that this worker
-    has for a task of its own."""
+    """Return leases that were not issued for the task: well-formed ones, odd ones, and one that
+    this worker has for its own task.
+    """
     assert start(world.caller, "licence", f"own-{time.monotonic_ns()}").status_code == 201
     (own,) = take(world.clients["bob"][0], "licence/server")
     number, _, signed = own["lease"].partition(".")
@@ -152,11 +157,11 @@ def guesses(world: World) -> list[str]:
 
 
 def is_unmoved(world: World, key: str, before: Any) -> None:
-    words, after = ("phase", "results", "errors", "states"), world.saga(key)
-    assert {word: after[word] for word in words} == {word: before[word] for word in words}
+    fields, after = ("phase", "results", "errors", "states"), world.saga(key)
+    assert {word: after[word] for word in fields} == {word: before[word] for word in fields}
     waits = [
-        [(one["step"], one["why"], one["attempt"]) for one in told["waits"]]
-        for told in (before, after)
+        [(one["step"], one["why"], one["attempt"]) for one in state["waits"]]
+        for state in (before, after)
     ]
     assert waits[0] == waits[1]
 
@@ -171,11 +176,12 @@ def is_unmoved(world: World, key: str, before: Any) -> None:
     ],
     ids=["a task that nobody took", "an approval", "a timer", "a function of the program"],
 )
-def test_what_no_worker_was_given(
+def test_reports_of_unclaimed_tasks(
     world: World, definition: str, step: str, why: str | None
 ) -> None:
-    """No report of it counts, whatever the lease: nothing moves, and the answer says nothing about
-    the task."""
+    """No report of it counts, whatever the lease: nothing changes, and the response says nothing
+    about the task.
+    """
     key = f"forged-{definition}"
     begin = world.start(definition, key)
     if why:
@@ -192,7 +198,7 @@ def test_what_no_worker_was_given(
         f"{begin}9-{step}-run-1",
         "x",
     ):
-        assert world.forged(none, guess, verbs=WORDS[:1]) == INVALID, none
+        assert world.forged(none, guess, verbs=REPORTS[:1]) == INVALID, none
     is_unmoved(world, key, before)
     if definition == "trip":
         (task,) = take(world.clients["ada"][-1], "trip/flight")
@@ -201,23 +207,22 @@ def test_what_no_worker_was_given(
             "repeated": False,
             "next": None,
         }
-    assert (
-        world.caller.post(f"/v1/sagas/{key}/abort", json={}).status_code == 200
-    )  # its further tasks are no other test's
+    # its further tasks are not another test's
+    assert world.caller.post(f"/v1/sagas/{key}/abort", json={}).status_code == 200
 
 
 def test_another_worker_s_task(world: World) -> None:
-    """Not under a lease of another task, nor under the very lease, by another's token; its own
-    worker reports it at any service, and once."""
+    """Not under a lease of another task, nor under the right lease by another's token; its own
+    worker reports it at any service, once.
+    """
     begin = world.start("few", "forged-other")
     (task,) = take(world.ada, "few/a")
     assert task["attempt_id"] == f"{begin}-a-run-1"
     before = world.saga("forged-other")
     for guess in [*guesses(world), task["lease"]]:
         assert world.forged(task["attempt_id"], guess) == INVALID, guess
-    assert (
-        world.forged(task["attempt_id"], task["lease"], by="operator") == INVALID
-    )  # an operator may do what workers do, with tasks of its own
+    # an operator may do what workers do, with its own tasks
+    assert world.forged(task["attempt_id"], task["lease"], by="operator") == INVALID
     is_unmoved(world, "forged-other", before)
     assert report(world.clients["ada"][-1], task, "fail", error="full").json() == {
         "kept": True,
@@ -226,10 +231,11 @@ def test_another_worker_s_task(world: World) -> None:
     }
     (again,) = take(world.ada, "few/a/undo", "few/a", wait=1) or [None]
     assert again is None or again["attempt_id"] != task["attempt_id"]
+    # a reported task is visible only to its worker; no response shows whether a guess is right
     for guess in [
         *guesses(world),
         task["lease"],
-    ]:  # what was reported is told to none but its worker, not even whether a guess is right
+    ]:
         assert (
             world.forged(
                 task["attempt_id"],
@@ -241,7 +247,7 @@ def test_another_worker_s_task(world: World) -> None:
 
 
 def test_a_lease_is_of_one_attempt(world: World) -> None:
-    """The next try has a token of its own, and the lease of the one before is none for it."""
+    """The next try has its own token, and the lease of the one before is not valid for it."""
     world.start("trip", "forged-attempt")
     (flight,) = take(world.ada, "trip/flight")
     report(world.ada, flight, result=1)
@@ -260,9 +266,10 @@ def test_a_lease_is_of_one_attempt(world: World) -> None:
     )
 
 
-def test_what_waits_for_a_person(world: World) -> None:
-    """Neither a forged lease nor the one under which it was given says how it ended: a person
-    does."""
+def test_a_lease_cannot_report_an_attempt_that_needs_an_operator(world: World) -> None:
+    """Neither a forged lease nor the one under which it was issued reports the outcome: only an
+    operator does.
+    """
     world.start("trip", "forged-unknown")
     for step in ("trip/flight", "trip/car"):
         (task,) = take(world.ada, step)
@@ -274,9 +281,9 @@ def test_what_waits_for_a_person(world: World) -> None:
     assert [one["person"] for one in before["waits"]] == [True]
     for guess in [*guesses(world), tour["lease"]]:
         assert world.forged(tour["attempt_id"], guess) == INVALID, guess
-    late = world.forged(tour["attempt_id"], tour["lease"], by="ada", verbs=[WORDS[0], WORDS[4]])
+    late = world.forged(tour["attempt_id"], tour["lease"], by="ada", verbs=[REPORTS[0], REPORTS[4]])
     assert late == {(409, "LeaseLost")}
-    assert world.forged(tour["attempt_id"], tour["lease"], by="ada", verbs=WORDS[1:3]) == {
+    assert world.forged(tour["attempt_id"], tour["lease"], by="ada", verbs=REPORTS[1:3]) == {
         (409, "ConflictingReport")
     }
     is_unmoved(world, "forged-unknown", before)

@@ -1,4 +1,7 @@
-"""Whoever is not meant well: any JSON by the schema and against it, bytes, long bodies, idle connections, clients that never read."""
+"""Hostile clients: any JSON by the schema and against it, bytes, long bodies, idle connections.
+
+Some clients never read.
+"""
 
 from __future__ import annotations
 
@@ -40,23 +43,23 @@ def service(tmp_path_factory: pytest.TempPathFactory) -> Iterator[Served]:
 
 
 def memory(service: Served) -> int:
-    """The most memory that the service has had, in bytes."""
+    """Return the most memory that the service has had, in bytes."""
     assert service.process
-    found = re.search(
+    match = re.search(
         r"VmHWM:\s+(\d+) kB", pathlib.Path(f"/proc/{service.process.pid}/status").read_text()
     )
-    assert found
-    return int(found[1]) * 1024
+    assert match
+    return int(match[1]) * 1024
 
 
 def is_well(service: Served) -> None:
-    """It answers, and nothing of it has failed."""
+    """Check that it answers, and has no internal error."""
     with service.client() as client:
         assert client.get("/health/live").json() == {"alive": True}
         assert client.get("/v1/sagas/there").json()["key"] == "there"
-    assert "Traceback" not in service.told() and '"trace"' not in service.told(), service.told()[
-        -3000:
-    ]
+    assert (
+        "Traceback" not in service.log_text() and '"trace"' not in service.log_text()
+    ), service.log_text()[-3000:]
 
 
 TEXT = st.one_of(
@@ -90,31 +93,33 @@ VALUES = st.recursive(
 )
 
 
-def of_schema(told: dict[str, Any], whole: dict[str, Any]) -> st.SearchStrategy[Any]:
-    """Values as a schema says, mostly."""
-    if "$ref" in told:
-        return of_schema(whole["components"]["schemas"][told["$ref"].rsplit("/", 1)[1]], whole)
-    if "enum" in told:
-        return st.sampled_from(told["enum"])
-    kind = told.get("type")
+def of_schema(schema: dict[str, Any], whole: dict[str, Any]) -> st.SearchStrategy[Any]:
+    """Draw values of a schema, mostly."""
+    if "$ref" in schema:
+        return of_schema(whole["components"]["schemas"][schema["$ref"].rsplit("/", 1)[1]], whole)
+    if "enum" in schema:
+        return st.sampled_from(schema["enum"])
+    kind = schema.get("type")
     if kind == "object":
         needed = {
             name: of_schema(part, whole)
-            for name, part in told.get("properties", {}).items()
-            if name in told.get("required", ())
+            for name, part in schema.get("properties", {}).items()
+            if name in schema.get("required", ())
         }
         more = {
             name: of_schema(part, whole)
-            for name, part in told.get("properties", {}).items()
+            for name, part in schema.get("properties", {}).items()
             if name not in needed
         }
         return st.fixed_dictionaries(needed, optional=more)
     if kind == "array":
         return st.lists(
-            of_schema(told.get("items", {}), whole), min_size=told.get("minItems", 0), max_size=3
+            of_schema(schema.get("items", {}), whole),
+            min_size=schema.get("minItems", 0),
+            max_size=3,
         )
     if kind in ("integer", "number"):
-        low, high = int(told.get("minimum", 0)), int(min(told.get("maximum", 1000), 2**62))
+        low, high = int(schema.get("minimum", 0)), int(min(schema.get("maximum", 1000), 2**62))
         return st.integers(low, high)
     if kind == "boolean":
         return st.booleans()
@@ -123,11 +128,11 @@ def of_schema(told: dict[str, Any], whole: dict[str, Any]) -> st.SearchStrategy[
 
 @st.composite
 def requests(draw: st.DrawFn, schema: dict[str, Any]) -> tuple[str, str, bytes, str]:
-    """A request of a path of the schema: right, nearly right, or not at all."""
+    """Draw a request of a path of the schema: right, nearly right, or not at all."""
     path = draw(st.sampled_from(sorted(set(schema["paths"]) - {"/v1/events"})))
-    method, told = draw(st.sampled_from(sorted(schema["paths"][path].items())))
+    method, operation = draw(st.sampled_from(sorted(schema["paths"][path].items())))
     query = {}
-    for word in told.get("parameters", ()):
+    for word in operation.get("parameters", ()):
         if word["in"] == "path":
             path = path.replace(
                 f"{{{word['name']}}}", quote(draw(TEXT).encode("utf-8", "surrogatepass"), safe="")
@@ -138,8 +143,8 @@ def requests(draw: st.DrawFn, schema: dict[str, Any]) -> tuple[str, str, bytes, 
         {"seconds": b"0"} if path.endswith("/wait") else {}
     )
     body = b""
-    if "requestBody" in told:
-        of = told["requestBody"]["content"]["application/json"]["schema"]
+    if "requestBody" in operation:
+        of = operation["requestBody"]["content"]["application/json"]["schema"]
         value = draw(st.one_of(of_schema(of, schema), of_schema(of, schema), VALUES))
         if isinstance(value, dict) and path == "/v1/tasks/claim":
             value = value | {"wait": 0}
@@ -161,7 +166,9 @@ def requests(draw: st.DrawFn, schema: dict[str, Any]) -> tuple[str, str, bytes, 
 
 
 def send_any_json(service: Served, most: settings) -> None:
-    """Whatever is asked, by the schema or nearly: an answer in JSON that is no fault of the service."""
+    """Each request, by the schema or nearly, gets a response in JSON that is not an
+    internal error.
+    """
     with service.client() as client:
         schema = client.get("/openapi.json").json()
 
@@ -181,7 +188,7 @@ ODD = ("%00", "a%00b", "%ED%A0%80", "%FF", "%F0%9F%92%A9", "%", "_", "'%22%3B--"
 
 
 def send_odd_texts(service: Served) -> None:
-    """Zeros, halves of pairs and what is no UTF-8, wherever a text may stand."""
+    """Send zeros, halves of surrogate pairs and invalid UTF-8 in each place of a text."""
     with service.client() as client:
         for odd in ODD:
             for path in (
@@ -251,7 +258,7 @@ DEEP = b'{"definition":"trip","key":"deep","input":' + b"[" * 5000 + b"]" * 5000
 BODIES = [b"[" * 200_000, DEEP, b"1" * 50_000, b'"\xff"', b'{"a":1e999}', b"\x00" * 100]
 
 
-def test_bodies_that_are_none(service: Served) -> None:
+def test_invalid_bodies(service: Served) -> None:
     with service.client() as client:
         for body in BODIES:
             answer = client.post(
@@ -275,7 +282,7 @@ PARTS = [
 @MANY
 @given(st.lists(st.one_of(st.binary(max_size=200), st.sampled_from(PARTS)), max_size=6))
 def send_any_bytes(service: Served, parts: list[bytes]) -> None:
-    """What is no HTTP is refused, or closed."""
+    """A request that is not HTTP is refused, or closed."""
     with connection(service) as one:
         with contextlib.suppress(OSError):
             one.sendall(b"".join(parts))
@@ -297,8 +304,10 @@ def test_any_bytes_leave_it_well(service: Served) -> None:
 
 
 @pytest.mark.parametrize("path", ["/", "/health/live", "/v1/events"])
-def test_a_body_that_is_no_http(service: Served, path: str) -> None:
-    """Behind a request that needs none, at once and once its answer has begun: the connection ends, and nothing has failed."""
+def test_a_body_that_is_not_http(service: Served, path: str) -> None:
+    """It follows a request that needs none, at once and once its response has started: the
+    connection ends, and there is no internal error.
+    """
     head = f"GET {path} HTTP/1.1\r\nHost: 127.0.0.1\r\nTransfer-Encoding: chunked\r\n\r\n".encode()
     with connection(service) as one:
         one.sendall(head + b"no chunk\r\n")
@@ -327,7 +336,7 @@ def pieces(count: int, size: int) -> Iterator[bytes]:
 
 
 def is_refused(service: Served, path: str, content: Any) -> None:
-    """It is too long: 413, or the connection ends while it is sent."""
+    """Return whether it is too long: 413, or the connection ends while it is sent."""
     with service.client() as client, contextlib.suppress(httpx.TransportError):
         assert (
             client.post(
@@ -338,11 +347,12 @@ def is_refused(service: Served, path: str, content: Any) -> None:
 
 
 def test_long_bodies(service: Served) -> None:
-    """A body of 100 MB is refused, whether it says its length or not, and never stands in memory."""
+    """A body of 100 MB is refused, with its length or without, and is never in memory."""
     before = memory(service)
     with connection(service) as one:
         one.sendall(
-            b"POST /v1/sagas HTTP/1.1\r\nHost: 127.0.0.1\r\nContent-Type: application/json\r\nContent-Length: 104857600\r\n\r\n"
+            b"POST /v1/sagas HTTP/1.1\r\nHost: 127.0.0.1\r\nContent-Type:"
+            b" application/json\r\nContent-Length: 104857600\r\n\r\n"
         )
         assert one.recv(4096).startswith(b"HTTP/1.1 413 ")
     for _ in range(3):
@@ -361,7 +371,7 @@ def test_long_bodies(service: Served) -> None:
 
 
 def test_ten_thousand_idle_connections(service: Served) -> None:
-    """They give way to whoever asks something, and memory is bounded."""
+    """They are closed for new clients, and memory is bounded."""
     soft, hard = resource.getrlimit(resource.RLIMIT_NOFILE)
     resource.setrlimit(resource.RLIMIT_NOFILE, (hard, hard))
     before, open = memory(service), []
@@ -386,7 +396,7 @@ def test_ten_thousand_idle_connections(service: Served) -> None:
 
 
 def test_clients_that_never_read(service: Served) -> None:
-    """Long answers and streams that nobody takes hold up nobody, and memory is bounded."""
+    """Long responses and streams that no client reads block no other, and memory is bounded."""
     with service.client() as client:
         start(client, "order", "long", "z" * (MEGA - 1000))
     before = memory(service)
@@ -404,7 +414,9 @@ def test_clients_that_never_read(service: Served) -> None:
 
 
 def test_whoever_does_not_read_is_cut_off() -> None:
-    """A connection ends whose client takes nothing of its answer for too long; one that takes it slowly has all of it."""
+    """A connection ends if its client reads nothing of its response for too long; one that reads
+    slowly gets all of it.
+    """
 
     async def long(scope: Any, receive: Any, send: Any) -> None:
         if connection := counted.of(scope["client"]):
@@ -456,8 +468,10 @@ def test_whoever_does_not_read_is_cut_off() -> None:
     asyncio.run(asyncio.wait_for(main(), LONG))
 
 
-def test_a_client_that_says_no_more_is_gone() -> None:
-    """Its connection closes, and it counts as gone from then on, and not only once the connection is lost: no task is handed to it meanwhile."""
+def test_a_half_closed_client_counts_as_gone() -> None:
+    """It is closed, and counts as gone from then on, before the connection is lost: no task goes to
+    it in the meantime.
+    """
     gone: list[bool] = []
 
     async def waits(scope: Any, receive: Any, send: Any) -> None:
@@ -469,9 +483,9 @@ def test_a_client_that_says_no_more_is_gone() -> None:
 
         class Seen(uvicorn_server.protocol(counted)):  # type: ignore[misc]
             def eof_received(self) -> bool | None:
-                told: bool | None = super().eof_received()
+                result: bool | None = super().eof_received()
                 gone.append(self.gone.done())
-                return told
+                return result
 
         config = uvicorn.Config(waits, http=Seen, log_config=None, log_level="critical")
         config.load()
@@ -491,16 +505,21 @@ def test_a_client_that_says_no_more_is_gone() -> None:
 
 
 def test_a_body_that_does_not_come(tmp_path: pathlib.Path, monkeypatch: pytest.MonkeyPatch) -> None:
-    """Once its time has passed that is answered with 408, and the connection ends; a body that comes in parts is taken."""
+    """Once its time has passed the response is 408, and the connection ends; a body that comes in
+    parts is accepted.
+    """
     monkeypatch.setenv("SAGAS_PROGRAM", program())
     Served(tmp_path)
-    told = Settings(
+    settings = Settings(
         str(tmp_path / "store.db"), definition_files.read(tmp_path / "definitions"), body_time=1.0
     )
     body = json.dumps({"definition": "trip", "key": "parted"}).encode()
-    head = f"POST /v1/sagas HTTP/1.1\r\nHost: 127.0.0.1\r\nContent-Type: application/json\r\nContent-Length: {len(body)}\r\n\r\n".encode()
+    head = (
+        "POST /v1/sagas HTTP/1.1\r\nHost: 127.0.0.1\r\nContent-Type:"
+        f" application/json\r\nContent-Length: {len(body)}\r\n\r\n".encode()
+    )
 
-    async def asked(address: tuple[str, int], *parts: bytes) -> bytes:
+    async def answer_of(address: tuple[str, int], *parts: bytes) -> bytes:
         back, there = await asyncio.open_connection(*address)
         for part in parts:
             there.write(part)
@@ -514,13 +533,15 @@ def test_a_body_that_does_not_come(tmp_path: pathlib.Path, monkeypatch: pytest.M
     async def main() -> None:
         opened = asyncio.Event()
         with socket.create_server((host(), 0)) as listening:
-            at_work = asyncio.create_task(uvicorn_server.run(told, listening, opened.set))
+            at_work = asyncio.create_task(uvicorn_server.run(settings, listening, opened.set))
             await opened.wait()
             address = listening.getsockname()
-            assert await asked(address, head) == b"HTTP/1.1 408 "
-            assert await asked(address, head, body[:-1]) == b"HTTP/1.1 408 "
-            assert await asked(address, head + body[:5], body[5:20], body[20:]) == b"HTTP/1.1 201 "
-            assert await asked(address, head + body) == b"HTTP/1.1 200 "
+            assert await answer_of(address, head) == b"HTTP/1.1 408 "
+            assert await answer_of(address, head, body[:-1]) == b"HTTP/1.1 408 "
+            assert (
+                await answer_of(address, head + body[:5], body[5:20], body[20:]) == b"HTTP/1.1 201 "
+            )
+            assert await answer_of(address, head + body) == b"HTTP/1.1 200 "
             at_work.cancel()
             await asyncio.wait([at_work])
 

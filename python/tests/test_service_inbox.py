@@ -1,5 +1,7 @@
-"""The inbox in a real Chromium: many sagas of one cause are resolved together, and what waits for a
-person is never out of reach."""
+"""The inbox in a real Chromium: many sagas of one cause are resolved together.
+
+Everything that needs an operator is always reachable.
+"""
 
 from __future__ import annotations
 
@@ -19,8 +21,8 @@ import sagas
 from sagas.server.routes.bulk import Target
 from sagas.server.routes.inbox_words import question_of
 
-STUCK, ASKED = 40, 25
-PANEL = [f"ask-{number}" for number in range(ASKED)]
+STUCK, APPROVALS = 40, 25
+PANEL = [f"ask-{number}" for number in range(APPROVALS)]
 FILES = DEFINITIONS | {
     "panel.toml": 'format = 2\nname = "panel"\n'
     + "".join(f'[[step]]\nname = "{name}"\n' for name in PANEL),
@@ -29,7 +31,7 @@ FILES = DEFINITIONS | {
 
 
 def closed_shop(folder: pathlib.Path) -> None:
-    """A saga in the store, of a definition that the service does not have."""
+    """Return a saga in the store, of a definition that the service does not have."""
     shop = sagas.Saga("closed-shop")
 
     @shop.step
@@ -52,12 +54,12 @@ def service(tmp_path_factory: pytest.TempPathFactory) -> Iterator[Served]:
             while left:
                 for task in take(client, f"licence/{step}", most=50):
                     number = int(task["key"].rpartition("-")[2])
-                    word, told = "complete", {"result": 1}
+                    word, outcome = "complete", {"result": 1}
                     if step == "licence":
                         why = f"HTTP 503 of request {number * 7919}" if number < STUCK else "none"
-                        word, told = "fail", {"error": why, "final": True}
+                        word, outcome = "fail", {"error": why, "final": True}
                     path = f"/v1/tasks/{task['attempt_id']}/{word}"
-                    client.post(path, json={"lease": task["lease"], **told})
+                    client.post(path, json={"lease": task["lease"], **outcome})
                     left -= 1
         for number in range(60):
             start(client, "order", f"asked-{number:02}")
@@ -67,7 +69,7 @@ def service(tmp_path_factory: pytest.TempPathFactory) -> Iterator[Served]:
 
 
 def test_forty_of_one_cause_are_resolved(service: Served, tmp_path: pathlib.Path) -> None:
-    """In four clicks: the numbers in their errors do not tell them apart."""
+    """It takes four clicks: the numbers in their errors do not separate them."""
     browser, clicks = Browser(service, tmp_path), 0
     try:
         browser.size(1400)
@@ -92,28 +94,30 @@ def test_forty_of_one_cause_are_resolved(service: Served, tmp_path: pathlib.Path
         browser.wait(lambda: "Stuck 3" in browser.text)
         browser.is_quiet()
         with service.client() as client:
-            found = client.get("/v1/sagas?phase=resolved&limit=1000").json()["sagas"]
-            assert len(found) == STUCK and {one["note"] for one in found} == {"bought by hand"}
+            resolved = client.get("/v1/sagas?phase=resolved&limit=1000").json()["sagas"]
+            assert len(resolved) == STUCK and {one["note"] for one in resolved} == {
+                "bought by hand"
+            }
         assert clicks <= 8
     finally:
         browser.driver.quit()
 
 
 def csrf_of(client: httpx.Client) -> str:
-    found = re.search(r'name="csrf" value="([^"]+)"', client.get("/ui").text)
-    assert found
-    return found[1]
+    match = re.search(r'name="csrf" value="([^"]+)"', client.get("/ui").text)
+    assert match
+    return match[1]
 
 
 def hidden(text: str) -> dict[str, str]:
-    """The hidden fields of the form that a page asks with, as a browser sends them."""
+    """Return the hidden fields of a page's form, as a browser sends them."""
     form = text.split('<form class="confirm card')[1].split("</form>")[0]
     fields = re.findall(r'<input type="hidden" name="([^"]+)" value="([^"]*)"', form)
     return {name: html.unescape(value) for name, value in fields}
 
 
-def asked(client: httpx.Client, kind: str, verb: str, **more: str) -> httpx.Response:
-    """What is asked once these are selected, and an action: by default the first group."""
+def question_page(client: httpx.Client, kind: str, verb: str, **more: str) -> httpx.Response:
+    """Return the form for a selection and an action: by default the first group."""
     search = more.get("search", "")
     if "one" not in more:
         text = client.get("/ui", params={"kind": kind, "search": search}).text
@@ -130,21 +134,23 @@ def waits(client: httpx.Client, key: str, why: str) -> None:
 
 
 def test_each_is_within_reach(service: Served) -> None:
-    """By the pages of a group; without JavaScript, too. What is wrong with a form is said, and what
-    is refused is counted."""
+    """They are on the pages of a group; without JavaScript, too.
+
+    Errors of a form are shown, and refused sagas are counted.
+    """
     with service.client() as client:
         text = client.get("/ui?kind=approval").text
         group = text.split('name="group" value="')[1].split('"')[0]
-        found = set()
+        listed = set()
         for page in (1, 2):
             shown = client.get(f"/ui?kind=approval&group={group}&page={page}").text
-            found |= {
+            listed |= {
                 f"asked-{number:02}" for number in range(60) if f">asked-{number:02}<" in shown
             }
-        assert len(found) == 60
+        assert len(listed) == 60
         newest = client.get(f"/ui?kind=approval&group={group}&order=newest").text
         assert newest.index(">asked-59<") < newest.index(">asked-58<")
-        question = asked(client, "approval", "done").text
+        question = question_page(client, "approval", "done").text
         assert "Approve 60 steps of 60 sagas?" in question
         sixty = hidden(question)
         no_json = client.post("/ui/inbox", data={**sixty, "result": "{"})
@@ -153,11 +159,11 @@ def test_each_is_within_reach(service: Served) -> None:
         assert "0 done, 60 refused" in refused and "the first 50" in refused
         assert refused.count('<li class="line">') == 50
         one = shown.split('name="one" value="')[1].split('"')[0]
-        question = asked(client, "approval", "failed", one=one).text
+        question = question_page(client, "approval", "failed", one=one).text
         assert "Refuse 1 step of 1 saga?" in question
         form = hidden(question)
-        said = client.post("/ui/inbox", data={**form, "failed": "too expensive"})
-        assert "1 done" in said.text
+        answer = client.post("/ui/inbox", data={**form, "failed": "too expensive"})
+        assert "1 done" in answer.text
         assert client.get("/v1/attention").json()["counts"]["approval"] == 59
         again = client.post("/ui/inbox", data={**sixty, "result": "{"})
         assert "Approve 59 steps of 59 sagas?" in again.text
@@ -165,14 +171,16 @@ def test_each_is_within_reach(service: Served) -> None:
             assert client.post("/ui/inbox", data=other).status_code in (403, 422)
 
 
-def test_what_nobody_saw_is_not_approved(service: Served) -> None:
-    """A form is for the sagas that it was shown with, as far as they still wait: not for others
-    that have come to their group, also once it was sent before."""
+def test_unseen_sagas_are_not_approved(service: Served) -> None:
+    """A form is for the sagas that it was shown with, as far as they still wait.
+
+    It is not for others that have come to their group, also if it was sent before.
+    """
     with service.client() as client:
         for key in ("seen-1", "seen-2"):
             start(client, "order", key)
             waits(client, key, "approval")
-        question = asked(client, "approval", "done", search="seen-").text
+        question = question_page(client, "approval", "done", search="seen-").text
         assert "Approve 2 steps of 2 sagas?" in question
         form = {**hidden(question), "result": "1"}
         fraud = {"error": "fraud"}
@@ -188,19 +196,20 @@ def test_what_nobody_saw_is_not_approved(service: Served) -> None:
         client.post("/v1/sagas/seen-3/abort", json={})
 
 
-def test_a_form_is_for_what_its_reader_saw(service: Served) -> None:
+def test_a_form_is_for_the_sagas_it_showed(service: Served) -> None:
     """An outcome is not reported of a step that a worker has again, nor once its next outcome is
-    unknown: the form is asked again. Sent twice, it is done once."""
+    unknown: the form is shown again. If it is sent twice, it is executed once.
+    """
     where = "/ui/sagas/hazy/steps/tour/failed"
-    said = {"failed": "they have no booking"}
+    form = {"failed": "they have no booking"}
     with service.client() as client:
         start(client, "trip", "hazy")
         all_done(client, "trip/flight", "trip/car")
         (tour,) = take(client, "trip/tour")
         report(client, tour, "unknown", error="the line went dead")
         waits(client, "hazy", "unknown")
-        old = {**hidden(client.get(where).text), **said}
-        many = hidden(asked(client, "unknown", "failed", search="hazy").text) | said
+        old = {**hidden(client.get(where).text), **form}
+        many = hidden(question_page(client, "unknown", "failed", search="hazy").text) | form
         retry = {**hidden(client.get(where.replace("failed", "retry")).text), "note": "it is up"}
         assert client.post(where.replace("failed", "retry"), data=retry).status_code == 303
         (tour,) = take(client, "trip/tour")
@@ -215,15 +224,17 @@ def test_a_form_is_for_what_its_reader_saw(service: Served) -> None:
         assert client.get("/v1/sagas/hazy").json()["states"]["tour"] == "begun"
         undo = client.get("/ui/sagas/hazy/steps/car/failed?undo=true").text
         assert "The compensation fails permanently" in undo and "plan of least cost" not in undo
-        now = hidden(again.text) | said
+        now = hidden(again.text) | form
         assert [client.post(where, data=now).status_code for _ in range(2)] == [303, 303]
         all_done(client, "trip/car/undo")
         assert client.get("/v1/sagas/hazy/wait?seconds=60").json()["states"]["tour"] == "failed"
 
 
 def test_a_definition_s_page(service: Served) -> None:
-    """What is at each step, and how long attempts took. Of a definition that the service does not
-    have its sagas are there."""
+    """It shows the number at each step, and the time of attempts.
+
+    For a definition that the service does not have it lists the sagas.
+    """
     with service.client() as client:
         page = client.get("/ui/definitions/licence").text
         assert "Share recovered" in page and "3 failed" in page
@@ -249,26 +260,27 @@ QUESTIONS: list[tuple[str, list[Target], str, str]] = [
 ]
 
 
-def test_what_is_asked_of_steps_and_of_compensations() -> None:
-    """Whoever reports on a compensation is asked about that, and not about its step."""
+def test_questions_about_steps_and_compensations() -> None:
+    """An operator who reports on a compensation is asked about that, and not about its step."""
     for verb, targets, title, text in QUESTIONS:
-        told = question_of("unknown", verb, targets).of(targets, verb)
-        assert told["title"] == title and told["text"].startswith(text), told
+        dialog = question_of("unknown", verb, targets).of(targets, verb)
+        assert dialog["title"] == title and dialog["text"].startswith(text), dialog
 
 
 def tabs(text: str) -> dict[str, int]:
-    """The number of each kind, and which is shown."""
-    found = re.findall(r'(aria-current="true")?>([A-Z][a-z ]+) <span class="pill[^>]*>(\d+)', text)
-    return {("*" if shown else "") + name: int(count) for shown, name, count in found}
+    """Return the number of each kind, and which is shown."""
+    tab_rows = re.findall(
+        r'(aria-current="true")?>([A-Z][a-z ]+) <span class="pill[^>]*>(\d+)', text
+    )
+    return {("*" if shown else "") + name: int(count) for shown, name, count in tab_rows}
 
 
 def test_a_filter_of_the_inbox(service: Served) -> None:
-    """It shows the first kind of which it selects something, and counts what it selects. Each link
-    keeps it."""
+    """It shows the first kind that it selects from, and counts its matches. Each link keeps it."""
     with service.client() as client:
         start(client, "panel", "panel-1")
         deadline = time.monotonic() + LONG
-        while len(client.get("/v1/sagas/panel-1").json()["waits"]) < ASKED:
+        while len(client.get("/v1/sagas/panel-1").json()["waits"]) < APPROVALS:
             assert time.monotonic() < deadline
             time.sleep(0.02)
         page = client.get("/ui/sagas/panel-1").text
@@ -276,12 +288,12 @@ def test_a_filter_of_the_inbox(service: Served) -> None:
         shown = client.get(html.unescape(link)).text
         assert shown.count(">panel-1<") >= 5
         for path in ("/ui?definition=panel", html.unescape(link)):
-            found = tabs(client.get(path).text)
-            assert (found["*Approvals"], found["Stuck"]) == (ASKED, 0), path
+            counts = tabs(client.get(path).text)
+            assert (counts["*Approvals"], counts["Stuck"]) == (APPROVALS, 0), path
         assert "Nothing matches the filter" in client.get("/ui?kind=stuck&search=panel").text
-        question = asked(client, "approval", "abort", search="panel").text
+        question = question_page(client, "approval", "abort", search="panel").text
         assert "Abort 1 saga?" in question
-        question = asked(client, "approval", "done", search="panel").text
+        question = question_page(client, "approval", "done", search="panel").text
         assert "Approve 1 step of 1 saga?" in question  # each step has a group
         for query in ("search=oldest", "definition=oldest"):
             links = re.findall(r'href="(/ui\?[^"]+)"', client.get(f"/ui?{query}").text)

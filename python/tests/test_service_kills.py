@@ -1,4 +1,7 @@
-"""Service and workers killed at random; the witness, the store and its logs agree about what was told and done. By hand: `service_kills.py`."""
+"""Service and workers killed at random; the witness, the store and its logs must agree.
+
+By hand: `service_kills.py`.
+"""
 
 from __future__ import annotations
 
@@ -10,8 +13,10 @@ from service_kills import play
 
 
 @pytest.mark.parametrize("kind", ["sqlite", "postgresql"])
-def test_nothing_told_is_lost(kind: str, request: pytest.FixtureRequest) -> None:
-    """Four workers and six callers over forty sagas; the service, over PostgreSQL two of them, and the workers are struck ten times."""
+def test_no_acknowledgement_is_lost(kind: str, request: pytest.FixtureRequest) -> None:
+    """Four workers and six callers over forty sagas; the service, over PostgreSQL two of them, and
+    the workers are struck ten times.
+    """
     server: Server | None = request.getfixturevalue("postgresql") if kind == "postgresql" else None
     seed = random.randrange(10**6)
     verdict, kills, folder = play(seed, sagas=40, workers=4, callers=6, strikes=10, server=server)

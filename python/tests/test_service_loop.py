@@ -1,4 +1,4 @@
-"""A service answers while it reads and writes large values, and pages of them."""
+"""A service responds while it reads and writes large values, and pages of them."""
 
 from __future__ import annotations
 
@@ -25,13 +25,13 @@ JSON = {"content-type": "application/json"}
 
 
 def plain(service: Served) -> httpx.Client:
-    """A client that looks at no answer."""
+    """Return a client that checks no response."""
     return httpx.Client(base_url=service.url, timeout=LONG, trust_env=False, verify=False)
 
 
 @pytest.fixture(scope="module")
 def service(tmp_path_factory: pytest.TempPathFactory) -> Iterator[Served]:
-    """With a saga whose input and results are as large as a request may be."""
+    """Return a service with a saga whose input and results are as large as a request may be."""
     with served(tmp_path_factory.mktemp("loop"), DEFINITIONS | {"large.toml": LARGE}) as one:
         with plain(one) as client:
             began = f'{{"definition": "large", "key": "large", "input": {TEXT}}}'
@@ -39,13 +39,15 @@ def service(tmp_path_factory: pytest.TempPathFactory) -> Iterator[Served]:
             for number in range(COUNT):
                 (task,) = take(client, f"large/s{number}")
                 path = f"/v1/tasks/{task['attempt_id']}/complete"
-                told = f'{{"lease": "{task["lease"]}", "result": {TEXT}}}'
-                assert client.post(path, content=told, headers=JSON).status_code == 200
+                body = f'{{"lease": "{task["lease"]}", "result": {TEXT}}}'
+                assert client.post(path, content=body, headers=JSON).status_code == 200
         yield one
 
 
 def slowest(service: Served, path: str) -> float:
-    """How long the slowest answer took that only the event loop makes, while this was asked for."""
+    """Return the time of the slowest response that only the event loop makes, during this
+    request.
+    """
     times, has_begun, is_over = list[float](), threading.Event(), threading.Event()
 
     def asks() -> None:
@@ -68,8 +70,10 @@ def slowest(service: Served, path: str) -> float:
 
 @pytest.mark.parametrize("path", ["/ui/sagas/large", "/ui/sagas/large/steps/last/done"])
 def test_the_loop_answers_while_a_page_is_made(service: Served, path: str) -> None:
-    """It is held for less than it takes to write the values as the page shows them. The least of
-    some counts, since the machine may hold everybody for a while."""
+    """It is blocked for less than the time to write the values as the page shows them.
+
+    The least of several measurements counts, since the machine may be busy.
+    """
     began = time.monotonic()
     for _ in range(COUNT):
         json.dumps(BIG, indent=2)
@@ -78,7 +82,7 @@ def test_the_loop_answers_while_a_page_is_made(service: Served, path: str) -> No
 
 
 def test_large_values_are_as_they_were(service: Served) -> None:
-    """In the answers of the API, in the page, and for the worker of the next step."""
+    """This holds for the responses of the API, the page, and the worker of the next step."""
     results = {f"s{number}": BIG for number in range(COUNT)}
     with plain(service) as client:
         saga = client.get("/v1/sagas/large").json()
@@ -97,8 +101,8 @@ def test_large_values_are_as_they_were(service: Served) -> None:
 @pytest.mark.parametrize(
     "text", ["[" * 300_000, '{"key": ' + " " * 300_000, TEXT], ids=["deep", "cut", "list"]
 )
-def test_a_large_body_that_is_no_object(service: Served, text: str) -> None:
-    """Too deep, cut off, or another value: as of a small one."""
+def test_a_large_body_that_is_not_an_object(service: Served, text: str) -> None:
+    """It is too deep, cut off, or another value: the response is that for a small one."""
     with service.client() as client:
         answer = client.post("/v1/sagas", content=text, headers=JSON)
         assert answer.status_code in (400, 422)

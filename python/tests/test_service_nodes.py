@@ -1,4 +1,7 @@
-"""Several services over one PostgreSQL database: each gives out all tasks, takes all reports, and shows all sagas; one is killed."""
+"""Several services over one PostgreSQL database.
+
+Each offers all tasks, takes all reports, and shows all sagas; one is killed.
+"""
 
 from __future__ import annotations
 
@@ -67,29 +70,31 @@ def pair(folder: pathlib.Path, url: str) -> Iterator[Pair]:
 
 @pytest.fixture(scope="module")
 def both(tmp_path_factory: pytest.TempPathFactory, postgresql: Server) -> Iterator[Pair]:
-    """A pair for the cases that kill nobody."""
+    """Return a pair for the cases without kills."""
     url = postgresql.create()
-    with pair(tmp_path_factory.mktemp("pair"), url) as found:
-        yield found
+    with pair(tmp_path_factory.mktemp("pair"), url) as services:
+        yield services
     postgresql.drop(url)
 
 
-def test_a_worker_hears_of_an_abort_at_either(both: Pair) -> None:
+def test_a_worker_is_notified_of_an_abort_at_either_service(both: Pair) -> None:
     """Whichever service drives the saga, and whichever took the abort."""
     start(both.one, "trip", "off")
     (flight,) = take(both.two, "trip/flight")
-    path, told = f"/v1/tasks/{flight['attempt_id']}/heartbeat", {"lease": flight["lease"]}
+    path, body = f"/v1/tasks/{flight['attempt_id']}/heartbeat", {"lease": flight["lease"]}
     for client in (both.one, both.two):
-        assert client.post(path, json=told).json()["cancelled"] is None
+        assert client.post(path, json=body).json()["cancelled"] is None
     assert both.two.post("/v1/sagas/off/abort", json={}).json()["aborted"] is True
     for client in (both.one, both.two):
-        assert client.post(path, json=told).json()["cancelled"] == "aborted"
+        assert client.post(path, json=body).json()["cancelled"] == "aborted"
     assert report(both.one, flight, "fail", error="stopped").status_code == 200
     assert both.one.get("/v1/sagas/off/wait?seconds=60").json()["phase"] == "recovered"
 
 
 def test_a_task_goes_through_both(both: Pair) -> None:
-    """It is begun at one, taken and beaten for at the other, and reported at the first; each shows all of it."""
+    """It is started at one, claimed and renewed at the other, and reported at the first; each shows
+    all of it.
+    """
     one, two = both.one, both.two
     assert start(one, "trip", "both", {"to": "Rome"}).status_code == 201
     again = start(two, "trip", "both", {"to": "Rome"})
@@ -110,8 +115,8 @@ def test_a_task_goes_through_both(both: Pair) -> None:
     number, _, signed = flight["lease"].partition(".")
     forged = {**flight, "lease": f"{int(number) - 1}.{signed}"}
     for client in (one, two):
-        told = {"lease": forged["lease"]}
-        answer = client.post(f"/v1/tasks/{flight['attempt_id']}/heartbeat", json=told)
+        body = {"lease": forged["lease"]}
+        answer = client.post(f"/v1/tasks/{flight['attempt_id']}/heartbeat", json=body)
         assert error_of(answer) == "InvalidLease"
         assert error_of(report(client, forged, "fail", error="no")) == "InvalidLease"
     assert report(one, flight, result={"seat": 1}).json() == {
@@ -155,8 +160,8 @@ def test_a_task_goes_through_both(both: Pair) -> None:
         assert "both" in client.get("/ui/sagas/both").text
 
 
-def test_what_has_begun_at_the_other(both: Pair) -> None:
-    """Each tells for what a step waits, whichever of them has the saga."""
+def test_started_attempts_at_the_other_service(both: Pair) -> None:
+    """Each reports what a step waits for, whichever of them has the saga."""
     start(both.one, "trip", "begun")
     for client in (both.one, both.two):
         deadline = time.monotonic() + LONG
@@ -168,20 +173,20 @@ def test_what_has_begun_at_the_other(both: Pair) -> None:
     assert both.one.get("/v1/sagas/begun/wait?seconds=60").json()["aborted"] is True
 
 
-def test_a_long_take_hears_of_the_other_s_task(both: Pair) -> None:
-    """Whoever waits at one gets what comes at the other; one who has gone gets none."""
+def test_a_waiting_claim_gets_a_task_of_the_other_service(both: Pair) -> None:
+    """A worker that waits at one gets what comes at the other; one that has gone gets none."""
     with pytest.raises(httpx.ReadTimeout), both.services[1].client() as gone:
         gone.post("/v1/tasks/claim", json={"steps": ["licence/server"], "wait": 30}, timeout=0.5)
-    found: list[Any] = []
+    claimed: list[Any] = []
     taker = threading.Thread(
-        target=lambda: found.extend(take(both.two, "licence/server", wait=30, most=5))
+        target=lambda: claimed.extend(take(both.two, "licence/server", wait=30, most=5))
     )
     with both.services[0].client() as client:
         taker.start()
         time.sleep(0.5)
         start(client, "licence", "heard")
         taker.join(LONG)
-        assert [task["key"] for task in found] == ["heard"]
+        assert [task["key"] for task in claimed] == ["heard"]
         (queue,) = [
             queue
             for queue in client.get("/v1/queues").json()["queues"]
@@ -191,13 +196,15 @@ def test_a_long_take_hears_of_the_other_s_task(both: Pair) -> None:
             queue["ready"],
             queue["claimed"],
         ) == (0, 1)
-        assert "local/w" in client.get("/ui/workers").text  # who asked at the other
-    report(both.two, found[0])
+        assert "local/w" in client.get("/ui/workers").text  # the worker that claimed at the other
+    report(both.two, claimed[0])
     all_done(both.two, "licence/licence")
 
 
-def test_what_has_waited_longest_comes_first(both: Pair) -> None:
-    """Whichever service has it; and many who wait at one get what comes at the other, all of them."""
+def test_the_longest_waiting_task_comes_first(both: Pair) -> None:
+    """Whichever service has it; and many workers that wait at one get what comes at the other, all
+    of them.
+    """
     start(both.one, "licence", "first")
     deadline = time.monotonic() + LONG
     while not any(
@@ -211,12 +218,12 @@ def test_what_has_waited_longest_comes_first(both: Pair) -> None:
     assert (first["key"], second["key"]) == ("first", "second")
     for task in (first, second):
         report(both.one, task, "fail", error="no", final=True)
-    found: list[str] = []
+    order: list[str] = []
 
     def work() -> None:
         with both.services[1].client() as client:
             (task,) = take(client, "licence/server")
-            found.append(task["key"])
+            order.append(task["key"])
             report(client, task, "fail", error="no", final=True)
 
     keys = [f"many-{number}" for number in range(8)]
@@ -227,11 +234,13 @@ def test_what_has_waited_longest_comes_first(both: Pair) -> None:
         start(both.one, "licence", key)
     for taker in takers:
         taker.join(LONG)
-    assert sorted(found) == keys
+    assert sorted(order) == keys
 
 
 def test_people_say_it_anywhere(both: Pair) -> None:
-    """An approval, an abort and a stuck saga that is resolved, each at the service that has not the saga."""
+    """An approval, an abort and a stuck saga that is resolved, each at the service that does not
+    have the saga.
+    """
     start(both.one, "order", "approved")
     deadline = time.monotonic() + LONG
     while not both.two.get("/v1/sagas/approved").json()["waits"]:
@@ -261,7 +270,7 @@ def test_people_say_it_anywhere(both: Pair) -> None:
 
 
 def test_events_of_all(both: Pair) -> None:
-    """A stream at one has what happens at the other."""
+    """A stream at one has the events of the other."""
     with both.services[1].client() as other, other.stream(
         "GET", "/v1/events?key=streamed"
     ) as stream:
@@ -283,7 +292,9 @@ def test_events_of_all(both: Pair) -> None:
 
 
 def test_events_that_a_service_did_not_hear() -> None:
-    """A stream is told that some are lost, and goes on; also one that was away meanwhile, whatever came behind."""
+    """A stream reports that some are lost, and continues; so does one that was disconnected,
+    whatever came later.
+    """
 
     async def main() -> None:
         hub, event = Hub(), Event("saga_ended", 0.0)
@@ -297,8 +308,8 @@ def test_events_that_a_service_did_not_hear() -> None:
         assert hub.behind(away) == ([], True)
         hub.publish(event)
         assert hub.behind(away) == ([(3, event)], True)
-        told = [await anext(there) for _ in range(2)]
-        assert [text.split("\n")[:2] for text in told] == [
+        texts = [await anext(there) for _ in range(2)]
+        assert [text.split("\n")[:2] for text in texts] == [
             [f"id: {hub.boot}-2", "event: missed"],
             [f"id: {hub.boot}-3", "event: saga_ended"],
         ]
@@ -307,8 +318,10 @@ def test_events_that_a_service_did_not_hear() -> None:
     asyncio.run(main())
 
 
-def test_whatever_is_asked(both: Pair) -> None:
-    """As over a file: nothing comes to a fault of the service that PostgreSQL does not take, or of the one that has the saga."""
+def test_any_request(both: Pair) -> None:
+    """As over a file: no request leads to an internal error, of PostgreSQL or of the service that
+    has the saga.
+    """
     start(both.one, "trip", "there")
     start(both.one, "order", "ordered")
     service = both.services[1]
@@ -321,7 +334,9 @@ def test_whatever_is_asked(both: Pair) -> None:
 
 
 def test_one_is_killed(tmp_path: pathlib.Path, url: str) -> None:
-    """Its sagas are the other's after its lease; its tasks are claimed and reported there at once."""
+    """Its sagas are the other's after its lease; its tasks are claimed and reported there
+    at once.
+    """
     with pair(tmp_path, url) as two:
         start(two.one, "trip", "k")
         (flight,) = take(two.two, "trip/flight")
@@ -356,11 +371,13 @@ def test_one_is_killed(tmp_path: pathlib.Path, url: str) -> None:
         two.services[0].start()
         assert two.services[0].stop() == two.services[1].stop() == 0
     for service in two.services:
-        assert "Traceback" not in service.told() and '"trace"' not in service.told()
+        assert "Traceback" not in service.log_text() and '"trace"' not in service.log_text()
 
 
 def test_the_database_goes_away(tmp_path: pathlib.Path, postgresql: Server, url: str) -> None:
-    """It says so, and refuses what it cannot keep; once it is there again, all goes on, and a task's report is taken."""
+    """It reports that, and refuses what it cannot store; once the database is back, all continues,
+    and a task's report is accepted.
+    """
 
     def until(status: int, ask: Callable[[], httpx.Response]) -> httpx.Response:
         deadline = time.monotonic() + 2 * LONG
@@ -390,21 +407,23 @@ def test_the_database_goes_away(tmp_path: pathlib.Path, postgresql: Server, url:
         until(200, lambda: client.get("/v1/sagas/k"))
         all_done(client, "trip/car", "trip/tour")
         assert client.get("/v1/sagas/k/wait?seconds=60").json()["phase"] == "completed"
-    assert '"trace"' not in service.told(), service.told()[-3000:]
+    assert '"trace"' not in service.log_text(), service.log_text()[-3000:]
 
 
 def test_a_backup_of_the_database(tmp_path: pathlib.Path, postgresql: Server, url: str) -> None:
-    """`pg_dump` beside a running service, and the copy served: what was open goes on, and its task has the same token."""
-    words = [str(folder_of_programs() / name) for name in ("pg_dump", "pg_restore")]
+    """`pg_dump` runs while a service does, and the copy is served: open sagas continue, and the
+    task has the same token.
+    """
+    programs = [str(folder_of_programs() / name) for name in ("pg_dump", "pg_restore")]
     with served(
         tmp_path, DEFINITIONS, "--node", "one", "--lease", str(LEASE), store=url
     ) as service, service.client() as client:
         start(client, "trip", "k")
         (flight,) = take(client, "trip/flight")
-        subprocess.run([words[0], "-Fc", "-f", str(tmp_path / "dump"), url], check=True)
+        subprocess.run([programs[0], "-Fc", "-f", str(tmp_path / "dump"), url], check=True)
         report(client, flight)
     copy = postgresql.create()
-    subprocess.run([words[1], "-d", copy, str(tmp_path / "dump")], check=True)
+    subprocess.run([programs[1], "-d", copy, str(tmp_path / "dump")], check=True)
     (tmp_path / "copy").mkdir()
     with served(
         tmp_path / "copy", DEFINITIONS, "--node", "one", store=copy

@@ -1,5 +1,8 @@
-"""The OpenAPI document is true, and enough: for clients in other languages, and for a generated one
-that is type-checked. (tests/contract.py compares each answer of all tests with it.)"""
+"""The OpenAPI document is true, and complete.
+
+It serves clients in other languages, and a generated one that is type-checked. (tests/contract.py
+compares each response of all tests with it.)
+"""
 
 from __future__ import annotations
 
@@ -59,25 +62,26 @@ def client(service: Served, operator: str) -> Iterator[httpx.Client]:
 
 
 def test_the_file_is_the_program_s() -> None:
-    """The file of the repository is what the operations come to."""
-    told = f"print it anew: python3 -m sagas.server.openapi > {contract.PATH}"
-    assert contract.PATH.read_text() == openapi.text(), told
+    """The file of the repository is generated from the operations."""
+    remedy = f"print it anew: python3 -m sagas.server.openapi > {contract.PATH}"
+    assert contract.PATH.read_text() == openapi.text(), remedy
 
 
-def references(told: Any) -> Iterator[str]:
-    if isinstance(told, dict):
-        for name, value in told.items():
+def references(value_or_object: Any) -> Iterator[str]:
+    if isinstance(value_or_object, dict):
+        for name, value in value_or_object.items():
             if name == "$ref":
                 yield value
             yield from references(value)
-    elif isinstance(told, list):
-        for value in told:
+    elif isinstance(value_or_object, list):
+        for value in value_or_object:
             yield from references(value)
 
 
-def test_the_document_is_sound() -> None:
-    """By the rules of OpenAPI 3.1 that matter to generators: ids are single, parameters of paths
-    are declared, references lead somewhere, schemas are schemas, examples fit."""
+def test_the_document_is_valid() -> None:
+    """By the rules of OpenAPI 3.1 that matter to generators: ids are unique, parameters of paths
+    are declared, references lead to objects, schemas are valid, examples fit.
+    """
     document = contract.DOCUMENT
     assert document["openapi"] == "3.1.0" and {"title", "version"} <= set(document["info"])
     for reference in set(references(document)):
@@ -88,19 +92,21 @@ def test_the_document_is_sound() -> None:
             contract.validator(json.dumps(schema)).validate(example)
     ids, tags = [], {one["name"] for one in document["tags"]}
     for path, methods in document["paths"].items():
-        for method, told in methods.items():
-            ids.append(told["operationId"])
-            assert method in ("get", "post", "delete") and set(told["tags"]) <= tags
-            assert told["summary"] and told["responses"], path
-            declared = {one["name"] for one in told.get("parameters", ()) if one["in"] == "path"}
+        for method, operation in methods.items():
+            ids.append(operation["operationId"])
+            assert method in ("get", "post", "delete") and set(operation["tags"]) <= tags
+            assert operation["summary"] and operation["responses"], path
+            declared = {
+                one["name"] for one in operation.get("parameters", ()) if one["in"] == "path"
+            }
             assert declared == set(re.findall(r"{(\w+)}", path)), path
-            for one in told.get("parameters", ()):
+            for one in operation.get("parameters", ()):
                 jsonschema.Draft202012Validator.check_schema(one["schema"])
-            needs_token = told["security"] == [{"token": []}]
-            assert needs_token is bool(told.get("x-roles")), path
+            needs_token = operation["security"] == [{"token": []}]
+            assert needs_token is bool(operation.get("x-roles")), path
             for part in [
-                told.get("requestBody", {}),
-                *map(contract.resolved, told["responses"].values()),
+                operation.get("requestBody", {}),
+                *map(contract.resolved, operation["responses"].values()),
             ]:
                 for content in part.get("content", {}).values():
                     for example in content.get("examples", {}).values():
@@ -112,12 +118,16 @@ def test_each_problem_is_described() -> None:
     """The page has each problem with its status, and no other."""
     page = (REFERENCE / "http-errors.md").read_text()
     rows = re.findall(r"^\| (\d{3}) \| ((?:`\w+`(?:, )?)+) \|", page, re.M)
-    found = {name: int(status) for status, names in rows for name in re.findall(r"`(\w+)`", names)}
-    assert found == {name: kind.status for name, kind in problems.PROBLEMS.items()}
+    statuses = {
+        name: int(status) for status, names in rows for name in re.findall(r"`(\w+)`", names)
+    }
+    assert statuses == {name: kind.status for name, kind in problems.PROBLEMS.items()}
 
 
 def test_heads_and_methods(client: httpx.Client) -> None:
-    """HEAD answers as GET, without a body; another method is told which there are."""
+    """HEAD responds as GET, without a body; for another method the response lists those
+    that exist.
+    """
     for path in (
         "/v1/sagas",
         "/health/live",
@@ -137,22 +147,22 @@ def test_heads_and_methods(client: httpx.Client) -> None:
         assert (answer.status_code, answer.headers["allow"]) == (405, allowed)
 
 
-def test_a_saga_has_a_place_and_a_tag(client: httpx.Client) -> None:
-    """Where it is, from its start on; the tag changes with it alone."""
+def test_a_saga_has_a_url_and_a_tag(client: httpx.Client) -> None:
+    """It has its URL from its start on; the tag changes only with the saga."""
     answer = start(client, "order", "a/b ü")
     assert answer.headers["location"] == "/v1/sagas/a%2Fb%20%C3%BC"
     got = client.get(answer.headers["location"])
     tag = got.headers["etag"]
     assert got.headers["cache-control"] == "private, no-cache"
-    for told, status in ((tag, 304), (f'W/{tag}, "x"', 304), ("*", 304), ('"x"', 200)):
-        again = client.get(answer.headers["location"], headers={"If-None-Match": told})
+    for header, status in ((tag, 304), (f'W/{tag}, "x"', 304), ("*", 304), ('"x"', 200)):
+        again = client.get(answer.headers["location"], headers={"If-None-Match": header})
         assert again.status_code == status and again.headers["etag"] == tag
     client.post(f"{answer.headers['location']}/abort", json={})
     assert client.get(answer.headers["location"], headers={"If-None-Match": tag}).status_code == 200
 
 
 def test_bodies_and_parameters(client: httpx.Client) -> None:
-    """What is misspelt, or of another type, is named by its place."""
+    """A misspelt field, or one of another type, is named by its location."""
     for path, body, field in (
         ("/v1/sagas", {"definition": "trip", "key": 5}, "key"),
         ("/v1/sagas", {"definition": "trip"}, "key"),
@@ -179,28 +189,28 @@ def test_bodies_and_parameters(client: httpx.Client) -> None:
         assert (answer.status_code, answer.json()["field"]) == (422, query.partition("=")[0])
     answer = client.post("/v1/sagas", content=b"{}", headers={"content-type": "text/plain"})
     assert (answer.status_code, error_of(answer)) == (415, "UnsupportedMediaType")
-    assert client.post("/v1/sagas/nobody/abort").status_code == 404  # the body may be left out
+    assert client.post("/v1/sagas/nobody/abort").status_code == 404  # the body may be omitted
 
 
 def test_definitions(client: httpx.Client) -> None:
-    """Their steps with costs, and who does them."""
-    found = {one["name"]: one for one in client.get("/v1/definitions").json()["definitions"]}
-    assert [*found] == ["few", "licence", "order", "trip"]
-    car = found["trip"]["steps"][1]
+    """They have their steps with costs, and who does them."""
+    definitions = {one["name"]: one for one in client.get("/v1/definitions").json()["definitions"]}
+    assert [*definitions] == ["few", "licence", "order", "trip"]
+    car = definitions["trip"]["steps"][1]
     assert (car["name"], car["needs"], car["undo"], car["keep"]) == ("car", ["flight"], 5, 30)
     assert (
-        found["trip"]["steps"][0]["undo"] is None
-        and found["order"]["steps"][0]["kind"] == "approval"
+        definitions["trip"]["steps"][0]["undo"] is None
+        and definitions["order"]["steps"][0]["kind"] == "approval"
     )
 
 
 def test_what_if(client: httpx.Client) -> None:
-    """A plan that `sagas check` accepts; nothing of the saga has changed."""
+    """It returns a plan that `sagas check` accepts; the saga has not changed."""
     start(client, "trip", "suppose")
     all_done(client, "trip/flight", "trip/car")
     before = client.get("/v1/sagas/suppose/log").json()
-    told = client.post("/v1/sagas/suppose/what-if", json={"abort": True}).json()
-    assert told["cost"] == 15 and told["assumed"] == {"tour": "waiting"}
+    plan = client.post("/v1/sagas/suppose/what-if", json={"abort": True}).json()
+    assert plan["cost"] == 15 and plan["assumed"] == {"tour": "waiting"}
     failed = client.post("/v1/sagas/suppose/what-if", json={"fail": "tour"}).json()
     assert (failed["cost"], failed["assumed"]) == (15, {"tour": "failed"})
     states = {one["step"]: one["decision"] for one in failed["plan"]["steps"]}
@@ -226,7 +236,7 @@ def test_what_if(client: httpx.Client) -> None:
 
 
 def generated() -> str:
-    """A typed client in Python, made of the document alone."""
+    """Return a typed client in Python, made of the document only."""
     document, lines = contract.DOCUMENT, ["from typing import Any, Literal, NotRequired, TypedDict"]
     lines.append("def ask(method: str, path: str, body: Any) -> Any: ...")
 
@@ -251,21 +261,21 @@ def generated() -> str:
     for name, schema in document["components"]["schemas"].items():
         fields = []
         for field, of in schema["properties"].items():
-            told = kind(of)
+            type_text = kind(of)
             is_there = field in schema.get("required", ())
-            fields.append(f"{field!r}: {told if is_there else f'NotRequired[{told}]'}")
+            fields.append(f"{field!r}: {type_text if is_there else f'NotRequired[{type_text}]'}")
         lines.append(f"{name} = TypedDict({name!r}, {{{', '.join(fields)}}})")
     for path, methods in document["paths"].items():
         for method, operation in methods.items():
             content = next(iter(operation["responses"].values())).get("content", {})
             answer = kind(content.get("application/json", {}).get("schema", {}))
-            words = [f"{one}: str" for one in re.findall(r"{(\w+)}", path)]
+            parameters = [f"{one}: str" for one in re.findall(r"{(\w+)}", path)]
             body = "None"
             if "requestBody" in operation:
                 sent = operation["requestBody"]["content"]["application/json"]
-                words.append(f"body: {kind(sent['schema'])}")
+                parameters.append(f"body: {kind(sent['schema'])}")
                 body = "body"
-            lines.append(f"def {operation['operationId']}({', '.join(words)}) -> {answer}:")
+            lines.append(f"def {operation['operationId']}({', '.join(parameters)}) -> {answer}:")
             lines.append(
                 f"    found: {answer} = ask({method!r}, f{path!r}, {body})\n    return found"
             )
@@ -292,7 +302,7 @@ def test_a_generated_client_is_typed(tmp_path: pathlib.Path) -> None:
     ):
         file = tmp_path / f"{name}.py"
         file.write_text(generated() + USE + more)
-        words = [
+        command = [
             sys.executable,
             "-m",
             "mypy",
@@ -301,7 +311,7 @@ def test_a_generated_client_is_typed(tmp_path: pathlib.Path) -> None:
             types_in(tmp_path / "types"),
             str(file),
         ]
-        done = subprocess.run(words, capture_output=True, text=True, check=False)
+        done = subprocess.run(command, capture_output=True, text=True, check=False)
         assert done.returncode == status, done.stdout[-2000:]
 
 
@@ -311,7 +321,7 @@ def test_other_languages(
     """A worker in Go whose task outlives its lease, a caller in Node, and one in Java."""
     go = shutil.which("go")
     assert go is not None
-    told = environment() | {
+    variables = environment() | {
         "GOCACHE": str(tmp_path / "cache"),
         "GOFLAGS": "-mod=mod",
         "GO111MODULE": "off",
@@ -320,7 +330,7 @@ def test_other_languages(
     program = tmp_path / "worker"
     subprocess.run(
         [go, "build", "-o", str(program), str(LANGUAGES / "worker.go")],
-        env=told,
+        env=variables,
         check=True,
         timeout=240,
     )
@@ -328,17 +338,17 @@ def test_other_languages(
         [str(program), service.url, operator], stdout=subprocess.PIPE, text=True
     )
     try:
-        found: list[str] = []
-        words = ["node", str(LANGUAGES / "caller.mjs"), service.url, operator, "node/1"]
+        outputs: list[str] = []
+        command = ["node", str(LANGUAGES / "caller.mjs"), service.url, operator, "node/1"]
         calling = threading.Thread(
-            target=lambda: found.append(
-                subprocess.run(words, capture_output=True, text=True, timeout=120).stdout
+            target=lambda: outputs.append(
+                subprocess.run(command, capture_output=True, text=True, timeout=120).stdout
             )
         )
         calling.start()
         all_done(client, "trip/flight", "trip/tour")
         calling.join(120)
-        got = json.loads(found[0])
+        got = json.loads(outputs[0])
         assert got["statuses"] == [201, 200, 409, 409] and got["phase"] == "completed"
         assert got["car"] == {"by": "go", "after": {"of": "flight"}}
         assert [one.rpartition(":")[2] for one in got["types"]] == ["KeyConflict", "SagaOver"]
@@ -346,6 +356,6 @@ def test_other_languages(
     finally:
         working.kill()
         working.wait(LONG)
-    words = ["java", str(LANGUAGES / "Caller.java"), service.url, operator, "java-1"]
-    done = subprocess.run(words, capture_output=True, text=True, timeout=120, check=False)
+    command = ["java", str(LANGUAGES / "Caller.java"), service.url, operator, "java-1"]
+    done = subprocess.run(command, capture_output=True, text=True, timeout=120, check=False)
     assert done.stdout == "201 /v1/sagas/java-1\n200\n200\nrecovered\n", done

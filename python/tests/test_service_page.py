@@ -1,4 +1,7 @@
-"""The page in a real Chromium: what a person sees, clicks and types; screenshots stay in the test's folder."""
+"""The page in a real Chromium: what a person sees, clicks and types.
+
+Screenshots stay in the test's folder.
+"""
 
 from __future__ import annotations
 
@@ -24,22 +27,39 @@ from serving import DEFINITIONS, LONG, Served, all_done, report, served, start, 
 MANY = 100_000
 CONTRAST = """
 const parse = (text) => text.match(/[\\d.]+/g).map(Number);
-const light = ([r, g, b]) => { const f = (v) => (v /= 255) <= .04045 ? v / 12.92 : ((v + .055) / 1.055) ** 2.4; return .2126 * f(r) + .7152 * f(g) + .0722 * f(b); };
-const ground = (one) => { for (; one; one = one.parentElement) { const c = parse(getComputedStyle(one).backgroundColor); if (c.length < 4 || c[3] > .9) return c; } return [255, 255, 255]; };
-const found = [];
-for (const one of document.querySelectorAll("body *")) {
-  if (one.closest("svg, .skip, .sr") || ![...one.childNodes].some((n) => n.nodeType === 3 && n.textContent.trim())) continue;
-  const a = light(parse(getComputedStyle(one).color)), b = light(ground(one));
+const light = ([r, g, b]) => {
+  const f = (v) => (v /= 255) <= .04045 ? v / 12.92 : ((v + .055) / 1.055) ** 2.4;
+  return .2126 * f(r) + .7152 * f(g) + .0722 * f(b);
+};
+const ground = (element) => {
+  for (; element; element = element.parentElement) {
+    const c = parse(getComputedStyle(element).backgroundColor);
+    if (c.length < 4 || c[3] > .9) return c;
+  }
+  return [255, 255, 255];
+};
+const hasText = (node) => node.nodeType === 3 && node.textContent.trim();
+const faults = [];
+for (const element of document.querySelectorAll("body *")) {
+  if (element.closest("svg, .skip, .sr") || ![...element.childNodes].some(hasText)) continue;
+  const a = light(parse(getComputedStyle(element).color)), b = light(ground(element));
   const ratio = (Math.max(a, b) + .05) / (Math.min(a, b) + .05);
-  if (ratio < 4.5) found.push(`${one.tagName}.${one.className} "${one.textContent.trim().slice(0, 30)}" ${ratio.toFixed(2)}`);
+  const text = element.textContent.trim().slice(0, 30);
+  if (ratio < 4.5) {
+    faults.push(`${element.tagName}.${element.className} "${text}" ${ratio.toFixed(2)}`);
+  }
 }
-return found;
+return faults;
 """
-FOCUSABLE = "return [...document.querySelectorAll('a[href], button, input:not([type=hidden]), select, textarea, [tabindex=\"0\"]')].filter((e) => e.getClientRects().length && e.checkVisibility()).length"
+FOCUSABLE = (
+    "return [...document.querySelectorAll('a[href], button, input:not([type=hidden]), select,"
+    ' textarea, [tabindex="0"]\')].filter((e) => e.getClientRects().length &&'
+    " e.checkVisibility()).length"
+)
 
 
 class Browser:
-    """A Chromium that looks at a service. `shots` is where its pictures go."""
+    """A Chromium that looks at a service. `shots` is the folder of its pictures."""
 
     def __init__(self, service: Served, shots: pathlib.Path) -> None:
         options = Options()
@@ -60,8 +80,8 @@ class Browser:
         self.service, self.shots = service, shots
 
     def size(self, width: int, dark: bool = False) -> None:
-        told = {"width": width, "height": 900, "deviceScaleFactor": 1, "mobile": width < 500}
-        self.driver.execute_cdp_cmd("Emulation.setDeviceMetricsOverride", told)
+        metrics = {"width": width, "height": 900, "deviceScaleFactor": 1, "mobile": width < 500}
+        self.driver.execute_cdp_cmd("Emulation.setDeviceMetricsOverride", metrics)
         feature = {"name": "prefers-color-scheme", "value": "dark" if dark else "light"}
         self.driver.execute_cdp_cmd("Emulation.setEmulatedMedia", {"features": [feature]})
 
@@ -69,7 +89,7 @@ class Browser:
         self.driver.get(self.service.url + path)
 
     def click(self, css: str, text: str = "") -> None:
-        """Clicks what is like that, once it is there."""
+        """Click the matching element, once it exists."""
         self.wait(lambda: self._click(css, text))
 
     def _click(self, css: str, text: str) -> bool:
@@ -86,12 +106,12 @@ class Browser:
         one.clear()
         one.send_keys(text)
 
-    def wait(self, found: Any) -> None:
-        """Until it is so; the page may be renewed meanwhile."""
+    def wait(self, condition: Any) -> None:
+        """Wait for a condition; the page may be renewed in the meantime."""
 
         def ask(_: Any) -> bool:
             try:
-                return bool(found())
+                return bool(condition())
             except Exception as error:
                 if "stale" in str(error).lower():
                     return False
@@ -110,7 +130,7 @@ class Browser:
         self.driver.save_screenshot(str(self.shots / f"{name}.png"))
 
     def is_quiet(self) -> None:
-        """No error in the console."""
+        """Check that there is no error in the console."""
         assert [
             entry
             for entry in self.driver.get_log("browser")
@@ -142,7 +162,7 @@ def browser(service: Served, shots: pathlib.Path) -> Iterator[Browser]:
 
 
 def seed(client: httpx.Client) -> None:
-    """One of each kind: failed, stuck, unknown, to approve, at work."""
+    """Make one of each kind: failed, stuck, unknown, to approve, running."""
     start(client, "trip", "failed-1", {"to": "Rome"})
     all_done(client, "trip/flight", "trip/car")
     for _ in range(2):
@@ -172,11 +192,12 @@ def seed(client: httpx.Client) -> None:
     take(client, "trip/flight", lease=3000)
 
 
-def test_a_failed_saga_says_what_stands(browser: Browser) -> None:
-    """Its picture has each step, what was kept and why, and the price of the plan."""
+def test_a_failed_saga_shows_kept_steps(browser: Browser) -> None:
+    """Its picture has each step, the steps that were kept and why, and the cost of the plan."""
     browser.go("/ui/sagas/failed-1")
     titles = browser.driver.execute_script(
-        "return [...document.querySelectorAll('svg.picture g.step title')].map((t) => t.textContent)"
+        "return [...document.querySelectorAll('svg.picture g.step title')].map((t) =>"
+        " t.textContent)"
     )
     assert titles == [
         "flight: done, plan: keep",
@@ -186,7 +207,8 @@ def test_a_failed_saga_says_what_stands(browser: Browser) -> None:
     text = browser.text
     assert "plan of cost 15" in text and "the tour is full" in text and "Timeline" in text
     bars = browser.driver.execute_script(
-        "return [...document.querySelectorAll('svg.timeline g.run title')].map((t) => t.textContent)"
+        "return [...document.querySelectorAll('svg.timeline g.run title')].map((t) =>"
+        " t.textContent)"
     )
     assert len(bars) == 5 and bars[2].startswith(
         "tour, action, attempt 1: failed, will be retried after"
@@ -197,8 +219,10 @@ def test_a_failed_saga_says_what_stands(browser: Browser) -> None:
     browser.is_quiet()
 
 
-def test_a_stuck_one_is_found_in_two_clicks_and_resolved(browser: Browser) -> None:
-    """From the first page: look, mark as resolved; then it is asked again, with a note that is written down."""
+def test_a_stuck_saga_is_resolved_in_two_clicks(browser: Browser) -> None:
+    """From the first page: look, mark as resolved; then a confirmation, with a note that
+    is stored.
+    """
     browser.go("/ui")
     browser.shot("inbox")
     browser.click("summary", "stuck-1")
@@ -223,13 +247,13 @@ def test_a_stuck_one_is_found_in_two_clicks_and_resolved(browser: Browser) -> No
 
 
 def test_an_approval(browser: Browser) -> None:
-    """It is found on the first page, said with a result and a note, and the saga goes on."""
+    """It is listed on the first page, decided with a result and a note, and the saga continues."""
     browser.go("/ui")
     browser.click(".tabs a", "Approvals")
     browser.click("summary", "order-1")
     browser.click("a.button", "Look at order-1")
     browser.has("review waits to be approved")
-    assert "Start send" in browser.text  # what the answer would do
+    assert "Start send" in browser.text  # the effect of the answer
     browser.click("a.button", "Approve…")
     browser.has("Approve step review?")
     browser.type("textarea[name=result]", "yes")
@@ -244,19 +268,17 @@ def test_an_approval(browser: Browser) -> None:
     browser.shot("approved")
     with browser.service.client() as client:
         all_done(client, "order/send")
-    browser.wait(
-        lambda: browser.driver.find_elements(By.CSS_SELECTOR, ".head .badge.completed")
-    )  # it came by itself
+    # it came by itself
+    browser.wait(lambda: browser.driver.find_elements(By.CSS_SELECTOR, ".head .badge.completed"))
     browser.is_quiet()
 
 
 def test_an_unknown_outcome_and_an_abort(browser: Browser) -> None:
-    """A person says that it had no effect, and why; another saga is aborted."""
+    """An operator reports that it had no effect, and why; another saga is aborted."""
     browser.go("/ui/sagas/hazy-1")
     browser.has("The outcome of tour is unknown")
-    assert (
-        "-tour-run" in browser.text.split("with the same idempotency key,")[1].split(".")[0]
-    )  # to look for it in the other system
+    # to look for it in the other system
+    assert "-tour-run" in browser.text.split("with the same idempotency key,")[1].split(".")[0]
     assert (
         browser.text.count("Undo car, keep flight: costs 15") == 1
         and "The saga is completed" in browser.text
@@ -287,8 +309,8 @@ def test_an_unknown_outcome_and_an_abort(browser: Browser) -> None:
     browser.is_quiet()
 
 
-def test_what_no_worker_takes(browser: Browser) -> None:
-    """A step that waits for a worker says so, and who asks for a step that is not there is shown."""
+def test_steps_without_a_worker(browser: Browser) -> None:
+    """A step that waits for a worker says so, and workers that claim an unknown step are shown."""
     with browser.service.client() as client:
         start(client, "trip", "idle-1")
         take(client, "trip/train", wait=0)
@@ -299,7 +321,7 @@ def test_what_no_worker_takes(browser: Browser) -> None:
         browser.has("no definition has trip/train")
         client.post("/v1/sagas/idle-1/abort", json={})
     browser.go("/ui/sagas?definition=trip")
-    browser.has("failed-1")  # the page may be renewed meanwhile: its rows are read at once
+    browser.has("failed-1")  # the page may be renewed in the meantime: its rows are read at once
     rows = browser.driver.execute_script(
         "return [...document.querySelectorAll('tbody tr')].map((row) => row.innerText)"
     )
@@ -308,7 +330,7 @@ def test_what_no_worker_takes(browser: Browser) -> None:
 
 
 def test_a_saga_is_started_by_hand(browser: Browser) -> None:
-    """By a form that says what is wrong with it, and keeps what was said in it."""
+    """The form shows its errors, and keeps the entries."""
     browser.go("/ui/sagas?definition=order")
     browser.click("a.button", "Start a saga")
     browser.has("Start a saga")
@@ -325,18 +347,20 @@ def test_a_saga_is_started_by_hand(browser: Browser) -> None:
     browser.wait(lambda: browser.driver.current_url.endswith("/ui/sagas/by-hand-1"))
     browser.has("Approve")
     with browser.service.client() as client:
-        told = client.get("/v1/sagas/by-hand-1").json()
-        assert (told["definition"], told["input"]) == ("order", {"to": "Oslo"})
+        saga = client.get("/v1/sagas/by-hand-1").json()
+        assert (saga["definition"], saga["input"]) == ("order", {"to": "Oslo"})
     browser.go("/ui/start?definition=trip")
     browser.type("[name=key]", "by-hand-1")
     browser.click("button.primary")
     browser.has("by-hand-1")
     browser.wait(lambda: browser.driver.find_elements(By.CSS_SELECTOR, ".fault"))
-    browser.driver.get_log("browser")  # it shows each answer that is no 200
+    browser.driver.get_log("browser")  # it shows each response that is not 200
 
 
 def test_the_first_page_shows_what_is_new_by_itself(browser: Browser) -> None:
-    """An approval that is asked for while somebody looks is there, and in the figures, without a click."""
+    """An approval that is requested while the page is open appears, also in the figures, without a
+    click.
+    """
     browser.go("/ui?kind=approval&order=newest&search=late")
     with browser.service.client() as client:
         for number in range(3):
@@ -346,9 +370,9 @@ def test_the_first_page_shows_what_is_new_by_itself(browser: Browser) -> None:
                     By.CSS_SELECTOR, f"[aria-label='Look at late-{number}']"
                 )
             )
-            asked = len(client.get("/v1/sagas?search=late-").json()["sagas"])
-            browser.wait(lambda: f"Approvals {asked}" in browser.text)  # those of the filter
-            if number == 0:  # what is selected stays so when the page is renewed
+            count = len(client.get("/v1/sagas?search=late-").json()["sagas"])
+            browser.wait(lambda: f"Approvals {count}" in browser.text)  # those of the filter
+            if number == 0:  # the selection stays when the page is renewed
                 browser.click("input[name=group]")
         assert browser.driver.find_element(By.CSS_SELECTOR, "input[name=group]").is_selected()
         for number in range(3):
@@ -366,30 +390,33 @@ def test_the_first_page_shows_what_is_new_by_itself(browser: Browser) -> None:
     browser.is_quiet()
 
 
-def test_the_page_says_when_it_is_not_live(tmp_path: pathlib.Path) -> None:
-    """Once its stream has ended; and no more once it has one again, with what happened
-    meanwhile."""
+def test_the_page_shows_when_it_is_not_live(tmp_path: pathlib.Path) -> None:
+    """It does once its stream has ended, and no more once it has one again, with the events in
+    between.
+    """
     with served(tmp_path) as service:
         one = Browser(service, tmp_path)
         try:
             one.go("/ui")
-            said = one.driver.find_element(By.ID, "lapsed")
-            assert not said.is_displayed()
+            notice = one.driver.find_element(By.ID, "lapsed")
+            assert not notice.is_displayed()
             service.kill()
-            one.wait(said.is_displayed)
-            assert "Not live" in said.text
+            one.wait(notice.is_displayed)
+            assert "Not live" in notice.text
             one.shot("not-live")
             service.start()
             with service.client() as client:
                 start(client, "trip", "meanwhile")
-            one.wait(lambda: not said.is_displayed())
+            one.wait(lambda: not notice.is_displayed())
             one.has("1 open")
         finally:
             one.driver.quit()
 
 
-def test_the_page_says_when_its_stream_is_refused(tmp_path: pathlib.Path) -> None:
-    """As by a service that has too many: it is asked again, and shows that it has one then."""
+def test_the_page_shows_when_its_stream_is_refused(tmp_path: pathlib.Path) -> None:
+    """A service that has too many streams refuses one: it is requested again, and the page then
+    shows that it is live.
+    """
     with served(tmp_path) as service, contextlib.ExitStack() as stack:
         client = stack.enter_context(service.client())
         client.get("/ui")
@@ -398,21 +425,21 @@ def test_the_page_says_when_its_stream_is_refused(tmp_path: pathlib.Path) -> Non
         one = Browser(service, tmp_path)
         try:
             one.go("/ui")
-            said = one.driver.find_element(By.ID, "lapsed")
-            one.wait(said.is_displayed)
+            notice = one.driver.find_element(By.ID, "lapsed")
+            one.wait(notice.is_displayed)
             there[0].close()
-            one.wait(lambda: not said.is_displayed())
+            one.wait(lambda: not notice.is_displayed())
         finally:
             one.driver.quit()
 
 
 def test_those_that_ended_by_plan(browser: Browser) -> None:
-    """They have a list of their own."""
+    """They have their own list."""
     browser.go("/ui/sagas")
     browser.click(".tabs a", "Recovered")
     browser.has("failed-1")
-    found = {row.text for row in browser.driver.find_elements(By.CSS_SELECTOR, "tbody td .badge")}
-    assert found == {"Recovered", "Undo failed"}
+    badges = {row.text for row in browser.driver.find_elements(By.CSS_SELECTOR, "tbody td .badge")}
+    assert badges == {"Recovered", "Undo failed"}
     browser.click(".tabs a", "Undo failed")
     browser.wait(
         lambda: [
@@ -474,7 +501,7 @@ def test_each_page_can_be_read(browser: Browser, width: int) -> None:
 
 
 def test_each_control_has_a_name_and_is_reached_by_keyboard(browser: Browser) -> None:
-    """By the accessibility tree, and by the tabulator alone."""
+    """By the accessibility tree, and by the Tab key only."""
     for path in PATHS:
         browser.go(path)
         nodes = browser.driver.execute_cdp_cmd("Accessibility.getFullAXTree", {})["nodes"]
@@ -489,9 +516,10 @@ def test_each_control_has_a_name_and_is_reached_by_keyboard(browser: Browser) ->
         assert nameless == [], path
         wanted = browser.driver.execute_script(FOCUSABLE)
         browser.driver.execute_script(
-            "document.activeElement.blur(); window.seen = new Set(); document.addEventListener('focusin', (e) => seen.add(e.target))"
+            "document.activeElement.blur(); window.seen = new Set();"
+            " document.addEventListener('focusin', (e) => seen.add(e.target))"
         )
-        for _ in range(4):  # a page may be renewed meanwhile
+        for _ in range(4):  # a page may be renewed in the meantime
             browser.driver.switch_to.active_element.send_keys(Keys.TAB * (wanted + 2))
             if (seen := browser.driver.execute_script("return seen.size")) >= wanted:
                 break
@@ -503,7 +531,7 @@ def test_each_control_has_a_name_and_is_reached_by_keyboard(browser: Browser) ->
 
 
 def fill(store: pathlib.Path, count: int) -> None:
-    """Makes a store of so many sagas that ended, some of them stuck, in logs that are closed."""
+    """Make a store of `count` sagas that ended, some of them stuck, in closed logs."""
     end = json.dumps(
         {"aborted": False, "answer": None, "kept": [0, 1], "states": ["committed"] * 2}
     )
@@ -528,18 +556,26 @@ def fill(store: pathlib.Path, count: int) -> None:
                 "INSERT INTO shards(shard, name, closed) VALUES(?, ?, 1)", (log, f"{log:016x}")
             )
             db.execute(
-                "INSERT INTO shard_definitions SELECT ?, place, definition FROM shard_definitions WHERE shard = 0",
+                (
+                    "INSERT INTO shard_definitions SELECT ?, place, definition FROM"
+                    " shard_definitions WHERE shard = 0"
+                ),
                 (log,),
             )
         db.executemany(
-            "INSERT INTO sagas(id, key, saga, definition_index, input, at, phase, outcome, ended, note) VALUES(?, ?, ?, ?, ?, ?, ?, ?, ?, ?)",
+            (
+                "INSERT INTO sagas(id, key, saga, definition_index, input, at, phase, outcome,"
+                " ended, note) VALUES(?, ?, ?, ?, ?, ?, ?, ?, ?, ?)"
+            ),
             rows,
         )
     db.close()
 
 
 def test_a_hundred_thousand_sagas(tmp_path: pathlib.Path, shots: pathlib.Path) -> None:
-    """The list, its pages, filters and search stay usable; a stuck one is still on the first page."""
+    """The list, its pages, filters and search stay usable; a stuck one is still on the
+    first page.
+    """
     with served(tmp_path) as service:
         with service.client() as client:
             start(client, "licence", "newest")
@@ -604,7 +640,7 @@ new MutationObserver(hear).observe(said, { childList: true });
 
 
 def kept(browser: Browser) -> Any:
-    """What a person has done on this page: typed, unfolded, focused, zoomed and scrolled to."""
+    """Return the state of this page: typed, unfolded, focused, zoomed and scrolled to."""
     return browser.driver.execute_script(KEPT)
 
 
@@ -612,9 +648,11 @@ def focus(browser: Browser, css: str) -> None:
     browser.driver.execute_script("document.querySelector(arguments[0]).focus()", css)
 
 
-def test_what_is_new_takes_nothing_away(browser: Browser) -> None:
-    """A list shows new sagas also to those who type; what they typed, unfolded and focused stays.
-    Those who hear the page are told, and not once a second."""
+def test_new_rows_keep_the_state_of_the_page(browser: Browser) -> None:
+    """A list shows new sagas also to a user who types; typed, unfolded and focused elements stay.
+
+    Screen readers are notified, and not once a second.
+    """
     browser.go("/ui/sagas")
     browser.driver.execute_script(HEARD)
     browser.click(".further summary")
@@ -642,7 +680,7 @@ def test_what_is_new_takes_nothing_away(browser: Browser) -> None:
 
 
 def test_an_entry_before_the_others_moves_no_focus(browser: Browser) -> None:
-    """In the inbox it stays on its button and on its saga, and so does what is selected."""
+    """In the inbox it stays on its button and on its saga, and so does the selection."""
     with browser.service.client() as client:
         start(client, "order", "moved-0")
         browser.go("/ui?kind=approval&order=newest&search=moved")
@@ -661,8 +699,8 @@ def test_an_entry_before_the_others_moves_no_focus(browser: Browser) -> None:
     browser.is_quiet()
 
 
-def test_a_saga_goes_on_below_who_looks(browser: Browser) -> None:
-    """Its picture stays where it was dragged and as large, and its input where it was read."""
+def test_a_page_keeps_its_view_while_its_saga_continues(browser: Browser) -> None:
+    """Its picture stays at its position and zoom, and its input at its scroll position."""
     with browser.service.client() as client:
         start(client, "trip", "looked-at", {"lines": ["word " * 9] * 99})
         try:
@@ -707,8 +745,10 @@ document.dispatchEvent(new Event("visibilitychange"));
 
 
 def test_a_page_that_is_not_answered_is_taken_later(browser: Browser) -> None:
-    """It says that it is not live, and is renewed without another event. What takes long is
-    asked for less often. Of a saga that is no longer stored it says that."""
+    """It shows that it is not live, and is renewed without another event.
+
+    A slow page is requested less often. For a saga that was deleted it shows that.
+    """
     browser.go("/ui/sagas?search=page")
     browser.driver.execute_script(ANSWERED, 503)
     with browser.service.client() as client:
@@ -727,7 +767,7 @@ def test_a_page_that_is_not_answered_is_taken_later(browser: Browser) -> None:
     browser.has("Unknown saga")
     assert not browser.driver.find_element(By.ID, "lapsed").is_displayed()
     browser.driver.get("about:blank")
-    browser.driver.get_log("browser")  # it shows each answer that is no 200
+    browser.driver.get_log("browser")  # it shows each response that is not 200
 
 
 CUT = """
@@ -738,7 +778,9 @@ return [...document.querySelectorAll(boxes)].filter((one) => one.scrollWidth > o
 
 
 def test_long_names_are_not_cut_off(browser: Browser, tmp_path: pathlib.Path) -> None:
-    """Those of a token, a label, a worker and a key: the page is no wider, and each box has it."""
+    """Those of a token, a label, a worker and a key: the page is no wider, and each box has the
+    full name.
+    """
     secret, key = token(tmp_path, "N" * 64, "operator"), "K" * 300
     paths = (f"sagas/{key}", f"sagas/{key}/abort", "sagas", "workers", "sagas/" + "Q" * 400)
     with served(tmp_path, DEFINITIONS, "--token-file", str(tmp_path / "tokens.toml")) as service:
@@ -781,7 +823,9 @@ Promise.all(paths.map(main)).then((pages) => done(pages.flatMap((from, a) => pag
 
 
 def test_a_renewed_page_is_the_new_page(browser: Browser) -> None:
-    """Whatever was there before: what stays is never what the service does not say."""
+    """Whatever was there before: elements that stay are never ones that the service does
+    not send.
+    """
     browser.go("/ui")
     shown = ("/ui?kind=unknown", "/ui?kind=approval", "/ui?order=newest", "/ui/sagas?phase=open")
     paths = [*shown, *(path for path in PATHS if "nobody" not in path)]

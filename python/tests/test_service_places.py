@@ -1,5 +1,7 @@
-"""One token or one address does not take the service from the others: waits, claims, streams and
-connections have limits, and a request ends with its connection."""
+"""One token or one address does not block the service for others.
+
+Waits, claims, streams and connections have limits, and a request ends with its connection.
+"""
 
 from __future__ import annotations
 
@@ -35,7 +37,7 @@ FOREVER = '{"steps":["trip/tour"],"wait":30}'
 
 
 def text(line: str, token: str = "", body: str = "") -> bytes:
-    """A request."""
+    """Return the text of a request."""
     lines = [line, "Host: 127.0.0.1"]
     lines += [f"Authorization: Bearer {token}"] if token else []
     lines += ["Content-Type: application/json", f"Content-Length: {len(body)}"] if body else []
@@ -44,7 +46,7 @@ def text(line: str, token: str = "", body: str = "") -> bytes:
 
 @dataclasses.dataclass
 class Reply:
-    """An answer: its status, its headers and the name of its problem."""
+    """A response: its status, its headers and the name of its problem."""
 
     status: int
     headers: dict[str, str]
@@ -55,8 +57,8 @@ async def reply_of(back: asyncio.StreamReader) -> Reply:
     head = (await back.readuntil(b"\r\n\r\n")).decode().split("\r\n")
     headers = dict(line.lower().split(": ", 1) for line in head[1:] if line)
     body = await back.readexactly(int(headers.get("content-length", 0)))
-    told = json.loads(body) if "problem" in headers.get("content-type", "") else {}
-    return Reply(int(head[0].split()[1]), headers, told.get("type", "").rpartition(":")[2])
+    problem = json.loads(body) if "problem" in headers.get("content-type", "") else {}
+    return Reply(int(head[0].split()[1]), headers, problem.get("type", "").rpartition(":")[2])
 
 
 class Callers:
@@ -67,18 +69,18 @@ class Callers:
         self.open: list[tuple[asyncio.StreamReader, asyncio.StreamWriter]] = []
 
     async def send(self, *requests: bytes) -> asyncio.StreamReader:
-        """A new connection with these requests; gives what comes back."""
+        """Open a connection and send these requests; return what comes back."""
         back, there = await asyncio.open_connection(*self.address)
         there.write(b"".join(requests))
         self.open.append((back, there))
         return back
 
     async def ask(self, *requests: bytes) -> Reply:
-        """The first answer on a connection of its own."""
+        """Return the first response on a separate connection."""
         return await reply_of(await self.send(*requests))
 
     async def held(self, count: int, request: bytes) -> None:
-        """So many that are not answered."""
+        """Open `count` connections with requests that get no response yet."""
         for _ in range(count):
             await self.send(request)
 
@@ -112,15 +114,17 @@ def started(token: str) -> bytes:
 def test_waits_and_claims_of_a_token(
     tmp_path: pathlib.Path, tokens: dict[str, str], line: str, body: str
 ) -> None:
-    """One more than it may have is 503, which says when to ask again; another token waits as
-    before; one that ends makes room. Nobody's connection is reset."""
+    """One more than it may have is 503, with the time after which to retry.
+
+    Another token waits as before; one that ends frees its slot. No connection is reset.
+    """
 
     async def ask(address: tuple[str, int]) -> None:
         async with callers(address) as evil, callers(address) as others:
             assert (await others.ask(started(tokens["other"]))).status == 201
             await evil.held(5, text(line, tokens["evil"], body))
-            found = await others.ask(text(line, tokens["evil"], body))
-            assert (found.status, found.problem, found.headers["retry-after"]) == (
+            reply = await others.ask(text(line, tokens["evil"], body))
+            assert (reply.status, reply.problem, reply.headers["retry-after"]) == (
                 503,
                 "TooManyWaits",
                 "1",
@@ -139,8 +143,9 @@ def test_waits_and_claims_of_a_token(
 def test_a_report_counts_when_no_claim_may_follow(
     tmp_path: pathlib.Path, tokens: dict[str, str]
 ) -> None:
-    """Where a token has as many claims as it may have, a report with a claim behind it is stored
-    and answered at once."""
+    """If a token has as many claims as it may have, a report with a following claim is stored and
+    answered at once.
+    """
 
     async def ask(address: tuple[str, int]) -> None:
         async with callers(address) as evil, callers(address) as others:
@@ -163,16 +168,16 @@ def test_a_report_counts_when_no_claim_may_follow(
 
 
 def test_connections_of_a_token(tmp_path: pathlib.Path, tokens: dict[str, str]) -> None:
-    """With a request at work."""
+    """They count while a request is in progress."""
 
     async def ask(address: tuple[str, int]) -> None:
         async with callers(address) as evil, callers(address) as others:
             assert (await others.ask(started(tokens["other"]))).status == 201
             await evil.held(6, text(WAIT, tokens["evil"]))
             list_sagas = text("GET /v1/sagas HTTP/1.1", tokens["evil"])
-            found = await others.ask(list_sagas)
-            assert (found.status, found.problem) == (503, "TooManyConnections")
-            assert found.headers["retry-after"] == "1"
+            reply = await others.ask(list_sagas)
+            assert (reply.status, reply.problem) == (503, "TooManyConnections")
+            assert reply.headers["retry-after"] == "1"
             assert (await others.ask(text("GET /v1/sagas HTTP/1.1", tokens["other"]))).status == 200
             await evil.end()
             while (await others.ask(list_sagas)).status != 200:
@@ -186,8 +191,9 @@ def test_connections_of_a_token(tmp_path: pathlib.Path, tokens: dict[str, str]) 
 def test_connections_of_an_address(
     tmp_path: pathlib.Path, tokens: dict[str, str], is_behind_proxy: bool
 ) -> None:
-    """Each above the limit is told so, on its own connection; health and operators are answered. Of
-    a trusted proxy the address counts that it hands on."""
+    """Each one above the limit gets the error, on its own connection; health checks and operators
+    are answered. For a trusted proxy the forwarded address counts.
+    """
     proxied = "\r\nX-Forwarded-For: 192.0.2.7" if is_behind_proxy else ""
     wait = text(WAIT + "\r\nX: y" + proxied, tokens["evil"])
     once = text("GET /v1/sagas HTTP/1.1" + proxied, tokens["evil"])
@@ -198,9 +204,9 @@ def test_connections_of_an_address(
             await others.end()
             await asyncio.sleep(0.2)
             await evil.held(6, wait)
-            found = await others.ask(once)
-            assert (found.status, found.problem) == (503, "TooManyConnections")
-            assert found.headers["retry-after"] == "1"
+            reply = await others.ask(once)
+            assert (reply.status, reply.problem) == (503, "TooManyConnections")
+            assert reply.headers["retry-after"] == "1"
             if not is_behind_proxy:
                 for request in (text(LIVE), text("GET /v1/attention HTTP/1.1", tokens["op"])):
                     assert (await others.ask(request)).status == 200
@@ -214,13 +220,15 @@ def test_connections_of_an_address(
                 await asyncio.sleep(0.05)
                 await others.end()
 
-    words: dict[str, Any] = {} if is_behind_proxy else {"trusted_proxies": ()}
+    options: dict[str, Any] = {} if is_behind_proxy else {"trusted_proxies": ()}
     places = ConcurrencySettings(connections_of_address=6)
-    inside(tmp_path, ask, tokens=tmp_path / "tokens.toml", places=places, **words)
+    inside(tmp_path, ask, tokens=tmp_path / "tokens.toml", places=places, **options)
 
 
-def test_places_for_health_and_operators(tmp_path: pathlib.Path, tokens: dict[str, str]) -> None:
-    """When all others are taken, and above: whoever comes is answered, and not reset."""
+def test_connections_for_health_and_operators(
+    tmp_path: pathlib.Path, tokens: dict[str, str]
+) -> None:
+    """When all others are taken, and above: each request is answered, and not reset."""
 
     async def ask(address: tuple[str, int]) -> None:
         async with callers(address) as evil, callers(address) as others:
@@ -231,18 +239,19 @@ def test_places_for_health_and_operators(tmp_path: pathlib.Path, tokens: dict[st
             some = [text(LIVE), op, text("GET /health/ready HTTP/1.1")]
             for _ in range(20):
                 assert [(await others.ask(one)).status for one in some] == [200] * 3
-                found = await others.ask(text("GET /v1/sagas HTTP/1.1", tokens["other"]))
-                assert (found.status, found.problem) == (503, "TooManyConnections")
-                assert found.headers["retry-after"] == "1"
+                reply = await others.ask(text("GET /v1/sagas HTTP/1.1", tokens["other"]))
+                assert (reply.status, reply.problem) == (503, "TooManyConnections")
+                assert reply.headers["retry-after"] == "1"
                 assert (await others.ask(text("GET /openapi.json HTTP/1.1"))).status == 503
 
     places = ConcurrencySettings(connections=40, waits=100, kept=10)
     inside(tmp_path, ask, tokens=tmp_path / "tokens.toml", places=places)
 
 
-def test_who_reads_nothing_gives_way(tmp_path: pathlib.Path, tokens: dict[str, str]) -> None:
-    """More clients than there may be connections, without a token, ask for much and read nothing:
-    whoever comes is answered."""
+def test_clients_that_read_nothing_give_way(tmp_path: pathlib.Path, tokens: dict[str, str]) -> None:
+    """More clients than there may be connections, without a token, request much and read nothing:
+    each new one is answered.
+    """
 
     async def ask(address: tuple[str, int]) -> None:
         async with callers(address) as evil, callers(address) as others:
@@ -251,8 +260,8 @@ def test_who_reads_nothing_gives_way(tmp_path: pathlib.Path, tokens: dict[str, s
                 back = await evil.send(*[text("GET /openapi.json HTTP/1.1")] * 60)
                 back._transport.pause_reading()  # type: ignore[attr-defined]
             for _ in range(20):
-                found = await others.ask(text("GET /v1/sagas HTTP/1.1", tokens["other"]))
-                assert found.status == 200
+                reply = await others.ask(text("GET /v1/sagas HTTP/1.1", tokens["other"]))
+                assert reply.status == 200
                 assert (await others.ask(text(LIVE))).status == 200
 
     places = ConcurrencySettings(connections=40, kept=10)
@@ -260,11 +269,12 @@ def test_who_reads_nothing_gives_way(tmp_path: pathlib.Path, tokens: dict[str, s
 
 
 @pytest.mark.parametrize("parser", ["h11", "httptools"])
-def test_nothing_hides_behind_a_wait(
+def test_data_after_a_wait_ends_it(
     tmp_path: pathlib.Path, tokens: dict[str, str], parser: str, monkeypatch: pytest.MonkeyPatch
 ) -> None:
-    """What is sent behind a wait, a claim or a stream ends it; so does the client's end, at once,
-    whatever it has sent."""
+    """Data that is sent after a wait, a claim or a stream ends it; so does the client's end, at
+    once, whatever it has sent.
+    """
     if parser == "httptools":
         pytest.importorskip("httptools")
     else:
@@ -287,8 +297,8 @@ def test_nothing_hides_behind_a_wait(
             for line, body in ((WAIT, ""), (CLAIM, FOREVER)):
                 back = await some.send(text(line, evil, body), text(LIVE))
                 async with asyncio.timeout(20):
-                    found = [await reply_of(back), await reply_of(back)]
-                assert [one.status for one in found] == [200, 200], line
+                    replies = [await reply_of(back), await reply_of(back)]
+                assert [one.status for one in replies] == [200, 200], line
             back = await some.send(text("GET /v1/events HTTP/1.1", evil))
             await back.readuntil(b"\r\n\r\n")
             some.open[-1][1].write(text(LIVE))
@@ -314,7 +324,7 @@ def test_nothing_hides_behind_a_wait(
 
 
 def test_a_stop_after_pipelined_requests(tmp_path: pathlib.Path) -> None:
-    """SIGTERM ends the service, whatever clients have left behind."""
+    """SIGTERM ends the service, whatever requests clients have left."""
     with served(tmp_path, DEFINITIONS) as service:
         name, _, port = service.address.rpartition(":")
         with service.client() as client:
@@ -333,7 +343,7 @@ def test_a_stop_after_pipelined_requests(tmp_path: pathlib.Path) -> None:
 def test_a_stop_has_a_deadline(
     tmp_path: pathlib.Path, tokens: dict[str, str], monkeypatch: pytest.MonkeyPatch
 ) -> None:
-    """A client that reads nothing of a long answer holds it up for a moment only."""
+    """A client that reads nothing of a long response delays it only for a moment."""
     monkeypatch.setattr(uvicorn_server, "FOR_REQUESTS", 0.5)
     servers: list[Any] = []
     serving = uvicorn_server.Serving
@@ -406,23 +416,23 @@ BAD = [
 
 @given(st.lists(st.sampled_from(GOOD), min_size=1, max_size=4), st.data())
 def test_requests_are_divided(requests: list[bytes], data: st.DataObject) -> None:
-    """However they come, each is taken by itself, byte for byte."""
+    """However they arrive, each is parsed by itself, byte for byte."""
     stream, framing = b"".join(requests), RequestFraming()
     cuts = data.draw(st.lists(st.integers(0, len(stream)), max_size=6))
-    edges, found = [0, *sorted(cuts), len(stream)], [b""]
+    edges, parts = [0, *sorted(cuts), len(stream)], [b""]
     for begin, end in zip(edges, edges[1:]):
         framing.feed(stream[begin:end])
         while part := framing.take():
-            found[-1] += part
+            parts[-1] += part
             if framing.is_between:
-                found.append(b"")
-    assert found == [*requests, b""] and framing.is_between and not len(framing)
+                parts.append(b"")
+    assert parts == [*requests, b""] and framing.is_between and not len(framing)
 
 
 @pytest.mark.parametrize("request_text", BAD, ids=range(len(BAD)))
 @pytest.mark.parametrize("size", [1, 7, 1 << 20])
 def test_requests_that_may_be_read_in_two_ways(request_text: bytes, size: int) -> None:
-    """Whatever arrives first."""
+    """They are refused, whichever part arrives first."""
     framing = RequestFraming()
     with pytest.raises(Malformed):
         for begin in range(0, len(request_text), size):
@@ -431,22 +441,24 @@ def test_requests_that_may_be_read_in_two_ways(request_text: bytes, size: int) -
                 ...
 
 
-def test_what_is_no_request_is_refused(tmp_path: pathlib.Path) -> None:
-    """With an answer that says so; also behind a request that was answered. Its connection ends,
-    and what the client still sends does not reset it."""
+def test_malformed_requests_are_refused(tmp_path: pathlib.Path) -> None:
+    """The response says so; also after a request that was answered.
+
+    Its connection ends, and what the client still sends does not reset it.
+    """
     with served(tmp_path, DEFINITIONS) as service:
         name, _, port = service.address.rpartition(":")
         for request_text in BAD:
             for before in (b"", text(LIVE)):
                 with socket.create_connection((name, int(port)), timeout=LONG) as one:
                     one.sendall(before + request_text + b"\r\n" * 1000)
-                    found = b""
+                    received = b""
                     while part := one.recv(65536):
-                        found += part
-                statuses = re.findall(rb"HTTP/1\.1 (\d+) ", found)
-                assert statuses == ([b"200"] if before else []) + [b"400"], (request_text, found)
-                assert b"urn:sagas:problem:MalformedRequest" in found
-    assert '"level": "error"' not in service.told()
+                        received += part
+                statuses = re.findall(rb"HTTP/1\.1 (\d+) ", received)
+                assert statuses == ([b"200"] if before else []) + [b"400"], (request_text, received)
+                assert b"urn:sagas:problem:MalformedRequest" in received
+    assert '"level": "error"' not in service.log_text()
 
 
 STUCK = """
@@ -479,13 +491,13 @@ class Quick(Served):
     """A service whose stop has little time."""
 
     def command(self) -> list[str]:
-        _, module, sagas, *words = super().command()
+        _, module, sagas, *arguments = super().command()
         assert (module, sagas) == ("-m", "sagas")
-        return [sys.executable, "-c", QUICK, *words]
+        return [sys.executable, "-c", QUICK, *arguments]
 
 
 def until_there(path: pathlib.Path) -> None:
-    """Waits for a file."""
+    """Wait for a file."""
     deadline = time.monotonic() + LONG
     while not path.exists():
         assert time.monotonic() < deadline
@@ -493,7 +505,7 @@ def until_there(path: pathlib.Path) -> None:
 
 
 def test_a_stop_that_hangs_ends_the_process(tmp_path: pathlib.Path) -> None:
-    """A function that never returns holds it up: the process ends, and says so."""
+    """A function that never returns blocks it: the process ends, and reports that."""
     (tmp_path / "stuck.py").write_text(STUCK)
     service = Quick(tmp_path, DEFINITIONS, "--app", "stuck:SAGAS")
     try:
@@ -502,6 +514,6 @@ def test_a_stop_that_hangs_ends_the_process(tmp_path: pathlib.Path) -> None:
             start(client, "stuck", "k")
         until_there(tmp_path / "called")
         assert service.stop() == command.OVERDUE
-        assert "the stop has taken too long" in service.told()
+        assert "the stop has taken too long" in service.log_text()
     finally:
         service.kill()

@@ -28,9 +28,9 @@ def service(
     tmp_path_factory: pytest.TempPathFactory, store: str | None
 ) -> Iterator[tuple[Served, dict[str, str]]]:
     folder = tmp_path_factory.mktemp("quotas")
-    tokens = {name: token(folder, name, *words) for name, words in TOKENS.items()}
-    words = ("--token-file", str(folder / "tokens.toml"), *OPTIONS)
-    served = Served(folder, DEFINITIONS, *words, store=store)
+    tokens = {name: token(folder, name, *options) for name, options in TOKENS.items()}
+    options = ("--token-file", str(folder / "tokens.toml"), *OPTIONS)
+    served = Served(folder, DEFINITIONS, *options, store=store)
     served.start()
     yield served, tokens
     served.kill()
@@ -40,8 +40,11 @@ def begun(client: httpx.Client, name: str, count: int, given: object = None) -> 
     return [start(client, "order", f"{name}-{at}", given).status_code for at in range(count)]
 
 
-def test_so_many_are_open(service: tuple[Served, dict[str, str]]) -> None:
-    """Also behind a restart. A start that is repeated is answered, and one that ends makes room."""
+def test_open_sagas_of_a_quota(service: tuple[Served, dict[str, str]]) -> None:
+    """This holds also after a restart.
+
+    A repeated start is answered, and a saga that ends frees its share.
+    """
     served, tokens = service
     with served.client(tokens["three"]) as client, served.client(tokens["operator"]) as operator:
         assert begun(client, "three", 3) == [201] * 3

@@ -28,17 +28,17 @@ TOKENS: dict[str, tuple[str, ...]] = {
 @pytest.fixture(scope="module")
 def world(tmp_path_factory: pytest.TempPathFactory, store: str | None) -> Iterator[World]:
     folder = tmp_path_factory.mktemp("schedules")
-    tokens = {name: token(folder, name, *words) for name, words in TOKENS.items()}
-    words = "--token-file", str(folder / "tokens.toml")
-    with served(folder, DEFINITIONS, *words, store=store) as service:
-        found = World(service, tokens)
-        yield found
-        for client in found.clients.values():
+    tokens = {name: token(folder, name, *options) for name, options in TOKENS.items()}
+    options = "--token-file", str(folder / "tokens.toml")
+    with served(folder, DEFINITIONS, *options, store=store) as service:
+        services = World(service, tokens)
+        yield services
+        for client in services.clients.values():
             client.close()
 
 
 def declare(service: Served, name: str, saga: str, seconds: float, *policy: Any) -> None:
-    """A schedule, as a program declares it beside the service."""
+    """Declare a schedule, as a program does while the service runs."""
     when = timing(None, seconds, "UTC", *(policy or ("last",)))
     with contextlib.closing(admin.connect(service.store, "rw")) as link:
         labels = json.dumps({"by": name})
@@ -49,25 +49,27 @@ def names(client: httpx.Client) -> list[str]:
     return [one["name"] for one in client.get("/v1/schedules").json()["schedules"]]
 
 
-def found_by(client: httpx.Client, label: str) -> list[dict[str, Any]]:
-    """Waits for sagas with a label."""
+def sagas_with(client: httpx.Client, label: str) -> list[dict[str, Any]]:
+    """Wait for sagas with a label."""
     deadline = time.monotonic() + LONG
-    while not (found := client.get("/v1/sagas", params={"label": label}).json()["sagas"]):
+    while not (listed := client.get("/v1/sagas", params={"label": label}).json()["sagas"]):
         assert time.monotonic() < deadline
         time.sleep(0.05)
-    return list(found)
+    return list(listed)
 
 
 def test_the_service_starts_and_changes_schedules(world: World) -> None:
-    """Of definitions that the token may see; of others it hears as of those that are not there."""
+    """They are of definitions that the token may see; for others the response is that of unknown
+    ones.
+    """
     operator, of_order, caller = world["operator"], world["of-order"], world["caller"]
     declare(world.service, "tick", "order", 1.0)
     declare(world.service, "trips a/b", "trip", 3600.0)
-    (one, *_) = found_by(operator, "by=tick")
+    (one, *_) = sagas_with(operator, "by=tick")
     assert one["key"].startswith("tick@20") and one["definition"] == "order"
     assert names(operator) == names(caller) == ["tick", "trips a/b"] and names(of_order) == ["tick"]
-    (told,) = of_order.get("/v1/schedules").json()["schedules"]
-    assert (told["every"], told["cron"], told["labels"]) == (1.0, None, {"by": "tick"})
+    (schedule,) = of_order.get("/v1/schedules").json()["schedules"]
+    assert (schedule["every"], schedule["cron"], schedule["labels"]) == (1.0, None, {"by": "tick"})
     path = "/v1/schedules/trips%20a%2Fb"
     for call in (
         of_order.post(f"{path}/pause"),
@@ -77,17 +79,18 @@ def test_the_service_starts_and_changes_schedules(world: World) -> None:
         assert (call.status_code, error_of(call)) == (404, "NoSuchSchedule")
     assert caller.delete("/v1/schedules/tick").status_code == 403
     assert operator.post(f"{path}/pause").json() == {"name": "trips a/b", "done": "paused"}
-    (_, told) = operator.get("/v1/schedules").json()["schedules"]
-    assert told["paused"] is True and told["next"] is None
+    (_, schedule) = operator.get("/v1/schedules").json()["schedules"]
+    assert schedule["paused"] is True and schedule["next"] is None
     assert operator.post(f"{path}/resume").json()["done"] == "resumed"
     assert operator.delete(path).json()["done"] == "removed" and names(operator) == ["tick"]
-    assert "operator has removed the schedule 'trips a/b'" in world.service.told()
+    assert "operator has removed the schedule 'trips a/b'" in world.service.log_text()
     assert operator.delete("/v1/schedules/tick").status_code == 200
 
 
 def test_the_dashboard_has_schedules_and_labels(world: World) -> None:
-    """A page with forms, which ask for the session's word, and before they remove one; and a filter
-    of the list."""
+    """It has a page with forms, which need the session's token, and ask before they remove one; and
+    a filter of the list.
+    """
     page = world.page("operator")
     declare(world.service, "<b>night", "trip", 86400.0, "all", 7, "queue")
     text = page.get("/ui/schedules").text
@@ -109,8 +112,8 @@ def test_the_dashboard_has_schedules_and_labels(world: World) -> None:
     assert other.get(f"{path}/remove").status_code == page.get(f"{path}x/remove").status_code == 404
     assert page.post(f"{path}/remove", data={"csrf": csrf[1]}).status_code == 303
     assert "There is no schedule" in page.get("/ui/schedules").text
-    told = {"definition": "order", "key": "labeled", "labels": {"customer": "7"}}
-    assert world["caller"].post("/v1/sagas", json=told).status_code == 201
+    body = {"definition": "order", "key": "labeled", "labels": {"customer": "7"}}
+    assert world["caller"].post("/v1/sagas", json=body).status_code == 201
     assert start(world["caller"], "order", "other-1").status_code == 201
     text = page.get("/ui/sagas", params={"label": "customer=7"}).text
     assert "labeled" in text and "other-1" not in text and 'value="customer=7"' in text

@@ -1,4 +1,4 @@
-"""What the service tells to whom, and who may read its files."""
+"""What the service shows to which client, and who may read its files."""
 
 from __future__ import annotations
 
@@ -53,13 +53,13 @@ ELSEWHERE = [
 def service(tmp_path_factory: pytest.TempPathFactory) -> Iterator[tuple[Served, str]]:
     folder = tmp_path_factory.mktemp("secrets")
     operator = token(folder, "op", "operator")
-    words = ("--token-file", str(folder / "tokens.toml"))
-    with served(folder, DEFINITIONS, *words) as one:
+    options = ("--token-file", str(folder / "tokens.toml"))
+    with served(folder, DEFINITIONS, *options) as one:
         yield one, operator
 
 
 def leads_to(service: Served, token: str, wanted: str) -> str:
-    """Where a login leads that was asked to lead there."""
+    """Return the target of a login that was requested with this target."""
     with service.client() as client:
         answer = client.post("/ui/login", data={"token": token, "next": wanted})
     assert answer.status_code == 303
@@ -85,7 +85,7 @@ BODIES = [
 
 @pytest.mark.parametrize("body", BODIES)
 def test_a_key_comes_once(service: tuple[Served, str], body: str) -> None:
-    """Of two, programs differ in which counts."""
+    """Of two keys, programs differ in which one counts."""
     with service[0].client(service[1]) as client:
         headers = {"content-type": "application/json"}
         answer = client.post("/v1/sagas", content=body, headers=headers)
@@ -119,13 +119,15 @@ def test_numbers_are_those_of_json(service: tuple[Served, str], name: str, value
 
 
 def test_the_document_has_each_answer(service: tuple[Served, str]) -> None:
-    """Of each operation: what it answers to a parameter that it does not have. The client compares
-    each answer with the document."""
+    """Of each operation: the response to a parameter that it does not have.
+
+    The client compares each response with the document.
+    """
     with service[0].client(service[1]) as client:
         document = client.get("/openapi.json")
         for path, methods in document.json()["paths"].items():
-            for method, told in methods.items():
-                assert "422" in told["responses"], (method, path)
+            for method, operation in methods.items():
+                assert "422" in operation["responses"], (method, path)
                 if method == "get":
                     answer = client.get(re.sub(r"\{\w+\}", "x", path), params={"unknown": "1"})
                     assert answer.status_code == 422, (path, answer.text)
@@ -134,22 +136,24 @@ def test_the_document_has_each_answer(service: tuple[Served, str]) -> None:
         assert "304" in document.json()["paths"]["/openapi.json"]["get"]["responses"]
         stuck(client, "stuck")
         text = client.get("/v1/sagas/stuck/certificate?form=text")
-        told = document.json()["paths"]["/v1/sagas/{key}/certificate"]["get"]["responses"]["200"]
+        operation = document.json()["paths"]["/v1/sagas/{key}/certificate"]["get"]["responses"][
+            "200"
+        ]
         assert text.headers["content-type"].startswith("text/plain")
-        assert set(told["content"]) == {"application/json", "text/plain"}
+        assert set(operation["content"]) == {"application/json", "text/plain"}
 
 
 def test_a_lost_database_is_not_named(postgresql: Server, tmp_path: pathlib.Path) -> None:
-    """Its role, host, port and name are in the log alone."""
+    """Its role, host, port and name are only in the log."""
     url = postgresql.create()
     name = url.rpartition("/")[2]
     names = {role: token(tmp_path, role, role) for role in ("caller", "worker", "operator")}
-    words = ("--token-file", str(tmp_path / "tokens.toml"), "--node", "secret-node")
-    with served(tmp_path, DEFINITIONS, *words, store=url) as service:
+    options = ("--token-file", str(tmp_path / "tokens.toml"), "--node", "secret-node")
+    with served(tmp_path, DEFINITIONS, *options, store=url) as service:
         with service.client(names["caller"]) as client:
             start(client, "trip", "k")
         postgresql.drop(url)
-        asked = [
+        requests = [
             ("caller", "GET", "/v1/sagas/k", None),
             ("caller", "GET", "/v1/sagas", None),
             ("caller", "POST", "/v1/sagas", {"definition": "trip", "key": "x"}),
@@ -158,7 +162,7 @@ def test_a_lost_database_is_not_named(postgresql: Server, tmp_path: pathlib.Path
             ("operator", "POST", "/v1/sagas/k/steps/flight/complete", {"result": 1}),
         ]
         statuses = set()
-        for role, method, path, body in asked:
+        for role, method, path, body in requests:
             with service.client(names[role]) as client:
                 answer = client.request(method, path, json=body)
             statuses.add(answer.status_code)
@@ -166,11 +170,11 @@ def test_a_lost_database_is_not_named(postgresql: Server, tmp_path: pathlib.Path
                 assert secret not in answer.text, (path, answer.text)
         ready = httpx.get(f"{service.url}/health/ready", trust_env=False, timeout=LONG).text
         assert 503 in statuses and name not in ready
-        assert name in service.told()
+        assert name in service.log_text()
 
 
 def modes(folder: pathlib.Path) -> dict[str, int]:
-    """The modes of all files of a folder and below."""
+    """Return the modes of all files of a folder and below."""
     return {path.name: path.stat().st_mode & 0o777 for path in folder.rglob("*") if path.is_file()}
 
 
@@ -186,22 +190,25 @@ def test_files_are_private(tmp_path: pathlib.Path) -> None:
                 await (await store.start(saga, "k")).wait()
                 return modes(tmp_path)
 
-        found = run(main())
-        assert "store.db-wal" in found
+        file_modes = run(main())
+        assert "store.db-wal" in file_modes
         FolderBlobStore(tmp_path / "blobs").put("00/ff", b"secret")
         record = RecordFile(str(tmp_path / "record"), "run")
         record.open()
         record.close()
     finally:
         os.umask(before)
-    found |= modes(tmp_path)
-    assert found.pop("store.db.lock") == 0o644  # it is empty, and says who has the store open
-    assert {*found.values()} == {0o600}, found
+    file_modes |= modes(tmp_path)
+    # it is empty, and names the program that has the store open
+    assert file_modes.pop("store.db.lock") == 0o644
+    assert {*file_modes.values()} == {0o600}, file_modes
 
 
 def test_files_of_rights(tmp_path: pathlib.Path) -> None:
-    """One that every user may write is refused; one that others may read is told of in the log.
-    `sagas token` follows no link, and leaves the mode of a file as it is."""
+    """A file that every user may write is refused; one that others may read is logged.
+
+    `sagas token` follows no link, and keeps the mode of a file.
+    """
     token(tmp_path, "a", "caller")
     path = tmp_path / "tokens.toml"
     assert path.stat().st_mode & 0o777 == 0o600 and private_files.warning(path) is None
@@ -221,8 +228,8 @@ def test_files_of_rights(tmp_path: pathlib.Path) -> None:
         path.chmod(mode)
         token(tmp_path, f"b{mode}", "caller")
         assert path.stat().st_mode & 0o777 == mode and len(auth.read(path)) > 1
-        told = private_files.warning(path)
-        assert told is says is None or (told and says and says in told)
+        message = private_files.warning(path)
+        assert message is says is None or (message and says and says in message)
     path.chmod(0o666)
     with pytest.raises(auth.TokenFault, match="every user may write it .mode 0666.: run chmod o-w"):
         auth.read(path)
@@ -238,7 +245,7 @@ def test_files_of_rights(tmp_path: pathlib.Path) -> None:
     hooks.write_text("")
     hooks.chmod(0o644)
     with served(tmp_path, DEFINITIONS, "--webhooks", str(hooks)) as service:
-        assert "hooks.toml: every user may read it" in service.told()
+        assert "hooks.toml: every user may read it" in service.log_text()
     hooks.chmod(0o602)
     (tmp_path / "definitions").mkdir(exist_ok=True)
     done = command(

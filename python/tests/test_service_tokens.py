@@ -1,5 +1,7 @@
-"""What a token is kept to: definitions, steps of workers, and a time; over a file and a
-database."""
+"""The restrictions of a token: definitions, steps of workers, and a time.
+
+Over a file and a database.
+"""
 
 from __future__ import annotations
 
@@ -64,7 +66,7 @@ class World:
         return self.clients[name]
 
     def page(self, name: str) -> httpx.Client:
-        """A browser, logged in by this token."""
+        """Return a browser, logged in by this token."""
         if f"page {name}" not in self.clients:
             client = self.clients[f"page {name}"] = self.service.client()
             answer = client.post("/ui/login", data={"token": self.tokens[name]})
@@ -83,46 +85,54 @@ class World:
 @pytest.fixture(scope="module")
 def world(tmp_path_factory: pytest.TempPathFactory, store: str | None) -> Iterator[World]:
     folder = tmp_path_factory.mktemp("tokens")
-    tokens = {name: token(folder, name, *words) for name, words in TOKENS.items()}
+    tokens = {name: token(folder, name, *roles) for name, roles in TOKENS.items()}
     with served(
         folder, DEFINITIONS, "--token-file", str(folder / "tokens.toml"), store=store
     ) as service:
-        found = World(service, tokens)
+        services = World(service, tokens)
         for definition in ("trip", "order"):
             assert (
                 start(
-                    found["caller"], definition, f"a-{definition}", {"secret": f"of {definition}"}
+                    services["caller"],
+                    definition,
+                    f"a-{definition}",
+                    {"secret": f"of {definition}"},
                 ).status_code
                 == 201
             )
-        found.waits("a-order", "approval")
-        stuck(found["operator"], "a-licence")
-        yield found
-        for client in found.clients.values():
+        services.waits("a-order", "approval")
+        stuck(services["operator"], "a-licence")
+        yield services
+        for client in services.clients.values():
             client.close()
 
 
-def told(answer: httpx.Response) -> tuple[int, str, str]:
+def status_name_and_detail(answer: httpx.Response) -> tuple[int, str, str]:
     body = answer.json()
     return answer.status_code, error_of(answer), body["detail"]
 
 
 def test_a_caller_starts_its_definitions(world: World) -> None:
-    """Any other is refused by name, whether there is one or not; and of a key that is another's
-    saga nothing is told but that it is taken."""
+    """Any other is refused by name, whether it exists or not; for a key of another definition's
+    saga the response says only that it is taken.
+    """
     client = world["of-trip"]
     assert start(client, "trip", "t-1").status_code == 201
     for name in ("order", "nothing"):
-        assert told(start(client, name, "o-1")) == (
+        assert status_name_and_detail(start(client, name, "o-1")) == (
             403,
             "Forbidden",
             f"of-trip has no right to the definition '{name}'",
         )
     assert (
-        told(client.post("/v1/sagas", json={"definition": "trip", "key": "x", "version": 7}))[2]
+        status_name_and_detail(
+            client.post("/v1/sagas", json={"definition": "trip", "key": "x", "version": 7})
+        )[2]
         == "the service has no definition 'trip' of version 7. It has: few, trip"
     )
-    status, name, text = told(start(client, "trip", "a-order", {"secret": "of order"}))
+    status, name, text = status_name_and_detail(
+        start(client, "trip", "a-order", {"secret": "of order"})
+    )
     assert (status, name, text) == (
         409,
         "KeyConflict",
@@ -139,14 +149,14 @@ def test_a_caller_starts_its_definitions(world: World) -> None:
 
 
 def test_a_caller_sees_its_definitions(world: World) -> None:
-    """In the list, whatever it asks for."""
+    """This holds in the list, whatever its filter."""
     client = world["of-trip"]
     for query in ("", "?search=a-", "?phase=open", "?phase=stuck", "?limit=1000"):
-        found = client.get(f"/v1/sagas{query}").json()["sagas"]
-        assert {one["definition"] for one in found} <= {"trip", "few"}, query
+        listed = client.get(f"/v1/sagas{query}").json()["sagas"]
+        assert {one["definition"] for one in listed} <= {"trip", "few"}, query
     assert [one["key"] for one in client.get("/v1/sagas?search=a-").json()["sagas"]] == ["a-trip"]
     assert client.get("/v1/sagas?definition=trip&search=a-").json()["sagas"][0]["key"] == "a-trip"
-    assert told(client.get("/v1/sagas?definition=order")) == (
+    assert status_name_and_detail(client.get("/v1/sagas?definition=order")) == (
         403,
         "Forbidden",
         "of-trip has no right to the definition 'order'",
@@ -170,8 +180,8 @@ BY_KEY: list[tuple[str, str, str, Any]] = [
 ]
 
 
-def test_another_definition_s_saga_is_none(world: World) -> None:
-    """By its key it is answered as a key that nobody has, word for word; and nothing is done."""
+def test_a_saga_of_another_definition_looks_unknown(world: World) -> None:
+    """For its key the response is that of an unknown key, word for word; and nothing is done."""
     before = world["operator"].get("/v1/sagas/a-order").json()
     for name, method, path, body in BY_KEY:
         answers = []
@@ -192,7 +202,7 @@ def test_another_definition_s_saga_is_none(world: World) -> None:
             assert (answer.status_code, error_of(answer)) == (404, "NoSuchSaga")
     assert world["operator"].get("/v1/sagas/a-order").json() == before
     assert world["operator"].get("/v1/sagas/a-trip").json()["aborted"] is False
-    assert told(world["of-order"].get("/metrics"))[:2] == (403, "Forbidden")
+    assert status_name_and_detail(world["of-order"].get("/metrics"))[:2] == (403, "Forbidden")
 
 
 def test_an_approver_of_a_definition(world: World) -> None:
@@ -219,7 +229,7 @@ def test_a_token_of_some_keys(world: World) -> None:
     client, other = world["team-a"], world["caller"]
     assert start(client, "order", "team-a-1").status_code == 201
     for key in ("team-b-1", "team-a", "b", "shared-2"):
-        assert told(start(client, "order", key)) == (
+        assert status_name_and_detail(start(client, "order", key)) == (
             403,
             "Forbidden",
             f"team-a has no right to the key {key!r}",
@@ -259,8 +269,8 @@ def test_a_token_of_some_keys(world: World) -> None:
         assert '"team-a-1"' in seen
 
 
-def listened(world: World, path: str, ready: threading.Barrier, found: list[str]) -> None:
-    """What a stream tells, until it has told of the abort of the saga that is its own."""
+def listened(world: World, path: str, ready: threading.Barrier, events: list[str]) -> None:
+    """Return the events of a stream, until it has that of the abort of its own saga."""
     client = world.service.client(world.tokens["of-trip"])
     with client, client.stream("GET", path) as stream:
         lines = stream.iter_lines()
@@ -268,18 +278,20 @@ def listened(world: World, path: str, ready: threading.Barrier, found: list[str]
         ready.wait(LONG)
         for line in lines:
             if line.startswith("data:"):
-                found.append(line[5:])
+                events.append(line[5:])
                 if '"saga_aborted"' in line:
                     return
 
 
 def test_a_stream_has_its_definitions(world: World) -> None:
-    """What happens to others is not in it; what is of no definition is for those who see all."""
+    """The events of other definitions are not in it; events without a definition are for tokens
+    that see all.
+    """
     paths = ["/v1/events", "/v1/events?definition=trip"]
-    found: dict[str, list[str]] = {path: [] for path in paths}
+    events: dict[str, list[str]] = {path: [] for path in paths}
     ready = threading.Barrier(len(paths) + 1)
     threads = [
-        threading.Thread(target=listened, args=(world, path, ready, found[path])) for path in paths
+        threading.Thread(target=listened, args=(world, path, ready, events[path])) for path in paths
     ]
     for thread in threads:
         thread.start()
@@ -290,32 +302,35 @@ def test_a_stream_has_its_definitions(world: World) -> None:
     for thread in threads:
         thread.join(LONG)
     for path in paths:
-        assert found[path] and all('"saga": "trip"' in text for text in found[path]), found
+        assert events[path] and all('"saga": "trip"' in text for text in events[path]), events
 
 
 def test_a_stream_of_another_s_saga_has_nothing(world: World) -> None:
-    """By its definition it is refused; by its key it is one of a key that nobody has, also behind
-    an id."""
-    assert told(world["of-trip"].get("/v1/events?definition=order"))[:2] == (403, "Forbidden")
+    """By its definition it is refused; by its key it is one of an unknown key, also after an id."""
+    assert status_name_and_detail(world["of-trip"].get("/v1/events?definition=order"))[:2] == (
+        403,
+        "Forbidden",
+    )
     start(world["caller"], "order", "behind-an-id")
     headers = {"Last-Event-ID": last_id(world)}
     with world["of-trip"].stream("GET", "/v1/events?key=behind-an-id", headers=headers) as stream:
         lines = stream.iter_lines()
         assert [next(lines).strip() for _ in range(3)][2] == ": open"
         start(world["caller"], "order", "behind-it")
-        quiet = next(line for line in lines if line.strip())  # the comment of a stream without news
+        # the comment of a stream without events
+        quiet = next(line for line in lines if line.strip())
         assert quiet.startswith(":")
 
 
 def last_id(world: World) -> str:
-    """The id of the first event that a stream of all would have."""
+    """Return the id of the first event that a stream of all would have."""
     with world["operator"].stream("GET", "/v1/events") as stream:
         id = next(line for line in stream.iter_lines() if line.startswith("id:"))[3:].strip()
     return f"{id.partition('-')[0]}-0"
 
 
 def test_a_worker_takes_its_steps(world: World) -> None:
-    """What it asks for beyond them is named; and with a report it takes no others."""
+    """Steps beyond them are named in the error; a report claims no others with it."""
     start(world["caller"], "order", "stepped")
     world.waits("stepped", "approval")
     world["approves-order"].post("/v1/sagas/stepped/steps/review/complete", json={"result": 1})
@@ -331,7 +346,11 @@ def test_a_worker_takes_its_steps(world: World) -> None:
         ("both", ["order/review"], "order/review"),
     ):
         answer = world[name].post("/v1/tasks/claim", json={"steps": steps, "wait": 0})
-        assert told(answer) == (403, "Forbidden", f"{name} has no right to the steps {beyond}")
+        assert status_name_and_detail(answer) == (
+            403,
+            "Forbidden",
+            f"{name} has no right to the steps {beyond}",
+        )
     assert (
         world["flies"].post("/v1/tasks/claim", json={"steps": ["flight"], "wait": 0}).status_code
         == 422
@@ -343,43 +362,42 @@ def test_a_worker_takes_its_steps(world: World) -> None:
     (sent,) = [one for one in take(world["both"], "order/send", most=10) if one["key"] == "stepped"]
     forbidden = report(world["both"], sent, result=1, next={"steps": ["trip/flight"]})
     assert (forbidden.status_code, error_of(forbidden)) == (403, "Forbidden")
-    assert (
-        world["operator"].get("/v1/sagas/stepped").json()["states"]["send"] == "running"
-    )  # refused before anything was kept
+    # refused before anything was stored
+    assert world["operator"].get("/v1/sagas/stepped").json()["states"]["send"] == "running"
     assert report(world["both"], sent, result=1).status_code == 200
 
 
 def test_a_worker_ends_its_own_claims(world: World) -> None:
-    """By its token and its name, and nobody else does. They are answered at once."""
-    found: list[Any] = []
-    claims = threading.Thread(target=lambda: found.extend(take(world["sends"], "order/pay/undo")))
+    """Its token and its name end them, and no other token does. They are answered at once."""
+    claimed: list[Any] = []
+    claims = threading.Thread(target=lambda: claimed.extend(take(world["sends"], "order/pay/undo")))
     claims.start()
     path, ends = "/v1/tasks/claim/end", {"worker": "w"}
     for name in ("caller", "approves-trip"):
         assert world[name].post(path, json=ends).status_code == 403
-    for name, words in (
+    for name, body in (
         ("worker", ends),
         ("operator", ends),
         ("sends", {"worker": "x"}),
         ("sends", {}),
     ):
-        assert world[name].post(path, json=words).json() == {"ended": 0}
-    until_ended = time.monotonic() + LONG  # until the claim has come there
+        assert world[name].post(path, json=body).json() == {"ended": 0}
+    until_ended = time.monotonic() + LONG  # until the claim has arrived there
     other = world.service.client(world.tokens["sends"])
     while other.post(path, json=ends).json() == {"ended": 0}:
         assert claims.is_alive() and time.monotonic() < until_ended
     claims.join(20)  # it would wait for 30 seconds
-    assert not claims.is_alive() and found == []
+    assert not claims.is_alive() and claimed == []
 
 
 def csrf_of(client: httpx.Client, path: str) -> str:
-    found = re.search(r'name="csrf" value="([^"]+)"', client.get(path).text)
-    assert found
-    return found[1]
+    match = re.search(r'name="csrf" value="([^"]+)"', client.get(path).text)
+    assert match
+    return match[1]
 
 
 OTHERS = ("a-trip", "a-licence", "trip/", ">trip<", ">licence<")
-"""What a page of an operator who is kept to another definition does not have."""
+"""Texts that are not on a page of an operator who is restricted to another definition."""
 
 
 def test_the_dashboard_has_its_definitions(world: World) -> None:
@@ -411,8 +429,11 @@ def test_the_dashboard_has_its_definitions(world: World) -> None:
     assert page.get("/ui/definitions/licence").status_code == 404
     assert "a-trip" in all_of_it.get("/ui/sagas?search=a-").text
     assert "trip/none" in all_of_it.get("/ui/workers").text
-    told = r"Stuck 0\s*Undo failed 0\s*Unknown 0\s*Exhausted 0\s*Approvals [1-9]"
-    for client, counts in ((page, told), (all_of_it, "Stuck 1")):  # which are counted once a second
+    status_name_and_detail = r"Stuck 0\s*Undo failed 0\s*Unknown 0\s*Exhausted 0\s*Approvals [1-9]"
+    for client, counts in (
+        (page, status_name_and_detail),
+        (all_of_it, "Stuck 1"),
+    ):  # which are counted once a second
         run(until(lambda: re.search(counts, re.sub("<[^>]+>", "", client.get("/ui").text)), 10))
 
 
@@ -425,7 +446,7 @@ FORMS: list[tuple[str, dict[str, str]]] = [
 
 
 def test_the_dashboard_does_nothing_to_others(world: World) -> None:
-    """Another's saga is there as one that nobody has, also for its forms."""
+    """Another definition's saga looks like an unknown one, also for its forms."""
     page = world.page("of-order")
     csrf = csrf_of(page, "/ui/sagas/a-order/abort")
     for key in ("a-trip", "no-trip"):
@@ -442,8 +463,10 @@ def test_the_dashboard_does_nothing_to_others(world: World) -> None:
 
 
 def test_the_dashboard_starts_its_definitions(world: World) -> None:
-    """No other; and a key that is another's saga is only said to be taken. What is its own it
-    does."""
+    """It starts no others; a key of another definition's saga is only reported as taken.
+
+    For its own definition everything works.
+    """
     page = world.page("of-order")
     csrf = csrf_of(page, "/ui/sagas/a-order/abort")
     other = {"csrf": csrf, "definition": "trip", "key": "by-page"}
@@ -463,17 +486,21 @@ def soon(seconds: float) -> str:
 
 
 def test_a_token_that_expires(tmp_path: pathlib.Path) -> None:
-    """It is 401 from then on, and says so; its stream and its session end without a new start."""
+    """The response is 401 from then on, with the reason; its stream and its session end without a
+    restart.
+    """
     expires = 10.0
     old = token(tmp_path, "old", "operator", "--expires", soon(-1))
     later = token(tmp_path, "later", "operator", "--expires", "2999-01-01T00:00:00+02:00")
     with served(tmp_path, DEFINITIONS, "--token-file", str(tmp_path / "tokens.toml")) as service:
         with service.client(old) as client, service.client() as page, service.client(later) as good:
-            assert told(client.get("/v1/sagas")) == (
+            assert status_name_and_detail(client.get("/v1/sagas")) == (
                 401,
                 "Unauthorized",
-                "the token has expired. Create another one with `sagas token`. "
-                "Send it as Authorization: Bearer TOKEN",
+                (
+                    "the token has expired. Create another one with `sagas token`. "
+                    "Send it as Authorization: Bearer TOKEN"
+                ),
             )
             assert page.post("/ui/login", data={"token": old}).status_code == 403
             assert good.get("/v1/sagas").status_code == 200
@@ -498,20 +525,21 @@ def test_a_token_that_expires(tmp_path: pathlib.Path) -> None:
 
 
 def test_a_stream_ends_with_its_token(tmp_path: pathlib.Path) -> None:
-    """Taken out of the file, or kept to less: in a moment it is told nothing more, and its
-    session's neither once that is logged out."""
-    words = {name: token(tmp_path, name, "operator") for name in ("gone", "less", "stays")}
+    """It is removed from the file, or restricted further: soon the stream has no more events, and
+    its session's stream has none once that is logged out.
+    """
+    tokens = {name: token(tmp_path, name, "operator") for name in ("gone", "less", "stays")}
     file = tmp_path / "tokens.toml"
     with served(
         tmp_path, DEFINITIONS, "--token-file", str(file)
     ) as service, contextlib.ExitStack() as stack:
         streams = {}
-        for name, text in words.items():
+        for name, text in tokens.items():
             streams[name] = stack.enter_context(
                 stack.enter_context(service.client(text)).stream("GET", "/v1/events")
             )
         page = stack.enter_context(service.client())
-        page.post("/ui/login", data={"token": words["stays"]})
+        page.post("/ui/login", data={"token": tokens["stays"]})
         shown = stack.enter_context(page.stream("GET", "/ui/events"))
         blocks = file.read_text().split("[[token]]\n")
         less = blocks[2].replace(
@@ -530,18 +558,20 @@ def test_a_stream_ends_with_its_token(tmp_path: pathlib.Path) -> None:
         for _ in shown.iter_lines():
             pass
         lines = streams["stays"].iter_lines()
-        start(stack.enter_context(service.client(words["stays"])), "trip", "told")
+        start(stack.enter_context(service.client(tokens["stays"])), "trip", "told")
         assert any('"told"' in line for line in lines)
 
 
 def test_a_file_that_was_unreadable_once(
     tmp_path: pathlib.Path, monkeypatch: pytest.MonkeyPatch
 ) -> None:
-    """It is read at a later look though nothing of it has changed, as behind a `chown`; the log says it once."""
+    """A later look reads it though it has not changed, as after a `chown`; the log
+    reports it once.
+    """
     gone, stays = (token(tmp_path, name, "operator") for name in ("gone", "stays"))
-    file, said = tmp_path / "tokens.toml", list[str]()
-    tokens = auth.Tokens(file, said.append)
-    monkeypatch.setattr(auth, "RELOAD_INTERVAL", -1.0)  # each question is a look
+    file, warnings = tmp_path / "tokens.toml", list[str]()
+    tokens = auth.Tokens(file, warnings.append)
+    monkeypatch.setattr(auth, "LOOK", -1.0)  # each request is a look
     file.write_text("[[token]]" + file.read_text().rpartition("[[token]]")[2])
     soft, hard = resource.getrlimit(resource.RLIMIT_NOFILE)
     resource.setrlimit(resource.RLIMIT_NOFILE, (0, hard))  # it can be looked at, and not be opened
@@ -550,34 +580,35 @@ def test_a_file_that_was_unreadable_once(
     finally:
         resource.setrlimit(resource.RLIMIT_NOFILE, (soft, hard))
     assert tokens.find(gone) is None and tokens.find(stays)
-    (line,) = said
+    (line,) = warnings
     assert "Too many open files" in line and line.endswith(
         "; the previous tokens stay valid until it is fixed"
     )
 
 
-def test_what_waits_ends_with_its_token(tmp_path: pathlib.Path) -> None:
-    """A long question is refused once its token is taken away, or asked again once it is kept to
-    less; what comes then is another's."""
-    words = {name: token(tmp_path, name, "operator") for name in ("gone", "less", "stays")}
-    file, found = tmp_path / "tokens.toml", dict[str, tuple[int, str]]()
+def test_waiting_requests_end_with_their_token(tmp_path: pathlib.Path) -> None:
+    """A long request is refused once its token is removed, or evaluated again once it is
+    restricted; a later task goes to another worker.
+    """
+    tokens = {name: token(tmp_path, name, "operator") for name in ("gone", "less", "stays")}
+    file, statuses = tmp_path / "tokens.toml", dict[str, tuple[int, str]]()
     with served(tmp_path, DEFINITIONS, "--token-file", str(file)) as service:
-        with service.client(words["stays"]) as client:
+        with service.client(tokens["stays"]) as client:
             start(client, "trip", "waits")
 
             def ask(name: str, path: str, body: Any) -> None:
-                with service.client(words[name]) as other:
+                with service.client(tokens[name]) as other:
                     answer = other.request("POST" if body else "GET", path, json=body)
-                    found[f"{name} {path}"] = answer.status_code, error_of(answer)
+                    statuses[f"{name} {path}"] = answer.status_code, error_of(answer)
 
             wanted = {"steps": ["order/send", "licence/server"], "wait": 30}
-            asked = [("/v1/tasks/claim", wanted), ("/v1/sagas/waits/wait?seconds=60", None)]
-            some = [(name, *one) for name in ("gone", "less") for one in asked]
+            requests = [("/v1/tasks/claim", wanted), ("/v1/sagas/waits/wait?seconds=60", None)]
+            some = [(name, *one) for name in ("gone", "less") for one in requests]
             threads = [threading.Thread(target=ask, args=one) for one in some]
             for thread in threads:
                 thread.start()
             page = service.client()
-            page.post("/ui/login", data={"token": words["stays"]})
+            page.post("/ui/login", data={"token": tokens["stays"]})
             while not all(f"{name}</" in page.get("/ui/workers").text for name in ("gone", "less")):
                 time.sleep(0.1)
             page.close()
@@ -587,9 +618,12 @@ def test_what_waits_ends_with_its_token(tmp_path: pathlib.Path) -> None:
             for thread in threads:
                 thread.join(LONG)
             assert time.monotonic() - began < 25
-            assert set(found.values()) == {(401, "Unauthorized"), (503, "RightsChanged")}, found
-            assert {key: value for key, value in found.items() if key.startswith("gone")} == {
-                f"gone {path}": (401, "Unauthorized") for path, _ in asked
+            assert set(statuses.values()) == {
+                (401, "Unauthorized"),
+                (503, "RightsChanged"),
+            }, statuses
+            assert {key: value for key, value in statuses.items() if key.startswith("gone")} == {
+                f"gone {path}": (401, "Unauthorized") for path, _ in requests
             }
             start(client, "licence", "comes")
             assert [task["key"] for task in take(client, "licence/server")] == ["comes"]
@@ -619,13 +653,17 @@ FAULTS = [
     ),
     (
         "keys = []",
-        "keys must be a list of one or more keys, or beginnings of keys with * at the end, "
-        "without /:",
+        (
+            "keys must be a list of one or more keys, or beginnings of keys with * at the end, "
+            "without /:"
+        ),
     ),
     (
         'keys = ["a*b"]',
-        "keys must be a list of one or more keys, or beginnings of keys with * at the end, "
-        "without /:",
+        (
+            "keys must be a list of one or more keys, or beginnings of keys with * at the end, "
+            "without /:"
+        ),
     ),
     ('keys = ["a*"]', "keys can only restrict a token with the roles caller and approver"),
     (
@@ -635,21 +673,26 @@ FAULTS = [
     ("expires = 5", "expires must be a time with an offset, for example 2027-01-01T00:00:00Z"),
     (
         'definition = ["trip"]',
-        "unknown key 'definition'; the keys are name, roles, sha256, definitions, keys, steps, expires, "
-        "open_sagas, open_bytes",
+        (
+            "unknown key 'definition'; the keys are name, roles, sha256, definitions, keys, steps,"
+            " expires, open_sagas, open_bytes"
+        ),
     ),
     (
         'Steps = ["trip/car"]',
-        "unknown key 'Steps'; the keys are name, roles, sha256, definitions, keys, steps, expires, "
-        "open_sagas, open_bytes",
+        (
+            "unknown key 'Steps'; the keys are name, roles, sha256, definitions, keys, steps,"
+            " expires, open_sagas, open_bytes"
+        ),
     ),
 ]
 
 
 @pytest.mark.parametrize("line, says", FAULTS)
 def test_faults_of_the_file(tmp_path: pathlib.Path, line: str, says: str) -> None:
-    """Each says which token and what is wrong: none of them makes a token that may more than was
-    meant."""
+    """Each error has the token and the reason: none of them makes a token with more rights than
+    intended.
+    """
     file = tmp_path / "tokens.toml"
     good = f'[[token]]\nname = "a"\nroles = ["worker"]\nsha256 = "{DIGEST}"\n'
     file.write_text(f"{good}\n{good}{line}\n")
@@ -659,7 +702,7 @@ def test_faults_of_the_file(tmp_path: pathlib.Path, line: str, says: str) -> Non
 
 
 def test_other_faults_of_the_file(tmp_path: pathlib.Path) -> None:
-    """Limits of roles that have none; and what is beside the tokens."""
+    """Limits of roles that have none; and keys next to the tokens."""
     file, good = (
         tmp_path / "tokens.toml",
         f'[[token]]\nname = "a"\nroles = ["ROLE"]\nsha256 = "{DIGEST}"\n',
@@ -673,13 +716,18 @@ def test_other_faults_of_the_file(tmp_path: pathlib.Path) -> None:
         (
             "metrics",
             'definitions = ["trip"]',
-            "token 1: definitions cannot restrict a token with the role metrics, "
-            "because metrics cover all definitions",
+            (
+                "token 1: definitions cannot restrict a token with the role metrics, "
+                "because metrics cover all definitions"
+            ),
         ),
         (
             "approvers",
             "",
-            "token 1: roles must be a list of one or more of caller, approver, worker, operator, metrics",
+            (
+                "token 1: roles must be a list of one or more of caller, approver, worker,"
+                " operator, metrics"
+            ),
         ),
         ("worker", '[tokens]\nname = "b"', "only [[token]] tables are allowed"),
     ):
@@ -689,16 +737,18 @@ def test_other_faults_of_the_file(tmp_path: pathlib.Path) -> None:
 
 
 def test_the_command(tmp_path: pathlib.Path) -> None:
-    """It writes what it is told, as it is read again; and says what it cannot write."""
+    """It writes its arguments, as they are read again; and reports what it cannot write."""
     file = tmp_path / "tokens.toml"
-    words = [sys.executable, "-m", "sagas", "token", str(file), "w", "worker"]
-    words += ["--step", "trip/car", "--step", "trip/car/undo", "--definition", "trip"]
-    words += ["--expires", "2030-05-06T07:08:09Z"]
-    done = subprocess.run(words, env=environment(), capture_output=True, text=True, check=True)
+    command_line = [sys.executable, "-m", "sagas", "token", str(file), "w", "worker"]
+    command_line += ["--step", "trip/car", "--step", "trip/car/undo", "--definition", "trip"]
+    command_line += ["--expires", "2030-05-06T07:08:09Z"]
+    done = subprocess.run(
+        command_line, env=environment(), capture_output=True, text=True, check=True
+    )
     assert done.stderr == ""
-    (found,) = auth.read(file).values()
-    assert found.limits.steps == {"trip/car", "trip/car/undo"} and found.definitions == {"trip"}
-    assert found.limits.expires == datetime.datetime(
+    (entry,) = auth.read(file).values()
+    assert entry.limits.steps == {"trip/car", "trip/car/undo"} and entry.definitions == {"trip"}
+    assert entry.limits.expires == datetime.datetime(
         2030, 5, 6, 7, 8, 9, tzinfo=datetime.timezone.utc
     )
     for more, says in (

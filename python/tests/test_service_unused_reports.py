@@ -1,4 +1,6 @@
-"""Early reports that a saga did not use, by the service: who sees them, and who has them compensated."""
+"""Early reports that a saga did not use, by the service: who sees them, and who lets them be
+compensated.
+"""
 
 from __future__ import annotations
 
@@ -42,7 +44,7 @@ def client(service: Served) -> Iterator[httpx.Client]:
 
 
 def unused(client: httpx.Client, definition: str, key: str) -> None:
-    """A saga that has ended without a payment that was reported."""
+    """Return a saga that has ended without a payment that was reported."""
     assert start(client, definition, key, {"n": 1}).status_code == 201
     (task,) = take(client, f"{definition}/reserve")
     early = client.post(f"/v1/sagas/{key}/steps/pay/complete", json={"result": {"euros": 40}})
@@ -55,23 +57,23 @@ def unused(client: httpx.Client, definition: str, key: str) -> None:
 
 
 def refunded(client: httpx.Client, definition: str, key: str) -> None:
-    """A worker gets the compensation, with the result."""
+    """Check that a worker gets the compensation, with the result."""
     (task,) = take(client, f"{definition}/pay/undo")
-    told = [task[word] for word in ("definition", "key", "step", "undo", "result", "input")]
-    assert told == [definition, key, "pay", True, {"euros": 40}, {"n": 1}]
+    fields = [task[word] for word in ("definition", "key", "step", "undo", "result", "input")]
+    assert fields == [definition, key, "pay", True, {"euros": 40}, {"n": 1}]
     assert task["original_idempotency_key"].endswith("-pay-run")
     assert report(client, task, result=None).status_code == 200
     assert client.get(f"/v1/sagas/{key}%2F:pay:undo/wait").json()["phase"] == "completed"
 
 
 def entries(client: httpx.Client) -> list[dict[str, Any]]:
-    """What is in attention of this reason."""
-    found: list[dict[str, Any]] = client.get("/v1/attention?kind=unused_report").json()["entries"]
-    return found
+    """Return the entries that need attention for this reason."""
+    listed: list[dict[str, Any]] = client.get("/v1/attention?kind=unused_report").json()["entries"]
+    return listed
 
 
 def test_it_is_listed_and_compensated(client: httpx.Client) -> None:
-    """With its result and who reported it; the worker of the compensation gets it."""
+    """The entry has its result and its reporter; the worker of the compensation gets it."""
     unused(client, "shop", "k")
     (one,) = entries(client)
     assert (one["key"], one["step"], one["detail"]) == ("k", "pay", '{"euros":40}') and one["by"]
@@ -101,7 +103,7 @@ def test_it_is_resolved(client: httpx.Client) -> None:
     assert client.get("/v1/sagas/more").json()["phase"] == "resolved"
 
 
-def test_unasked(client: httpx.Client) -> None:
+def test_compensation_without_an_operator(client: httpx.Client) -> None:
     """`early_unused` of the definition file."""
     unused(client, "auto", "a")
     refunded(client, "auto", "a")
@@ -119,9 +121,9 @@ def test_on_the_dashboard(client: httpx.Client) -> None:
     page = client.get("/ui/sagas/d").text
     assert "A report was not used" in page and "/ui/sagas/d/steps/pay/compensate" in page
     form = client.get("/ui/sagas/d/steps/pay/compensate").text
-    found = re.search(r'name="csrf" value="([^"]+)"', form)
-    assert found and "Compensate step pay?" in form
-    sent = {"csrf": found[1], "note": "so"}
+    match = re.search(r'name="csrf" value="([^"]+)"', form)
+    assert match and "Compensate step pay?" in form
+    sent = {"csrf": match[1], "note": "so"}
     assert client.post("/ui/sagas/d/steps/pay/compensate", data=sent).status_code == 303
     again = client.post("/ui/sagas/e/steps/reserve/compensate", data=sent)
     assert again.status_code == 409 and "no unused report" in again.text

@@ -33,7 +33,9 @@ SECRET = base64.b64encode(b"k" * 32).decode()
 
 
 class Receiver:
-    """A server of somebody else's, which answers with these statuses first, and then with 204."""
+    """A server outside of the package, which answers with these statuses first, and then
+    with 204.
+    """
 
     def __init__(self, *statuses: int) -> None:
         self.got: list[tuple[dict[str, str], bytes]] = []
@@ -50,7 +52,7 @@ class Receiver:
                 self.send_header("content-length", "0")
                 self.end_headers()
 
-            def log_message(self, *words: Any) -> None:
+            def log_message(self, *arguments: Any) -> None:
                 ...
 
         self.server = http.server.ThreadingHTTPServer((host(), 0), Handler)
@@ -61,7 +63,7 @@ class Receiver:
         return f"http://{self.server.server_address[0]!s}:{self.server.server_address[1]}/hook?a=1"
 
     def wait(self, count: int) -> list[dict[str, Any]]:
-        """So many verified posts, in the order of their times."""
+        """Return `count` verified posts, in the order of their times."""
         deadline = time.monotonic() + LONG
         while len(self.got) < count:
             assert time.monotonic() < deadline, self.got
@@ -82,7 +84,7 @@ def receiver() -> Iterator[Receiver]:
 
 
 def written(folder: pathlib.Path, *tables: str) -> str:
-    """A file of webhooks."""
+    """Return a file of webhooks."""
     path = folder / "webhooks.toml"
     path.write_text("".join(f"[[webhook]]\n{table}\n" for table in tables))
     return str(path)
@@ -92,10 +94,10 @@ def table(url: str, more: str = "") -> str:
     return f'name = "one"\nurl = "{url}"\nsecret = "whsec_{SECRET}"\n{more}'
 
 
-def test_what_is_posted(tmp_path: pathlib.Path, receiver: Receiver) -> None:
-    """Ends, stuck sagas, and what needs a person; no input, result or error is in it."""
-    words = ("--local-webhooks", "--webhooks", written(tmp_path, table(receiver.url)))
-    with served(tmp_path, DEFINITIONS, *words) as service, service.client() as client:
+def test_posts_of_a_webhook(tmp_path: pathlib.Path, receiver: Receiver) -> None:
+    """Ends, stuck sagas, and what needs an operator; no input, result or error is in it."""
+    options = ("--local-webhooks", "--webhooks", written(tmp_path, table(receiver.url)))
+    with served(tmp_path, DEFINITIONS, *options) as service, service.client() as client:
         start(client, "trip", "good", {"secret": "input"})
         all_done(client, "trip/flight", "trip/car", "trip/tour")
         start(client, "trip", "bad")
@@ -108,17 +110,17 @@ def test_what_is_posted(tmp_path: pathlib.Path, receiver: Receiver) -> None:
         all_done(client, "trip/flight", "trip/car")
         (task,) = take(client, "trip/tour")
         report(client, task, "unknown", error="the line went dead")
-        found = receiver.wait(5)
-        told = {(one["type"], one["data"]["key"]): one["data"] for one in found}
-        assert {*told} == {
+        posts = receiver.wait(5)
+        posts_by_key = {(one["type"], one["data"]["key"]): one["data"] for one in posts}
+        assert {*posts_by_key} == {
             ("saga.completed", "good"),
             ("saga.recovered", "bad"),
             ("saga.stuck", "stuck-1"),
             ("saga.attention", "asked"),
             ("saga.attention", "hazy"),
         }
-        assert told["saga.attention", "asked"]["kind"] == "approval"
-        assert told["saga.attention", "hazy"] == {
+        assert posts_by_key["saga.attention", "asked"]["kind"] == "approval"
+        assert posts_by_key["saga.attention", "hazy"] == {
             "key": "hazy",
             "definition": "trip",
             "kind": "unknown",
@@ -131,7 +133,7 @@ def test_what_is_posted(tmp_path: pathlib.Path, receiver: Receiver) -> None:
 
 
 def test_it_is_repeated(tmp_path: pathlib.Path) -> None:
-    """Under the same id, also behind a redirect, which is not followed; 410 ends it."""
+    """It has the same id, also after a redirect, which is not followed; 410 ends it."""
     first, second = Receiver(500, 302), Receiver(410)
     tables = (
         table(first.url),
@@ -139,8 +141,8 @@ def test_it_is_repeated(tmp_path: pathlib.Path) -> None:
             "one", "two"
         ),
     )
-    words = ("--local-webhooks", "--webhooks", written(tmp_path, *tables))
-    with served(tmp_path, DEFINITIONS, *words) as service, service.client() as client:
+    options = ("--local-webhooks", "--webhooks", written(tmp_path, *tables))
+    with served(tmp_path, DEFINITIONS, *options) as service, service.client() as client:
         start(client, "trip", "t")
         all_done(client, "trip/flight", "trip/car", "trip/tour")
         start(client, "order", "o")
@@ -160,29 +162,33 @@ def test_it_is_repeated(tmp_path: pathlib.Path) -> None:
 
 
 def delivered(client: httpx.Client) -> dict[tuple[str, str, str], dict[str, Any]]:
-    """All deliveries, once each is over, by webhook, type and key."""
+    """Return all deliveries, once each is over, by webhook, type and key."""
     deadline = time.monotonic() + LONG
     while True:
-        found: list[dict[str, Any]] = client.get("/v1/webhooks/deliveries").json()["deliveries"]
-        if found and all(one["state"] != "pending" for one in found):
-            return {(one["webhook"], one["type"], one["key"]): one for one in found}
-        assert time.monotonic() < deadline, found
+        deliveries: list[dict[str, Any]] = client.get("/v1/webhooks/deliveries").json()[
+            "deliveries"
+        ]
+        if deliveries and all(one["state"] != "pending" for one in deliveries):
+            return {(one["webhook"], one["type"], one["key"]): one for one in deliveries}
+        assert time.monotonic() < deadline, deliveries
         time.sleep(0.1)
 
 
 def test_it_survives_a_kill(tmp_path: pathlib.Path, store: str | None) -> None:
-    """What was not posted when the service was killed is posted by the next one, under its id; what was posted before, is not. Over PostgreSQL two services share the
-    posts: each is posted once. A delivery that was given up is posted again where an operator asks for it, and nobody else may.
+    """A delivery that was not posted when the service was killed is posted by the next one, under
+    its id; one that was posted before is not. Over PostgreSQL two services share the posts: each is
+    posted once. A delivery that was given up is posted again if an operator requests it, and only
+    then.
     """
     receiver = Receiver(410, *[500] * 3)
-    words = (
+    options = (
         "--local-webhooks",
         "--webhooks",
         written(tmp_path, table(receiver.url, 'definitions = ["order", "trip"]')),
     )
     tokens = {role: token(tmp_path, role, role) for role in ("caller", "operator")}
-    words += ("--token-file", str(tmp_path / "tokens.toml"))
-    with served(tmp_path, DEFINITIONS, *words, store=store) as service, service.client(
+    options += ("--token-file", str(tmp_path / "tokens.toml"))
+    with served(tmp_path, DEFINITIONS, *options, store=store) as service, service.client(
         tokens["operator"]
     ) as client:
         start(client, "order", "given-up")
@@ -198,13 +204,14 @@ def test_it_survives_a_kill(tmp_path: pathlib.Path, store: str | None) -> None:
             if store:
                 other = tmp_path / "other"
                 other.mkdir()
-                others.enter_context(served(other, DEFINITIONS, *words, store=store))
-            found = delivered(client)
-            assert {one["state"] for one in found.values()} == {"delivered", "failed"}
+                others.enter_context(served(other, DEFINITIONS, *options, store=store))
+            deliveries = delivered(client)
+            assert {one["state"] for one in deliveries.values()} == {"delivered", "failed"}
             ids = [headers["webhook-id"] for headers, _ in receiver.got]
-            assert ids.count(found["one", "saga.attention", "given-up"]["id"]) == 1
+            assert ids.count(deliveries["one", "saga.attention", "given-up"]["id"]) == 1
             assert all(
-                ids.count(found["one", "saga.attention", f"held-{n}"]["id"]) == 2 for n in range(3)
+                ids.count(deliveries["one", "saga.attention", f"held-{n}"]["id"]) == 2
+                for n in range(3)
             )
             before = len(receiver.got)
             for count in range(12):
@@ -216,9 +223,8 @@ def test_it_survives_a_kill(tmp_path: pathlib.Path, store: str | None) -> None:
                 == len(receiver.got) - before
                 == 12
             )
-        again = (
-            f"/v1/webhooks/deliveries/{found['one', 'saga.attention', 'given-up']['id']}/redeliver"
-        )
+        given_up = deliveries["one", "saga.attention", "given-up"]
+        again = f"/v1/webhooks/deliveries/{given_up['id']}/redeliver"
         with service.client(tokens["caller"]) as caller:
             assert caller.post(again, json={}).status_code == 403
         assert client.post(again.replace("msg_", "msg_x"), json={}).status_code == 404
@@ -228,9 +234,9 @@ def test_it_survives_a_kill(tmp_path: pathlib.Path, store: str | None) -> None:
     receiver.server.shutdown()
 
 
-def test_nothing_is_stored_for_nobody(tmp_path: pathlib.Path) -> None:
-    """Of what no webhook is told there is no row."""
-    words = (
+def test_events_without_a_webhook_are_not_stored(tmp_path: pathlib.Path) -> None:
+    """An event without a webhook has no row."""
+    options = (
         "--local-webhooks",
         "--webhooks",
         written(
@@ -238,18 +244,18 @@ def test_nothing_is_stored_for_nobody(tmp_path: pathlib.Path) -> None:
             table("http://127.0.0.1:9/", 'types = ["saga.stuck"]\ndefinitions = ["licence"]'),
         ),
     )
-    with served(tmp_path, DEFINITIONS, *words) as service, service.client() as client:
+    with served(tmp_path, DEFINITIONS, *options) as service, service.client() as client:
         start(client, "order", "asked")
         start(client, "licence", "good")
         all_done(client, "licence/server", "licence/licence")
         assert client.get("/v1/webhooks/deliveries").json() == {"deliveries": []}
 
 
-def test_who_may_look(tmp_path: pathlib.Path) -> None:
-    """Operators alone."""
+def test_the_right_to_see_deliveries(tmp_path: pathlib.Path) -> None:
+    """Only operators may."""
     tokens = {role: token(tmp_path, role, role) for role in ("caller", "operator", "worker")}
-    words = ("--token-file", str(tmp_path / "tokens.toml"))
-    with served(tmp_path, DEFINITIONS, *words) as service:
+    options = ("--token-file", str(tmp_path / "tokens.toml"))
+    with served(tmp_path, DEFINITIONS, *options) as service:
         for role, status in (("caller", 403), ("worker", 403), ("operator", 200)):
             with service.client(tokens[role]) as client:
                 assert client.get("/v1/webhooks/deliveries").status_code == status
@@ -284,12 +290,12 @@ def test_who_may_look(tmp_path: pathlib.Path) -> None:
         ),
     ],
 )
-def test_a_file_that_is_wrong(tmp_path: pathlib.Path, text: str, says: str) -> None:
-    """It is named with the place and the rule, and no secret is in the text."""
+def test_an_invalid_file(tmp_path: pathlib.Path, text: str, says: str) -> None:
+    """The error has the location and the rule, and no secret."""
     (tmp_path / "w.toml").write_text(text)
-    with pytest.raises(WebhookFault, match=says) as found:
+    with pytest.raises(WebhookFault, match=says) as error:
         webhook_file.read(tmp_path / "w.toml")
-    assert SECRET not in str(found.value) and "?secret" not in str(found.value)
+    assert SECRET not in str(error.value) and "?secret" not in str(error.value)
 
 
 def test_a_host_beyond_ascii(tmp_path: pathlib.Path) -> None:
@@ -300,21 +306,21 @@ def test_a_host_beyond_ascii(tmp_path: pathlib.Path) -> None:
     assert one.url == "https://zürich.example:8443/a%20b?c=%C3%BC"
 
 
-def test_whatever_a_post_raises(place: str) -> None:
+def test_whatever_a_post_raises(location: str) -> None:
     """It is the error of the attempt, and the post is repeated."""
     hook = Webhook("one", "http://127.0.0.1:80800/", b"k" * 32, frozenset(TYPES), None)
     trip = sagas.Saga("trip")
     trip.step(name="car")(lambda task: None)
 
     def are_there() -> list[tuple[bool, str | None]]:
-        with Snapshot(place) as store:
+        with Snapshot(location) as store:
             return [
                 (one.attempts > 1, one.error)
                 for one in store.ask(deliveries.listed(None, None, 10))
             ]
 
     async def main() -> None:
-        store = sagas.open(place, [trip])
+        store = sagas.open(location, [trip])
         posts = Webhooks([hook], store.deliveries, allow_local=True)
         async with store, asyncio.timeout(LONG):
             posts.begin()
@@ -330,7 +336,7 @@ def test_whatever_a_post_raises(place: str) -> None:
 async def trickling(
     back: asyncio.StreamReader, there: asyncio.StreamWriter, first: bytes, part: bytes
 ) -> None:
-    """A receiver of which there is always more to come."""
+    """Run a receiver whose response never ends."""
     with contextlib.suppress(OSError):
         await back.readuntil(b"\r\n\r\n")
         there.write(first)
@@ -341,11 +347,8 @@ async def trickling(
 
 
 ANSWERS: list[tuple[bytes, bytes, Any]] = [
-    (
-        b"HTTP/1.1 204 No Content\r\n",
-        b"X: y\r\n",
-        204,
-    ),  # its head never ends, and its status is there
+    # its head never ends, and its status is complete
+    (b"HTTP/1.1 204 No Content\r\n", b"X: y\r\n", 204),
     (b"HTTP/1.1 ", b"2", TimeoutError),
     (b"", b"", TimeoutError),
     (b"HTTP/1.1 100 Continue\r\n", b"X: y\r\n", TimeoutError),
@@ -358,8 +361,10 @@ ANSWERS: list[tuple[bytes, bytes, Any]] = [
 
 @pytest.mark.parametrize("first, part, wanted", ANSWERS, ids=range(len(ANSWERS)))
 def test_a_receiver_that_trickles(first: bytes, part: bytes, wanted: Any) -> None:
-    """The whole exchange has one deadline, and the answer a number of bytes. What a receiver sends
-    that speaks no HTTP is in no error."""
+    """The whole exchange has one deadline, and the response a number of bytes.
+
+    No error has the text of a receiver that does not speak HTTP.
+    """
     claimed = Claimed("msg_1", "saga.completed", "k", "{}", 1, 1)
 
     async def main() -> None:
@@ -373,17 +378,17 @@ def test_a_receiver_that_trickles(first: bytes, part: bytes, wanted: Any) -> Non
         if isinstance(wanted, int):
             assert await webhook_post.post(hook, claimed, seconds, allow_local=True) == wanted
         else:
-            with pytest.raises(wanted) as found:
+            with pytest.raises(wanted) as error:
                 await webhook_post.post(hook, claimed, seconds, allow_local=True)
-            assert "banner" not in str(found.value)
+            assert "banner" not in str(error.value)
         server.close()
 
     asyncio.run(asyncio.wait_for(main(), LONG))
 
 
 def test_a_stop_does_not_wait_for_a_receiver(tmp_path: pathlib.Path) -> None:
-    """That answers byte by byte, or not at all."""
-    asked = threading.Event()
+    """It answers byte by byte, or not at all."""
+    posted = threading.Event()
     with socket.create_server((host(), 0)) as listening:
         name, port = listening.getsockname()
 
@@ -393,19 +398,19 @@ def test_a_stop_does_not_wait_for_a_receiver(tmp_path: pathlib.Path) -> None:
                     link, _ = listening.accept()
                     held.append(link)
                     link.recv(10)
-                    asked.set()
+                    posted.set()
                     link.sendall(b"HTTP/1.1 ")
 
         held: list[socket.socket] = []
         threading.Thread(target=receive, daemon=True).start()
-        words = (
+        options = (
             "--local-webhooks",
             "--webhooks",
             written(tmp_path, table(f"http://{name}:{port}/")),
         )
-        with served(tmp_path, DEFINITIONS, *words) as service, service.client() as client:
+        with served(tmp_path, DEFINITIONS, *options) as service, service.client() as client:
             start(client, "order", "asked")
-            assert asked.wait(LONG)
+            assert posted.wait(LONG)
             began = time.monotonic()
             assert service.stop() == 0
             assert time.monotonic() - began < webhooks.PATIENCE * 0.8
@@ -426,7 +431,7 @@ def test_a_stop_does_not_wait_for_a_receiver(tmp_path: pathlib.Path) -> None:
     ],
 )
 def test_a_local_receiver(tmp_path: pathlib.Path, address: str) -> None:
-    """It is refused unless it is meant, by the file and wherever a name leads."""
+    """It is refused unless the file allows it, wherever a name leads."""
     path = pathlib.Path(written(tmp_path, table(f"http://{address}:9/")))
     with pytest.raises(WebhookFault, match="webhook 1: url must not be .* --local-webhooks"):
         webhook_file.read(path)

@@ -1,5 +1,6 @@
-"""What a request's head and words may be; whose word is believed about where it comes from; and
-what stands in the log of that."""
+"""Heads and texts of requests: what they may be, which address is believed, and what the log has of
+them.
+"""
 
 from __future__ import annotations
 
@@ -26,7 +27,7 @@ def service(tmp_path_factory: pytest.TempPathFactory) -> Iterator[Served]:
 
 
 def status_of(service: Served, head: str, body: bytes = b"") -> int:
-    """What the service answers to these bytes."""
+    """Return the service's status for these bytes."""
     name, _, port = service.address.rpartition(":")
     with socket.create_connection((name, int(port)), timeout=LONG) as one:
         one.sendall(
@@ -62,7 +63,7 @@ HEADS = [
 
 @pytest.mark.parametrize("head, body", HEADS)
 def test_heads_that_may_be_read_in_two_ways(service: Served, head: str, body: bytes) -> None:
-    """A proxy before the service may have read another request: it is none."""
+    """A proxy before the service may have read another request: it is refused."""
     assert status_of(service, head, body) == 400
     assert status_of(service, "GET /health/live HTTP/1.1\nHost: @") == 200
 
@@ -78,7 +79,7 @@ def test_heads_that_may_be_read_in_two_ways(service: Served, head: str, body: by
     ],
 )
 def test_whatever_reads_them(headers: list[tuple[bytes, bytes]]) -> None:
-    """Also where the server that reads the request has let them pass."""
+    """This holds also if the server that parses the request has let them pass."""
     with pytest.raises(ValueError):
         middleware.check_headers({"headers": headers, "http_version": "1.1"})
 
@@ -103,7 +104,7 @@ BODIES: list[tuple[str, dict[str, Any]]] = [
 
 @pytest.mark.parametrize("path, body", BODIES)
 def test_texts_are_texts(service: Served, path: str, body: dict[str, Any]) -> None:
-    """A number is no key, nor any other text."""
+    """A number is not a key, nor any other text."""
     with service.client() as client:
         answer = client.post(path, json=body)
         assert (answer.status_code, error_of(answer)) == (422, "InvalidRequest"), answer.text
@@ -113,7 +114,7 @@ def test_texts_are_texts(service: Served, path: str, body: dict[str, Any]) -> No
 
 
 def test_a_path_makes_no_line_of_the_log(service: Served) -> None:
-    """Control characters of it stand there as numbers, so that each line is the service's own."""
+    """Its control characters are logged as numbers, so that each line is the service's own."""
     forged = "2026-01-01 00:00:00.000Z ERROR sagas: the store is lost"
     with service.client() as client:
         for path in (
@@ -124,9 +125,9 @@ def test_a_path_makes_no_line_of_the_log(service: Served) -> None:
         ):
             assert client.get(path).status_code == 404
     deadline = time.monotonic() + LONG
-    while service.told().count(forged) < 4:
+    while service.log_text().count(forged) < 4:
         assert time.monotonic() < deadline
-    lines = [line for line in service.told().splitlines() if "the store is lost" in line]
+    lines = [line for line in service.log_text().splitlines() if "the store is lost" in line]
     assert len(lines) == 4 and not any(line.startswith(forged) for line in lines), lines
     assert (
         "GET /x\\n2026" in lines[0]
@@ -137,7 +138,7 @@ def test_a_path_makes_no_line_of_the_log(service: Served) -> None:
 
 
 def test_a_traceback_is_set_in() -> None:
-    """What was raised may have lines, and none of them begins as one of the log."""
+    """An exception may have lines, and none of them starts like one of the log."""
     try:
         raise ValueError("x\n2026-01-01 00:00:00.000Z ERROR sagas: forged\x1b[2K")
     except ValueError as error:
@@ -166,11 +167,8 @@ def test_a_traceback_is_set_in() -> None:
 PROXIES = tuple(ipaddress.ip_network(text) for text in ("10.0.0.0/8", "2001:db8::/32"))
 CHAINS = [
     ("10.0.0.1", ["192.0.2.7"], "192.0.2.7"),
-    (
-        "10.0.0.1",
-        ["198.51.100.1, 192.0.2.7"],
-        "192.0.2.7",
-    ),  # what stands before the last is the client's own word
+    # the entries before the last are the client's own
+    ("10.0.0.1", ["198.51.100.1, 192.0.2.7"], "192.0.2.7"),
     ("10.0.0.1", ["192.0.2.7, 10.9.9.9"], "192.0.2.7"),
     ("10.0.0.1", ["192.0.2.7", "10.9.9.9,10.8.8.8"], "192.0.2.7"),
     ("10.0.0.1", ["10.9.9.9"], "10.9.9.9"),
@@ -185,10 +183,12 @@ CHAINS = [
 ]
 
 
-@pytest.mark.parametrize("peer, told, client", CHAINS)
-def test_whose_request_it_is(peer: str, told: list[str], client: str) -> None:
-    """The last address that no trusted proxy has; whoever is none is believed nothing."""
-    headers = [(b"x-forwarded-for", one.encode()) for one in told] + [
+@pytest.mark.parametrize("peer, forwarded_for, client", CHAINS)
+def test_the_client_of_a_request(peer: str, forwarded_for: list[str], client: str) -> None:
+    """The last address that is not a trusted proxy's; the header of any other address is
+    ignored.
+    """
+    headers = [(b"x-forwarded-for", one.encode()) for one in forwarded_for] + [
         (b"x-forwarded-proto", b"https")
     ]
     scope: dict[str, Any] = {"client": (peer, 5), "headers": headers, "scheme": "http"}
@@ -198,10 +198,10 @@ def test_whose_request_it_is(peer: str, told: list[str], client: str) -> None:
 
 
 def test_trusted_proxies(tmp_path: pathlib.Path) -> None:
-    """By default the loopback; with the option what it says, or nobody."""
+    """By default the loopback; with the option the given ones, or none."""
     operator = token(tmp_path, "o", "operator")
     headers = {"X-Forwarded-For": "192.0.2.7", "X-Forwarded-Proto": "https"}
-    for name, words, believed in (
+    for name, options, believed in (
         ("a", (), True),
         ("b", ("--trusted-proxies", "10.0.0.0/8"), False),
         ("c", ("--trusted-proxies", "127.0.0.0/8,::1"), True),
@@ -209,17 +209,17 @@ def test_trusted_proxies(tmp_path: pathlib.Path) -> None:
     ):
         (tmp_path / name).mkdir()
         with served(
-            tmp_path / name, DEFINITIONS, "--token-file", str(tmp_path / "tokens.toml"), *words
+            tmp_path / name, DEFINITIONS, "--token-file", str(tmp_path / "tokens.toml"), *options
         ) as service, service.client() as client:
             cookie = client.post("/ui/login", data={"token": operator}, headers=headers).headers[
                 "set-cookie"
             ]
             assert ("Secure" in cookie) is believed
             deadline = time.monotonic() + LONG
-            while '"/ui/login"' not in service.told():
+            while '"/ui/login"' not in service.log_text():
                 assert time.monotonic() < deadline
             (line,) = [
-                json.loads(one) for one in service.told().splitlines() if '"/ui/login"' in one
+                json.loads(one) for one in service.log_text().splitlines() if '"/ui/login"' in one
             ]
             assert line["from"] == ("192.0.2.7" if believed else "127.0.0.1")
     one = Served(tmp_path, DEFINITIONS, "--trusted-proxies", "here")

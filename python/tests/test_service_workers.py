@@ -1,4 +1,7 @@
-"""Workers over HTTP: `sagas.Worker`, and the examples in Python, Node and shell, killed and left without their service."""
+"""Workers over HTTP: `sagas.Worker`, and the examples in Python, Node and shell.
+
+They are killed, and lose their service.
+"""
 
 from __future__ import annotations
 
@@ -62,7 +65,7 @@ SERVICE = "[step.flaky]\nbackoff = { initial = 0.01 }\n[step.hazy]\nbackoff = { 
 
 @contextlib.contextmanager
 def working(worker: sagas.Worker) -> Iterator[None]:
-    """A worker in a thread, until the block ends."""
+    """Run a worker in a thread, until the block ends."""
     thread = threading.Thread(target=worker.run)
     thread.start()
     try:
@@ -73,7 +76,7 @@ def working(worker: sagas.Worker) -> Iterator[None]:
 
 
 def test_a_step_is_declared_twice() -> None:
-    """That is refused by name, and says where each is."""
+    """That is refused by name, with the location of each."""
     worker = sagas.Worker("http://127.0.0.1:1")
 
     @worker.step("trip", "car")
@@ -83,7 +86,10 @@ def test_a_step_is_declared_twice() -> None:
     worker.compensation("trip", "car")(car)
     with pytest.raises(
         sagas.DefinitionError,
-        match=r"trip/car is declared twice, at .*test_service_workers.py:\d+ and .*test_service_workers.py:\d+",
+        match=(
+            r"trip/car is declared twice, at .*test_service_workers.py:\d+ and"
+            r" .*test_service_workers.py:\d+"
+        ),
     ):
 
         @worker.step("trip", "car")
@@ -92,7 +98,9 @@ def test_a_step_is_declared_twice() -> None:
 
 
 def test_a_worker(tmp_path: pathlib.Path, caplog: pytest.LogCaptureFixture) -> None:
-    """What its functions do means what it means in a store; a long one keeps its lease by beats. A step that no definition has is told in its log, once."""
+    """Its functions have the outcomes that they have in a store; a long one keeps its lease by
+    heartbeats. A step that no definition has is logged, once.
+    """
     calls: list[tuple[str, bool, str]] = []
     with served(
         tmp_path, {"steps.toml": STEPS, "steps.service.toml": SERVICE}
@@ -118,7 +126,7 @@ def test_a_worker(tmp_path: pathlib.Path, caplog: pytest.LogCaptureFixture) -> N
         def slow(task: sagas.Task[int]) -> None:
             calls.append((task.step, task.is_compensation, task.idempotency_key))
             deadline = time.monotonic() + LONG
-            while service.told().count("/heartbeat 200") < 3 and time.monotonic() < deadline:
+            while service.log_text().count("/heartbeat 200") < 3 and time.monotonic() < deadline:
                 time.sleep(0.1)
 
         @worker.step("steps", "odd")
@@ -153,20 +161,23 @@ def test_a_worker(tmp_path: pathlib.Path, caplog: pytest.LogCaptureFixture) -> N
     first = next(event for event in log if event["event"] == "missed" and event["step"] == "last")
     assert first["value"] == {"error": "sagas.Fail: never", "final": True}
     assert [step for step, undone, _ in calls][:6] == ["flaky"] * 3 + ["hazy"] * 2 + ["slow"]
-    assert len({effect for _, _, effect in calls}) == 3 and "/heartbeat 200" in service.told()
+    assert len({effect for _, _, effect in calls}) == 3 and "/heartbeat 200" in service.log_text()
     assert caplog.text.count("no definition of the service has step steps/tree") == 1
 
 
 def test_a_worker_that_is_interrupted(tmp_path: pathlib.Path) -> None:
-    """Ctrl-C ends it once what it has at hand has ended, and is reported. An address without a scheme is refused."""
+    """Ctrl-C ends it once its current tasks have ended, and are reported.
+
+    An address without a scheme is refused.
+    """
     with pytest.raises(ValueError, match="not the address of a service"):
         sagas.Worker("127.0.0.1:8080")
     (tmp_path / "worker.py").write_text(INTERRUPTED)
     with served(tmp_path) as service, service.client() as client:
         start(client, "trip", "x")
-        words = [sys.executable, str(tmp_path / "worker.py"), service.url]
+        command = [sys.executable, str(tmp_path / "worker.py"), service.url]
         with subprocess.Popen(
-            words,
+            command,
             env=environment(),
             stdin=subprocess.PIPE,
             stdout=subprocess.PIPE,
@@ -223,7 +234,7 @@ def test_a_worker_that_may_not(tmp_path: pathlib.Path) -> None:
 
 
 def rewritten(service: Served, old: str, new: str) -> None:
-    """Changes the token file, and waits until the service has seen it."""
+    """Change the token file, and wait until the service has read it."""
     file = service.folder / "tokens.toml"
     file.write_text(file.read_text().replace(old, new))
     marker = token(service.folder, f"seen-{time.monotonic_ns()}", "caller")
@@ -235,8 +246,7 @@ def rewritten(service: Served, old: str, new: str) -> None:
 
 
 def test_a_worker_that_may_less_than_before(tmp_path: pathlib.Path) -> None:
-    """What it has done already it still reports; then it ends, and says which steps it may not
-    take."""
+    """It still reports finished work; then it ends, and names the steps that it may not take."""
     word = token(tmp_path, "w", "worker", "--step", "trip/flight", "--step", "trip/car")
     caller = token(tmp_path, "c", "caller")
     with served(tmp_path, DEFINITIONS, "--token-file", str(tmp_path / "tokens.toml")) as service:
@@ -255,10 +265,10 @@ def test_a_worker_that_may_less_than_before(tmp_path: pathlib.Path) -> None:
             assert client.get("/v1/sagas/less").json()["results"] == {"flight": 5}
 
 
-def test_a_worker_whose_lease_is_not_its_own(
+def test_a_worker_with_the_lease_of_another(
     tmp_path: pathlib.Path, caplog: pytest.LogCaptureFixture
 ) -> None:
-    """Its report is refused, which its log says; it goes on with other tasks."""
+    """Its report is refused, which its log has; it continues with other tasks."""
     word = token(tmp_path, "before", "worker")
     caller = token(tmp_path, "c", "caller")
     with served(tmp_path, DEFINITIONS, "--token-file", str(tmp_path / "tokens.toml")) as service:
@@ -287,7 +297,7 @@ def test_a_worker_whose_lease_is_not_its_own(
 
 
 class Endless(Exception):
-    """It cannot even be described."""
+    """An exception that cannot even be described."""
 
     def __str__(self) -> str:
         raise SystemExit
@@ -297,10 +307,12 @@ ODD = SystemExit, KeyboardInterrupt, GeneratorExit, asyncio.CancelledError
 
 
 @pytest.mark.parametrize("is_async", [False, True])
-def test_a_function_raises_what_it_should_not(
+def test_a_function_raises_a_base_exception(
     ones: tuple[Served, httpx.Client], is_async: bool
 ) -> None:
-    """That is unknown, as in a store: the same thread calls it again, with the same idempotency key."""
+    """The outcome is unknown, as in a store: the same thread calls it again, with the same
+    idempotency key.
+    """
     service, client = ones
     calls: list[tuple[str, str]] = []
     worker = sagas.Worker(service.url, wait=1.0, concurrency=1)
@@ -329,7 +341,9 @@ def test_a_function_raises_what_it_should_not(
 def test_no_thread_of_a_worker_ends_silently(
     ones: tuple[Served, httpx.Client], caplog: pytest.LogCaptureFixture
 ) -> None:
-    """The worker ends with it, and its log says so: whether it claims, or keeps leases; `run` raises what ended it."""
+    """The worker ends with it, and its log has the reason: a claiming thread, or one that keeps
+    leases; `run` raises the exception.
+    """
     service, client = ones
     claims = sagas.Worker(service.url, wait=1.0, lease=1.0)
 
@@ -360,25 +374,25 @@ def test_no_thread_of_a_worker_ends_silently(
 
 
 class Asking(sagas.Worker):
-    """It counts what each answer gave it."""
+    """A client that counts the tasks of each response."""
 
     def __init__(self, url: str, **more: Any) -> None:
         super().__init__(url, wait=0.2, **more)
         self.given: list[int] = []
         right = self._service.ask_until_answered
 
-        def ask_until_answered(*words: Any, **more: Any) -> dict[str, Any] | None:
-            told = right(*words, **more)
-            claimed = (told.get("next") or told) if told else {}
+        def ask_until_answered(*arguments: Any, **more: Any) -> dict[str, Any] | None:
+            reply = right(*arguments, **more)
+            claimed = (reply.get("next") or reply) if reply else {}
             if claimed.get("tasks"):
                 self.given.append(len(claimed["tasks"]))
-            return told
+            return reply
 
         self._service.ask_until_answered = ask_until_answered  # type: ignore[method-assign]
 
 
 class Calls:
-    """Who was called for which saga. One worker holds a task, where others stand in its queue."""
+    """The calls by saga. One worker holds a task, while others wait in its queue."""
 
     def __init__(self) -> None:
         self.all: list[tuple[str, str]] = []
@@ -410,7 +424,7 @@ class Calls:
 
 @pytest.fixture(scope="module")
 def ones(tmp_path_factory: pytest.TempPathFactory) -> Iterator[tuple[Served, httpx.Client]]:
-    """A service for sagas of one step."""
+    """Return a service for sagas of one step."""
     with served(
         tmp_path_factory.mktemp("ones"), {"one.toml": ONE}
     ) as service, service.client() as client:
@@ -418,14 +432,16 @@ def ones(tmp_path_factory: pytest.TempPathFactory) -> Iterator[tuple[Served, htt
 
 
 def left_open(client: httpx.Client) -> list[str]:
-    """The sagas that do not end, although their tasks were reported."""
+    """Return the sagas that do not end, although their tasks were reported."""
     for saga in client.get("/v1/sagas?phase=open").json()["sagas"]:
         client.get(f"/v1/sagas/{saga['key']}/wait?seconds=20", timeout=LONG)
     return [saga["key"] for saga in client.get("/v1/sagas?phase=open").json()["sagas"]]
 
 
 def test_reports_together(ones: tuple[Served, httpx.Client]) -> None:
-    """Each counts as if it was sent alone, and has its own problem; what is not of its shape is refused before anything is kept."""
+    """Each counts as if it was sent alone, and has its own problem; a malformed one is refused
+    before anything is stored.
+    """
     _, client = ones
     for number in range(6):
         start(client, "one", f"together-{number}")
@@ -457,12 +473,12 @@ def test_reports_together(ones: tuple[Served, httpx.Client]) -> None:
     ):
         assert wrong.status_code == 422
     assert sent(reports[0], {**reports[2], "error": None}).json()["field"] == "reports.1.error"
-    told = sent(*reports, next={"steps": ["one/a"]}).json()
-    assert [one["attempt_id"] for one in told["reports"]] == [one["attempt_id"] for one in reports]
-    assert [one["kept"] for one in told["reports"]] == [True] * 4 + [False] * 2 and told["next"][
+    reply = sent(*reports, next={"steps": ["one/a"]}).json()
+    assert [one["attempt_id"] for one in reply["reports"]] == [one["attempt_id"] for one in reports]
+    assert [one["kept"] for one in reply["reports"]] == [True] * 4 + [False] * 2 and reply["next"][
         "unknown_steps"
     ] == []
-    assert [one["problem"]["type"].rpartition(":")[2] for one in told["reports"][4:]] == [
+    assert [one["problem"]["type"].rpartition(":")[2] for one in reply["reports"][4:]] == [
         "InvalidLease"
     ] * 2
     again = sent(*reports[:3], {**reports[2], "outcome": "complete"}).json()
@@ -477,7 +493,7 @@ def test_reports_together(ones: tuple[Served, httpx.Client]) -> None:
 
 
 def test_a_worker_takes_short_ones_ahead(ones: tuple[Served, httpx.Client]) -> None:
-    """As many in one question as it does in a short time, and long ones one at a time."""
+    """It claims as many in one request as it does in a short time, and long ones one at a time."""
     service, client = ones
     for seconds, count in ((0.0, 40), (0.15, 4)):
         calls = Calls()
@@ -497,8 +513,10 @@ def test_a_worker_takes_short_ones_ahead(ones: tuple[Served, httpx.Client]) -> N
     assert not left_open(client)
 
 
-def test_what_a_worker_took_ahead(ones: tuple[Served, httpx.Client]) -> None:
-    """Where a function is slow, or the worker is stopped, what stands in its queue is soon another's, long before its lease is over; each is done once."""
+def test_tasks_that_a_worker_claimed_ahead(ones: tuple[Served, httpx.Client]) -> None:
+    """If a function is slow, or the worker is stopped, other workers soon get the tasks in its
+    queue, long before its lease is over; each is done once.
+    """
     service, client = ones
     reclaimed = [
         line
@@ -507,7 +525,7 @@ def test_what_a_worker_took_ahead(ones: tuple[Served, httpx.Client]) -> None:
     ]
     assert len(reclaimed) == 1
     for stopped in (False, True):
-        calls, before = Calls(), service.told().count("/heartbeat 200")
+        calls, before = Calls(), service.log_text().count("/heartbeat 200")
         slow, other = Asking(service.url, concurrency=1, lease=600.0), Asking(service.url)
         slow.step("one", "a")(calls.of("slow", holds=slow))
         other.step("one", "a")(calls.of("other"))
@@ -524,7 +542,7 @@ def test_what_a_worker_took_ahead(ones: tuple[Served, httpx.Client]) -> None:
             finally:
                 calls.hold.set()
         assert calls.count("slow") == count and len(set(calls.all)) == 20
-        assert service.told().count("/heartbeat 200") - before >= sum(slow.given) - count
+        assert service.log_text().count("/heartbeat 200") - before >= sum(slow.given) - count
         assert not left_open(client) and reclaimed[0] in client.get("/metrics").text.splitlines()
 
 
@@ -557,9 +575,9 @@ class Workers:
                 start_new_session=True,
             )
 
-    def kill(self, place: int) -> None:
-        self._end(self.there[place])
-        self.there[place] = self._start(self.commands[place])
+    def kill(self, index: int) -> None:
+        self._end(self.there[index])
+        self.there[index] = self._start(self.commands[index])
 
     def _end(self, process: subprocess.Popen[bytes]) -> None:
         with contextlib.suppress(ProcessLookupError):
@@ -576,8 +594,9 @@ class Workers:
 
 @contextlib.contextmanager
 def hotel(answer: bytes) -> Iterator[str]:
-    """A hotel that answers so to whatever it is asked, and then ends the connection; gives its
-    address."""
+    """Run a hotel that gives this response to each request, and then ends the connection; return
+    its address.
+    """
     with socket.create_server((host(), 0)) as listening:
         threading.Thread(target=accept, args=(listening, answer), daemon=True).start()
         yield "http://%s:%d/" % listening.getsockname()
@@ -594,7 +613,7 @@ def accept(listening: socket.socket, answer: bytes) -> None:
             one.recv(65536)
             one.sendall(answer)
             one.shutdown(socket.SHUT_WR)
-            while one.recv(65536):  # whatever is still to come: else the answer would be lost
+            while one.recv(65536):  # the data still to come: else the response would be lost
                 pass
 
 
@@ -614,35 +633,36 @@ FULL = b"HTTP/1.1 409 Conflict\r\nContent-Length: 0\r\nConnection: close\r\n\r\n
 def test_the_worker_in_node_does_not_know(
     tmp_path: pathlib.Path, answer: bytes, says: str | None
 ) -> None:
-    """Where the line to the hotel goes dead, that is unknown, since the hotel may have booked; a
-    refusal is a failure."""
+    """If its connection to the hotel breaks, the outcome is unknown, since the hotel may have
+    booked; a refusal is a failure.
+    """
     files = {path.name: path.read_text() for path in (EXAMPLES / "definitions").glob("*.toml")}
     node = shutil.which("node")
     assert node
     with served(tmp_path, files) as service, service.client() as client, hotel(answer) as address:
         start(client, "trip", "t")
         all_done(client, "trip/flight")
-        words = [node, str(EXAMPLES / "worker.mjs"), service.url]
-        with subprocess.Popen(words, env=environment() | {"HOTEL": address}) as worker:
+        command = [node, str(EXAMPLES / "worker.mjs"), service.url]
+        with subprocess.Popen(command, env=environment() | {"HOTEL": address}) as worker:
             try:
-                deadline, found = time.monotonic() + LONG, []
-                while not found:
+                deadline, entries = time.monotonic() + LONG, []
+                while not entries:
                     assert time.monotonic() < deadline
                     log = client.get("/v1/sagas/t/log").json()["events"]
                     waits = client.get("/v1/sagas/t").json()["waits"]
-                    found = [
+                    entries = [
                         one["said"]
                         for one in waits
                         if (one["step"], one["why"]) == ("hotel", "unknown") and one["said"]
                     ]
-                    found += [
+                    entries += [
                         one["value"]["error"]
                         for one in log
                         if (one["event"], one["step"]) == ("missed", "hotel")
                     ]
             finally:
                 worker.kill()
-    assert (says or "the hotel answers 409") in found[0]
+    assert (says or "the hotel answers 409") in entries[0]
     missed = [one for one in log if one["event"] in ("missed", "fail") and one["step"] == "hotel"]
     assert bool(missed) is (says is None)
 
@@ -660,8 +680,8 @@ def test_the_examples_go_on(tmp_path: pathlib.Path) -> None:
             service.start()
             for key in keys[3:]:
                 start(client, "trip", key, {"to": "Rome"})
-            for place in range(3):
-                workers.kill(place)
+            for index in range(3):
+                workers.kill(index)
             waiting = set(keys)
             deadline = time.monotonic() + 2 * LONG
             while waiting and time.monotonic() < deadline:

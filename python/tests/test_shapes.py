@@ -40,7 +40,7 @@ from sagas.definition.shelf import Fitted, DefinitionRegistry
 
 
 def names(saga: sagas.Saga, input: Any) -> dict[str, list[str]]:
-    """The steps of a shape with what they need."""
+    """Return the steps of a shape with their needs."""
     steps = tomllib.loads(saga.toml(input))["step"]
     return {step["name"]: step.get("needs", []) for step in steps}
 
@@ -52,7 +52,7 @@ def names(saga: sagas.Saga, input: Any) -> dict[str, list[str]]:
 def test_a_step_for_each_item(count: int) -> None:
     trial = sagas.testing.run(order, parcels(count))
     assert trial.ok
-    sent = [f"{place}:t{place}" for place in range(count)]
+    sent = [f"{location}:t{location}" for location in range(count)]
     assert trial.result_of(mail) == trial.result_of(ship) == sent
     assert len(trial.states) == 2 + 2 * count
 
@@ -64,29 +64,31 @@ def test_no_item_leaves_the_order_of_the_others() -> None:
 
 
 def test_each_needs_its_own_and_all_need_all() -> None:
-    told = names(order, parcels(2))
-    assert told["label-1"] == ["ship-1"]
-    assert told["mail"] == ["label-0", "label-1"]  # wrap is not there: what it needs
+    needs_of = names(order, parcels(2))
+    assert needs_of["label-1"] == ["ship-1"]
+    assert needs_of["mail"] == ["label-0", "label-1"]  # wrap is missing: what it needs
 
 
 @pytest.mark.parametrize("count, bad", [(1, 0), (3, 1), (50, 20)])
 def test_one_item_fails_and_the_plan_chooses_by_cost(count: int, bad: int) -> None:
-    """A parcel that is worth less than 10 stands; the others are called back."""
+    """A parcel that is worth less than 10 is kept; the others are called back."""
     trial = sagas.testing.run(order, parcels(count, bad))
-    for place in range(count):
-        state = trial.states[f"ship-{place}"]
-        wanted = "failed" if place == bad else "committed" if place < 10 else "undone"
-        assert state == wanted, place
+    for location in range(count):
+        state = trial.states[f"ship-{location}"]
+        wanted = "failed" if location == bad else "committed" if location < 10 else "undone"
+        assert state == wanted, location
     assert trial.errors == {f"ship-{bad}": "sagas.Fail: no such address"}
-    stands = {place: f"{place}:t{place}" for place in range(min(count, 10)) if place != bad}
+    stands = {
+        location: f"{location}:t{location}" for location in range(min(count, 10)) if location != bad
+    }
     assert trial.each(ship) == stands
     with pytest.raises(KeyError, match="is not committed"):
         trial.result_of(ship)
 
 
-def test_with_few_at_once_what_has_not_begun_does_not_begin() -> None:
+def test_a_closing_store_starts_no_waiting_attempt() -> None:
     trial = sagas.testing.run(order, parcels(20, 3), concurrency=4)
-    states = [trial.states[f"ship-{place}"] for place in range(20)]
+    states = [trial.states[f"ship-{location}"] for location in range(20)]
     assert states[:4] == ["committed"] * 3 + ["failed"] and set(states[8:]) == {"waiting"}
 
 
@@ -98,10 +100,12 @@ def test_scripts_name_all_items_or_one() -> None:
     assert sagas.testing.run(order, parcels(3), fail={"ship-1": 2}).states["ship-1"] == "failed"
     with pytest.raises(KeyError, match="did you mean 'ship'"):
         sagas.testing.run(order, parcels(3), fail={"shop": 1})
-    said = "no step 'ship-7' for this input: the items of step 'ship' are ship-0, ship-1, ship-2. "
-    for words in ({"fail": {"ship-7": 1}}, {"abort": "ship-7"}, {"unknown_undo": {"ship-7": 1}}):
-        with pytest.raises(KeyError, match=said):
-            sagas.testing.run(order, parcels(3), **words)
+    message = (
+        "no step 'ship-7' for this input: the items of step 'ship' are ship-0, ship-1, ship-2. "
+    )
+    for script in ({"fail": {"ship-7": 1}}, {"abort": "ship-7"}, {"unknown_undo": {"ship-7": 1}}):
+        with pytest.raises(KeyError, match=message):
+            sagas.testing.run(order, parcels(3), **script)
     with pytest.raises(KeyError, match="the items of step 'ship' are none"):
         sagas.testing.run(order, parcels(0), fail={"ship-0": 1})
     with pytest.raises(KeyError, match="are ship-0, ship-1, ship-2 and others"):
@@ -109,7 +113,7 @@ def test_scripts_name_all_items_or_one() -> None:
     assert sagas.testing.run(order, parcels(0), fail={ship: 1, "wrap": 1}).ok
 
 
-def test_a_dict_gives_keys_beside_the_numbers() -> None:
+def test_a_dict_has_keys_and_numbers() -> None:
     saga = sagas.Saga("keyed")
 
     @saga.step(
@@ -126,8 +130,8 @@ def test_a_dict_gives_keys_beside_the_numbers() -> None:
 
     input = {"items": [{"sku": "Piano 1/2 \0", "count": 1}, {"sku": "lämp", "count": 3}]}
     trial = sagas.testing.run(saga, input)
-    found = {"Piano 1/2 \0": "1 of Piano 1/2 \0", "lämp": "3 of lämp"}
-    assert trial.result_of(pack) == trial.result_of(pick) == trial.each(pick) == found
+    results = {"Piano 1/2 \0": "1 of Piano 1/2 \0", "lämp": "3 of lämp"}
+    assert trial.result_of(pack) == trial.result_of(pick) == trial.each(pick) == results
     assert list(trial.states) == ["pick-0", "pick-1", "pack"]
 
 
@@ -155,13 +159,13 @@ def test_items_are_new_objects() -> None:
     assert sagas.testing.run(saga, {"lists": [[0]]}).result_of("work") == [True]
 
 
-# -- what is wrong
+# -- errors
 
 
-def broken(**words: Any) -> sagas.Saga:
+def broken(**options: Any) -> sagas.Saga:
     saga = sagas.Saga("wrong")
 
-    @saga.step(**words)
+    @saga.step(**options)
     def many(task: sagas.Task[Any]) -> None:
         ...
 
@@ -172,14 +176,14 @@ SECRET = "4111-1111"
 
 
 class Odd(str):
-    """A value that is neither true nor false, and says what it is."""
+    """A value that is neither true nor false, and reports its name."""
 
     def __bool__(self) -> bool:
         raise ValueError(self)
 
 
 @pytest.mark.parametrize(
-    "words, input, told",
+    "options, input, message",
     [
         ({"for_each": "many"}, {}, "for_each= raised KeyError"),
         ({"for_each": "many"}, {"many": 3}, "for_each returned a int: it must be a list"),
@@ -197,9 +201,9 @@ class Odd(str):
         ({"for_each": lambda i: [10**5000]}, {}, "an item: Exceeds the limit"),
     ],
 )
-def test_what_is_wrong_is_told_without_the_input(words: Any, input: Any, told: str) -> None:
-    with pytest.raises(sagas.InvalidInput, match=told) as caught:
-        sagas.testing.run(broken(**words), input)
+def test_errors_do_not_contain_the_input(options: Any, input: Any, message: str) -> None:
+    with pytest.raises(sagas.InvalidInput, match=message) as caught:
+        sagas.testing.run(broken(**options), input)
     assert SECRET not in str(caught.value) and caught.value.__cause__ is None
 
 
@@ -224,14 +228,14 @@ def test_declarations_that_are_wrong() -> None:
             ...
 
         other.check()
-    for words, told in (
+    for options, message in (
         ({"for_each": 3}, "for_each=3: must be the name of a part"),
         ({"when": True}, "when=True: must be a plain function"),
         ({"keep": -1}, "keep=-1: must be an integer"),
         ({"for_each": "x", "name": "a" * 28}, "at most 27"),
     ):
-        with pytest.raises(sagas.DefinitionError, match=told):
-            broken(**words)
+        with pytest.raises(sagas.DefinitionError, match=message):
+            broken(**options)
     with pytest.raises(sagas.DefinitionError, match="undo=.* has no compensation"):
         broken(undo=lambda input: 3).check()
 
@@ -258,7 +262,7 @@ def test_an_inclusion_in_itself() -> None:
         saga.check()
 
 
-def test_a_shaped_child_is_refused_where_its_costs_are_asked() -> None:
+def test_a_shaped_child_is_refused_where_its_costs_are_needed() -> None:
     parent = sagas.Saga("parent")
     stay = parent.child(order, input=lambda task: task.input)
     with pytest.raises(sagas.DefinitionError, match="its costs as a child are not known"):
@@ -269,7 +273,7 @@ def test_a_shaped_child_is_refused_where_its_costs_are_asked() -> None:
 # -- conditions
 
 
-def test_a_step_that_is_not_there() -> None:
+def test_a_missing_step() -> None:
     assert "wrap" in names(order, Order(gift=True)) and "wrap" not in names(order, Order())
     assert sagas.testing.run(order, Order([Parcel("a")], gift=True)).result_of(wrap) == "wrapped"
     with pytest.raises(KeyError, match="'wrap' does not exist for this input"):
@@ -292,8 +296,8 @@ def test_costs_come_from_the_item_and_the_input() -> None:
 
 
 def test_inclusion_two_deep() -> None:
-    told = names(trip, Trip(Package(Hotel("Rome", ["a", "b"]), ["vw", "bmw"])))
-    assert told == {
+    needs_of = names(trip, Trip(Package(Hotel("Rome", ["a", "b"]), ["vw", "bmw"])))
+    assert needs_of == {
         "flight": [],
         "p-hotel-book": ["flight"],
         "p-hotel-room-0": ["p-hotel-book"],
@@ -317,7 +321,7 @@ def test_one_plan_over_all_that_is_included() -> None:
     assert [call.step for call in trial.undone][-1] == "p-hotel-book"
 
 
-def test_the_included_saga_goes_on_by_itself() -> None:
+def test_the_included_saga_continues_by_itself() -> None:
     trial = sagas.testing.run(booking, Hotel("Bonn", ["x"], True))
     assert trial.result_of(confirm) == ["booked in Bonn", ["booked in Bonn: x"], None]
 
@@ -341,12 +345,12 @@ def test_an_inclusion_of_nothing_is_passed_through() -> None:
 
 
 def test_a_long_chain_of_steps_that_are_left_out() -> None:
-    """What needs the last of them needs what the first one needs."""
+    """A step that needs the last of them needs what the first one needs."""
     chain = sagas.Saga("chain")
     last = chain.step(name="first")(lambda task: None)
     for number in range(700):
-        words = {"when": lambda input: False} if number % 2 else {"for_each": lambda input: []}
-        last = chain.step(name=f"s{number}", needs=[last], **words)(lambda task: None)
+        options = {"when": lambda input: False} if number % 2 else {"for_each": lambda input: []}
+        last = chain.step(name=f"s{number}", needs=[last], **options)(lambda task: None)
     chain.step(name="last", needs=[last])(lambda task: None)
     assert names(chain, None) == {"first": [], "last": ["first"]}
 
@@ -369,8 +373,8 @@ def test_an_inclusion_for_each_item_needs_that_of_the_same() -> None:
 
         return task.result_of(first[take])
 
-    told = names(saga, {"cars": ["x", "y"]})
-    assert told["b-1-take"] == ["a-1-take"] and told["last"] == ["b-0-take", "b-1-take"]
+    needs_of = names(saga, {"cars": ["x", "y"]})
+    assert needs_of["b-1-take"] == ["a-1-take"] and needs_of["last"] == ["b-0-take", "b-1-take"]
     assert sagas.testing.run(saga, {"cars": ["x", "y"]}).result_of(last) == ["x", "y"]
     assert sagas.testing.run(saga, {"cars": []}).result_of(last) == []
 
@@ -403,7 +407,7 @@ def test_the_names_of_shapes_are_those_of_the_package() -> None:
 
 
 def batch() -> tuple[sagas.Saga, sagas.FanOut[list[float], float], list[Any]]:
-    """A saga whose items may fail, and what its compensation was called with."""
+    """Return a saga whose items may fail, and the arguments of its compensation's calls."""
     saga, undone = sagas.Saga("batch"), list[Any]()
 
     @saga.step(for_each="numbers", tries=2)
@@ -422,10 +426,10 @@ def test_a_failure_that_is_collected() -> None:
 
     @saga.step(needs=[sagas.collect(invert)], undo=0)
     def report(task: sagas.Task[Any]) -> Any:
-        found = task.result_of(sagas.collect(invert))
+        collected = task.result_of(sagas.collect(invert))
         with pytest.raises(sagas.StepFailed, match="'invert-1' failed"):
             task.result_of(invert)
-        return [list(found.results.values()), list(found.errors)]
+        return [list(collected.results.values()), list(collected.errors)]
 
     trial = sagas.testing.run(saga, {"numbers": [2, 0, 4]})
     assert trial.ok and trial.result_of(report) == [[0.5, 0.25], [1]]
@@ -466,7 +470,7 @@ def test_a_fan_out_without_a_cost_of_skipping_is_warned_of() -> None:
 
 
 def test_all_of_one_fan_out_for_each_of_another() -> None:
-    """A step in between, so that 8,192 needs are no limit."""
+    """There is a step in between, so that the limit of 8,192 needs is not reached."""
     saga = sagas.Saga("wide")
 
     @saga.step(for_each="a", undo=0)
@@ -535,14 +539,22 @@ def last(task: sagas.Task[Order]) -> None:
 """
 
 
-def test_a_wrong_type_of_items_is_found(tmp_path: pathlib.Path) -> None:
+def test_a_wrong_type_of_items_is_detected(tmp_path: pathlib.Path) -> None:
     path, source = tmp_path / "typed.py", pathlib.Path(__file__).resolve().parents[1] / "src"
     path.write_text(TYPED)
-    words = [sys.executable, "-m", "mypy", "--strict", "--cache-dir", types_in(tmp_path), str(path)]
+    command = [
+        sys.executable,
+        "-m",
+        "mypy",
+        "--strict",
+        "--cache-dir",
+        types_in(tmp_path),
+        str(path),
+    ]
     environment = os.environ | {"MYPYPATH": str(source)}
-    done = subprocess.run(words, capture_output=True, text=True, env=environment, check=False)
-    told = [line for line in done.stdout.splitlines() if line.startswith(str(path))]
-    seen = [line.split("Revealed type is ")[1].strip('"') for line in told if "Revealed" in line]
+    done = subprocess.run(command, capture_output=True, text=True, env=environment, check=False)
+    lines = [line for line in done.stdout.splitlines() if line.startswith(str(path))]
+    seen = [line.split("Revealed type is ")[1].strip('"') for line in lines if "Revealed" in line]
     number = "builtins.int"
     key = f"Union[{number}, builtins.str]"
     assert seen == [
@@ -551,17 +563,19 @@ def test_a_wrong_type_of_items_is_found(tmp_path: pathlib.Path) -> None:
         number,
         f"builtins.dict[{key}, {number}]",
     ]
-    (error,) = [line for line in told if ": error: " in line]
+    (error,) = [line for line in lines if ": error: " in line]
     assert "ItemTask[Order, Letter]" in error and "ItemTask[Any, Parcel]" in error
 
 
-def fitted(shelf: DefinitionRegistry, saga: sagas.Saga, text: str) -> Fitted:
-    """The definition of a saga with an input, whose functions are called here."""
-    return shelf.fit(saga, text) or shelf.shaped(text, shelf.shaping(saga, text)())
+def fitted(definitions: DefinitionRegistry, saga: sagas.Saga, text: str) -> Fitted:
+    """Return the definition of a saga with an input, whose functions are called here."""
+    return definitions.fit(saga, text) or definitions.shaped(
+        text, definitions.shaping(saga, text)()
+    )
 
 
 def test_definitions_that_differ_in_costs_share_the_rest() -> None:
-    """Each has the text that it has if it is written alone, also read back from a store."""
+    """Each has the text of a separately written one, also when it is read back from a store."""
     saga = sagas.Saga("costs")
 
     def cost(item: int) -> Any:
@@ -583,8 +597,8 @@ def test_definitions_that_differ_in_costs_share_the_rest() -> None:
         for count in range(3)
         for last in (0, 1)
     ]
-    shelf, again = DefinitionRegistry([saga]), DefinitionRegistry([saga])
-    kinds = [fitted(shelf, saga, serialization.write(given)).kind for given in inputs]
+    definitions, again = DefinitionRegistry([saga]), DefinitionRegistry([saga])
+    kinds = [fitted(definitions, saga, serialization.write(given)).kind for given in inputs]
     shared: dict[int, list[str]] = {}
     for given, kind in zip(inputs, kinds):
         assert kind is not None
@@ -592,5 +606,5 @@ def test_definitions_that_differ_in_costs_share_the_rest() -> None:
         assert kind.lacks() is None and again.kind(kind.text).lacks() is None
         assert kind.names == [step["name"] for step in tomllib.loads(kind.text)["step"]]
         shared.setdefault(id(kind.actions), []).append(kind.text)
-    assert len(shared) == 6  # so many structures
+    assert len(shared) == 6  # the number of structures
     assert all(len({*texts}) == 3 for texts in shared.values())  # 0 and 3 cost the same

@@ -1,5 +1,7 @@
-"""Sagas whose steps come from their input, each kind of input in each way: over both databases with
-a restart in the middle, by a client, and with a node that takes over from another one."""
+"""Sagas whose steps come from their input, each kind of input in each way.
+
+Over both databases with a restart, by a client, and with a node that takes over from another one.
+"""
 
 from __future__ import annotations
 
@@ -19,7 +21,7 @@ from sagas.engine.plan import Plan
 
 many = sagas.Saga("many")
 FEW = 14
-"""Steps of a plan that is compared with each other plan there is."""
+"""Steps of a plan that is compared with each other possible plan."""
 KEYS = ["", " ", "ship-0", "a/b[1]", "é\u202e\U0001f600", "x" * 400, '"\\\n', "ship"]
 
 
@@ -46,8 +48,7 @@ def last(task: sagas.Task[Any]) -> Any:
 
 
 class Case(NamedTuple):
-    """An input, and what becomes of it: how many steps it gives, and the result of a step if all
-    goes well."""
+    """An input, and its result: the number of steps, and the result of a step if all succeeds."""
 
     saga: sagas.Saga
     given: Any
@@ -57,37 +58,37 @@ class Case(NamedTuple):
 
 
 def items(count: int, twice: bool = False, **more: Any) -> Case:
-    """A list of so many, each once or twice."""
+    """Return a list of `count` items, each once or twice."""
     given = {"items": [number % 12 for number in range(count)], "twice": twice}
     result = [[number, number % 12] for number in range(count)]
     return Case(many, given | more, count * (2 if twice else 1) + 1, last, result)
 
 
 def keyed(**more: Any) -> Case:
-    """Keys that are no names."""
-    found = {key: number for number, key in enumerate(KEYS)}
-    result = {key: [key, number] for key, number in found.items()}
-    return Case(many, {"items": found, **more}, len(KEYS) + 1, last, result)
+    """Return keys that are not names."""
+    numbered = {key: number for number, key in enumerate(KEYS)}
+    result = {key: [key, number] for key, number in numbered.items()}
+    return Case(many, {"items": numbered, **more}, len(KEYS) + 1, last, result)
 
 
 def travel(rooms: int, cars: list[str], breakfast: bool) -> Case:
-    """Inclusions two deep, and one for each item."""
+    """Return inclusions two deep, and one for each item."""
     names = [f"r{number}" for number in range(rooms)]
     given = Trip(Package(Hotel("Rome", names, breakfast), cars))
-    told = [f"booked in Rome: {name}" for name in names]
-    result = ["LH1", ["booked in Rome", told, "by LH1"], told, cars]
+    booked = [f"booked in Rome: {name}" for name in names]
+    result = ["LH1", ["booked in Rome", booked, "by LH1"], booked, cars]
     steps = 4 + rooms + len(cars) + breakfast
     return Case(trip, given, steps, shaped.tour, result)
 
 
 def sent(count: int, gift: bool = False) -> Case:
-    """Orders of parcels."""
+    """Return orders of parcels."""
     given = Order(parcels(count).parcels, gift)
     return Case(order, given, 2 + 2 * count + gift, ship, [f"{n}:t{n}" for n in range(count)])
 
 
 def bad(case: Case, given: Any) -> Case:
-    """Of these one item fails, so that a plan is made."""
+    """Return the case with an item that fails, so that a plan is made."""
     return Case(case.saga, given, case.steps)
 
 
@@ -123,20 +124,20 @@ def is_closed(kept: set[str], needs: dict[str, list[str]]) -> bool:
 
 
 def least_of_all(plan: Plan) -> int:
-    """The least cost of all plans, each of which is tried."""
+    """Return the least cost of all plans, each of which is tried."""
     needs = {one["name"]: one.get("needs", []) for one in shape_text.steps(plan.definition)}
     costs = {one.step: (one.cost_to_keep, one.cost_to_drop) for one in plan.choices}
-    found = []
+    sums = []
     for word in itertools.product((True, False), repeat=len(costs)):
         kept = {step for step, is_kept in zip(costs, word) if is_kept}
         some = [costs[step][0 if step in kept else 1] for step in costs]
         if None not in some and is_closed(kept, needs):
-            found.append(sum(cost for cost in some if cost is not None))
-    return min(found)
+            sums.append(sum(cost for cost in some if cost is not None))
+    return min(sums)
 
 
 async def judged(store: Any, key: str, case: Case) -> None:
-    """The end is as wanted; a plan is the least of all."""
+    """Check that the end is as wanted; a plan is the least of all."""
     end = await store.wait(key, 120)
     assert len(end.states) == case.steps
     if case.of is not None:
@@ -151,43 +152,43 @@ async def judged(store: Any, key: str, case: Case) -> None:
 
 
 @contextlib.asynccontextmanager
-async def restarted(place: str) -> Any:
-    """A store that is closed in the middle, and opened again."""
+async def restarted(location: str) -> Any:
+    """Return a store that is closed halfway, and opened again."""
 
     async def begin() -> None:
-        async with sagas.open(place, SAGAS, shutdown_timeout=0) as store:
+        async with sagas.open(location, SAGAS, shutdown_timeout=0) as store:
             for name, case in CASES.items():
                 await store.start(case.saga, name, case.given)
 
     await begin()
-    async with sagas.open(place, SAGAS) as store:
+    async with sagas.open(location, SAGAS) as store:
         yield store
-        assert all(said.startswith("yes") for said in (await store.audit()).values())
+        assert all(verdict.startswith("yes") for verdict in (await store.audit()).values())
 
 
 @contextlib.asynccontextmanager
-async def by_a_client(place: str) -> Any:
-    """A client that starts them, and a node."""
-    async with sagas.open(place, SAGAS) as _, sagas.Client(place) as client:
+async def by_a_client(location: str) -> Any:
+    """Return a client that starts them, and a node."""
+    async with sagas.open(location, SAGAS) as _, sagas.Client(location) as client:
         for name, case in CASES.items():
             await client.start(case.saga, name, case.given)
         yield client
 
 
 @contextlib.asynccontextmanager
-async def taken_over(place: str) -> Any:
-    """A node that is closed in the middle; another one takes over."""
-    first = sagas.open(place, SAGAS, node="a", lease=1, shutdown_timeout=0)
-    async with sagas.open(place, SAGAS, node="b", lease=1) as second:
+async def taken_over(location: str) -> Any:
+    """Return a node that is closed halfway; another one takes over."""
+    first = sagas.open(location, SAGAS, node="a", lease=1, shutdown_timeout=0)
+    async with sagas.open(location, SAGAS, node="b", lease=1) as second:
         async with first:
             for name, case in CASES.items():
                 await first.start(case.saga, name, case.given)
         yield second
 
 
-def test_after_a_restart(place: str) -> None:
+def test_after_a_restart(location: str) -> None:
     async def main() -> None:
-        async with restarted(place) as store:
+        async with restarted(location) as store:
             for name, case in CASES.items():
                 await judged(store, name, case)
 

@@ -1,4 +1,4 @@
-"""Steps of items, and of included sagas, where others meet them: tasks over HTTP, events, metrics."""
+"""Steps of items, and of included sagas, outside of the store: tasks over HTTP, events, metrics."""
 
 from __future__ import annotations
 
@@ -27,21 +27,28 @@ def module(folder: pathlib.Path) -> None:
 
 
 def test_tasks_of_items(tmp_path: pathlib.Path) -> None:
-    """A task says its declared step and its item; a list has numbers, an object keys beside. The metrics count by the declared step."""
+    """A task has its declared step and its item; a list has numbers, an object also keys.
+
+    The metrics count by the declared step.
+    """
     module(tmp_path)
     with served(
         tmp_path, {"one.toml": ONE}, "--app", "shop:store"
     ) as service, service.client() as client:
         start(client, "order", "list", {"parcels": ["book", "lamp"]})
-        found = {task["index"]: task for task in (take(client, "order/ship")[0] for _ in range(2))}
-        assert [(found[at]["step"], found[at]["item"], found[at]["item_key"]) for at in (0, 1)] == [
+        claimed = {
+            task["index"]: task for task in (take(client, "order/ship")[0] for _ in range(2))
+        }
+        assert [
+            (claimed[at]["step"], claimed[at]["item"], claimed[at]["item_key"]) for at in (0, 1)
+        ] == [
             ("ship-0", "book", None),
             ("ship-1", "lamp", None),
         ]
-        assert {task["declared_step"] for task in found.values()} == {"ship"}
-        assert {task["name"] for task in found.values()} == {"order/ship"}
+        assert {task["declared_step"] for task in claimed.values()} == {"ship"}
+        assert {task["name"] for task in claimed.values()} == {"order/ship"}
         for at in (1, 0):
-            assert report(client, found[at], result=at).status_code == 200
+            assert report(client, claimed[at], result=at).status_code == 200
         (mail,) = take(client, "order/mail")
         assert mail["results"] == {"ship-0": 0, "ship-1": 1, "ship": [0, 1]}
         assert (mail["index"], mail["item"], mail["declared_step"]) == (None, None, "mail")
@@ -70,7 +77,7 @@ def test_tasks_of_items(tmp_path: pathlib.Path) -> None:
 
 
 def test_tasks_of_included_sagas(tmp_path: pathlib.Path) -> None:
-    """They are asked for by the path of their names, and see what their own saga has."""
+    """They are claimed by the path of their names, and see the results of their own saga."""
     module(tmp_path)
     with served(
         tmp_path, {"one.toml": ONE}, "--app", "shop:store"
@@ -119,13 +126,13 @@ def test_a_worker_s_function_reads_its_item(tmp_path: pathlib.Path) -> None:
 
         with working(worker):
             start(client, "order", "k", {"parcels": {"x y": {"to": "Rome"}}})
-            told = client.get("/v1/sagas/k/wait?seconds=60").json()
-        assert told["results"]["mail"] == {"x y": "x y!"}
+            saga = client.get("/v1/sagas/k/wait?seconds=60").json()
+        assert saga["results"]["mail"] == {"x y": "x y!"}
         assert calls == [("ship-0", "ship", "x y", {"to": "Rome"}, True)]
 
 
 def test_events_of_items(tmp_path: pathlib.Path) -> None:
-    """They name the declared step, with the number or key of the item beside."""
+    """They name the declared step, with the number or key of the item."""
     order = sagas.Saga("order")
 
     @order.step(for_each="parcels")
@@ -146,12 +153,12 @@ def test_events_of_items(tmp_path: pathlib.Path) -> None:
             ).wait()
 
     asyncio.run(main())
-    found = {
+    steps_seen = {
         (event.step, event.index)
         for event in events
         if event.name in ("step_succeeded", "step_failed")
     }
-    assert found == {("ship", "a"), ("ship", "b"), ("bill", None)}
+    assert steps_seen == {("ship", "a"), ("ship", "b"), ("bill", None)}
 
 
 GIVING = """
@@ -180,8 +187,10 @@ store = sagas.open("unused.db", [order, trip, outer])
 """
 
 
-def test_what_is_given_to_a_worker(tmp_path: pathlib.Path) -> None:
-    """`given=` is computed where a task is handed out, also of a compensation, and two deep; if it raises, the attempt fails, as a function that raises."""
+def test_given_arguments_at_a_worker(tmp_path: pathlib.Path) -> None:
+    """`given=` is computed when a task is offered, also for a compensation, and two deep; if it
+    raises, the attempt fails, as with a function that raises.
+    """
     (tmp_path / "shop.py").write_text(GIVING)
     with served(
         tmp_path, {"one.toml": ONE}, "--app", "shop:store"
@@ -196,7 +205,7 @@ def test_what_is_given_to_a_worker(tmp_path: pathlib.Path) -> None:
         report(client, tasks[0], result=1)
         report(client, tasks[1], "fail", error="no", final=True)
         assert client.get("/v1/sagas/good/wait?seconds=60").json()["over"]
-        for flight, said in (
+        for flight, message in (
             ("bad", "ValueError: no given here"),
             ("never", "sagas.Fail: nothing to give"),
             ("none", "NotSerializable"),
@@ -210,7 +219,7 @@ def test_what_is_given_to_a_worker(tmp_path: pathlib.Path) -> None:
             )
             end = client.get(f"/v1/sagas/{flight}/wait?seconds=60").json()
             assert end["phase"] == "recovered" and "given= raised" in end["errors"]["box-ship-0"]
-            assert said in end["errors"]["box-ship-0"]
+            assert message in end["errors"]["box-ship-0"]
         attempts = [
             one
             for one in client.get("/v1/sagas/bad/timeline").json()["attempts"]
@@ -219,16 +228,16 @@ def test_what_is_given_to_a_worker(tmp_path: pathlib.Path) -> None:
         assert len(attempts) == 2
         start(client, "outer", "deep", {"trips": [{"flight": "X", "parcels": {"k": 1}}]})
         worker = sagas.Worker(service.url, wait=1.0)
-        found: list[Any] = []
+        seen: list[Any] = []
 
         @worker.step("outer", "inner/box/ship")
         def ship(task: sagas.Task[Any]) -> Any:
-            found.append((task.given, task.given is task.given, task.item, task.index))
+            seen.append((task.given, task.given is task.given, task.item, task.index))
             return None
 
         with working(worker):
             assert client.get("/v1/sagas/deep/wait?seconds=60").json()["phase"] == "completed"
-        assert found == [({"number": "X"}, False, 1, "k")]
+        assert seen == [({"number": "X"}, False, 1, "k")]
 
 
 ASKING = """
@@ -251,11 +260,13 @@ store = sagas.open("unused.db", [order])
 
 
 def test_approvals_of_items_and_of_included_sagas(tmp_path: pathlib.Path) -> None:
-    """An approver decides them, and no other step: not even one with the name under which an approval of items is declared."""
+    """An approver decides them, and no other step: not even one with the name under which an
+    approval of items is declared.
+    """
     (tmp_path / "shop.py").write_text(ASKING)
     approver, operator = (token(tmp_path, role, role) for role in ("approver", "operator"))
-    words = ("--token-file", str(tmp_path / "tokens.toml"))
-    with served(tmp_path, {"one.toml": ONE}, "--app", "shop:store", *words) as service:
+    options = ("--token-file", str(tmp_path / "tokens.toml"))
+    with served(tmp_path, {"one.toml": ONE}, "--app", "shop:store", *options) as service:
         with service.client(approver) as client, service.client(operator) as boss:
             start(boss, "order", "k", {"parcels": [1, 2], "legs": []})
             for step, status in (
@@ -278,15 +289,17 @@ def test_approvals_of_items_and_of_included_sagas(tmp_path: pathlib.Path) -> Non
 
 
 def test_an_approval_of_a_definition_that_is_elsewhere(tmp_path: pathlib.Path, url: str) -> None:
-    """A service without the definition cannot tell that it is one: it says so to an approver."""
+    """A service without the definition does not know that it is one: it reports that to an
+    approver.
+    """
     (tmp_path / "shop.py").write_text(ASKING)
     approver, operator = (token(tmp_path, role, role) for role in ("approver", "operator"))
-    words = ("--token-file", str(tmp_path / "tokens.toml"))
+    options = ("--token-file", str(tmp_path / "tokens.toml"))
     (tmp_path / "other").mkdir()
-    with served(tmp_path, {"one.toml": ONE}, "--app", "shop:store", *words, store=url) as one:
+    with served(tmp_path, {"one.toml": ONE}, "--app", "shop:store", *options, store=url) as one:
         with one.client(operator) as boss:
             start(boss, "order", "k", {"parcels": [1], "legs": []})
-    with served(tmp_path / "other", {"one.toml": ONE}, *words, store=url) as other:
+    with served(tmp_path / "other", {"one.toml": ONE}, *options, store=url) as other:
         with other.client(approver) as client:
             answer = client.post("/v1/sagas/k/steps/check-0/complete", json={"result": 1})
             assert (answer.status_code, error_of(answer)) == (403, "Forbidden")
@@ -322,9 +335,9 @@ def test_a_worker_asks_for_results_as_in_a_store(tmp_path: pathlib.Path, parcels
     room, ship, hotel, sure = (names[name] for name in ("room", "ship", "hotel", "near"))
     wrong: list[str] = []
 
-    def found(task: sagas.Task[Any], asked: Any) -> Any:
+    def result_or_error(task: sagas.Task[Any], step: Any) -> Any:
         try:
-            return task.result_of(asked)
+            return task.result_of(step)
         except (KeyError, sagas.StepFailed, sagas.ResultNotSerializable) as error:
             wrong.append(str(error))
             return type(error).__name__
@@ -342,12 +355,13 @@ def test_a_worker_asks_for_results_as_in_a_store(tmp_path: pathlib.Path, parcels
 
         @worker.step("trip", "label")
         def _label(task: sagas.Task[Any]) -> Any:
-            return found(task, ship.each)
+            return result_or_error(task, ship.each)
 
         @worker.step("trip", "tag")
         def _tag(task: sagas.Task[Any]) -> Any:
             return [
-                repr(found(task, one)) for one in (ship.each, ship, "ship", sagas.collect(ship))
+                repr(result_or_error(task, one))
+                for one in (ship.each, ship, "ship", sagas.collect(ship))
             ]
 
         @worker.step("trip", "room")
@@ -360,11 +374,11 @@ def test_a_worker_asks_for_results_as_in_a_store(tmp_path: pathlib.Path, parcels
 
         @worker.step("trip", "hotel/key")
         def _key(task: sagas.Task[Any]) -> Any:
-            return [found(task, room), found(task, sure)]
+            return [result_or_error(task, room), result_or_error(task, sure)]
 
         @worker.step("trip", "tour")
         def _tour(task: sagas.Task[Any]) -> Any:
-            asked = [
+            steps = [
                 hotel[room],
                 sure,
                 "room",
@@ -373,13 +387,13 @@ def test_a_worker_asks_for_results_as_in_a_store(tmp_path: pathlib.Path, parcels
                 room,
                 sagas.collect(ship),
             ]
-            return [repr(found(task, one)) for one in asked]
+            return [repr(result_or_error(task, one)) for one in steps]
 
         with working(worker):
             start(client, "trip", "k", {"parcels": parcels, "stays": ["x", "y"]})
-            told = client.get("/v1/sagas/k/wait?seconds=60").json()
-    assert told["phase"] == "completed", told["errors"]
-    results = told["results"]
+            saga = client.get("/v1/sagas/k/wait?seconds=60").json()
+    assert saga["phase"] == "completed", saga["errors"]
+    results = saga["results"]
     keys = [*parcels] if isinstance(parcels, dict) else [*range(len(parcels))]
     good = {key: f"{parcels[key]}!" for key in keys if parcels[key] != "bad"}
     collected = repr(
@@ -422,7 +436,7 @@ def test_a_worker_asks_for_the_result_that_it_undoes(tmp_path: pathlib.Path) -> 
     """By its step, as in a store: also in an included saga."""
     (tmp_path / "shop.py").write_text(UNDOING)
     exec(UNDOING, names := dict[str, Any]())
-    found: list[Any] = []
+    seen: list[Any] = []
     with served(
         tmp_path, {"one.toml": ONE}, "--app", "shop:store"
     ) as service, service.client() as client:
@@ -431,7 +445,7 @@ def test_a_worker_asks_for_the_result_that_it_undoes(tmp_path: pathlib.Path) -> 
 
         @worker.compensation("fair", "stall/ship")
         def unship(task: sagas.Task[Any]) -> None:
-            found.append((task.result, task.result_of(names["ship"].each)))
+            seen.append((task.result, task.result_of(names["ship"].each)))
 
         @worker.step("fair", "pay")
         def pay(task: sagas.Task[Any]) -> None:
@@ -441,4 +455,4 @@ def test_a_worker_asks_for_the_result_that_it_undoes(tmp_path: pathlib.Path) -> 
             start(client, "fair", "k", {"parcels": [1, 2]})
             end = client.get("/v1/sagas/k/wait?seconds=60").json()
         assert end["phase"] == "recovered", end
-    assert sorted(found) == [(2, 2), (4, 4)], (end["states"], end["plan"], end["errors"])
+    assert sorted(seen) == [(2, 2), (4, 4)], (end["states"], end["plan"], end["errors"])

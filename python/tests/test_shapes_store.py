@@ -28,24 +28,24 @@ from sagas.storage import admin
 ALL = [order, plain, trip, booking, shaped.package, shaped.hire]
 
 
-def rows(place: str, query: str) -> list[Any]:
-    """Rows of a query."""
-    with contextlib.closing(admin.connect(place)) as link:
+def rows(location: str, query: str) -> list[Any]:
+    """Return the rows of a query."""
+    with contextlib.closing(admin.connect(location)) as link:
         return [tuple(row) for row in link.ask(query)]
 
 
 async def ended(store: sagas.Store, saga: sagas.Saga, key: str, given: Any) -> sagas.SagaResult:
-    """A saga from its start to its end."""
+    """Run a saga to its end."""
     return await (await store.start(saga, key, given)).wait(120)
 
 
 def is_good(verdicts: dict[str, str]) -> bool:
-    """Whether each shard's audit says yes."""
-    return all(said.startswith("yes") for said in verdicts.values())
+    """Return whether each shard's audit passes."""
+    return all(verdict.startswith("yes") for verdict in verdicts.values())
 
 
-def test_many_shapes_among_fixed_sagas(place: str) -> None:
-    """Also after the store was opened again, each end is what it was."""
+def test_many_shapes_among_fixed_sagas(location: str) -> None:
+    """After a restart, each end is the same as before."""
 
     async def one(store: sagas.Store, number: int) -> sagas.SagaResult:
         if number % 4 == 3:
@@ -54,7 +54,7 @@ def test_many_shapes_among_fixed_sagas(place: str) -> None:
         return await ended(store, order, f"o{number}", given)
 
     async def main() -> None:
-        async with sagas.open(place, ALL) as store:
+        async with sagas.open(location, ALL) as store:
             ends = await asyncio.gather(*(one(store, number) for number in range(60)))
             for number, end in enumerate(ends):
                 if number % 4 == 3:
@@ -66,7 +66,7 @@ def test_many_shapes_among_fixed_sagas(place: str) -> None:
                     assert end.ok
                     assert end.result_of(ship) == [f"{item}:t{item}" for item in range(number)]
             assert is_good(await store.audit())
-        async with sagas.open(place, ALL) as store:
+        async with sagas.open(location, ALL) as store:
             for number, end in enumerate(ends):
                 again = await store.wait(f"{'p' if number % 4 == 3 else 'o'}{number}")
                 assert again == end
@@ -75,40 +75,42 @@ def test_many_shapes_among_fixed_sagas(place: str) -> None:
             assert is_good(await store.audit())
 
     run(main())
-    assert rows(place, "SELECT count(*) FROM shapes") == [(45,)]
+    assert rows(location, "SELECT count(*) FROM shapes") == [(45,)]
 
 
-def test_no_shard_is_without_a_definition(place: str) -> None:
-    """Also one whose first saga has a key that another one has, as a wrong guess finds out."""
+def test_no_shard_is_without_a_definition(location: str) -> None:
+    """This holds also if its first saga has a key that another one has, as a wrong guess
+    finds out.
+    """
 
     async def main() -> None:
-        async with sagas.open(place, [order, plain]) as store:
+        async with sagas.open(location, [order, plain]) as store:
             for number in range(40):  # new keys, so that the next one is guessed to be new, too
                 await ended(store, plain, f"p{number}", None)
             with pytest.raises(sagas.KeyConflict):
                 await store.start(order, "p3", parcels(2))
             assert is_good(await store.audit())
-        async with sagas.open(place, [order, plain]) as store:
-            await until(lambda: not rows(place, "SELECT 1 FROM shards WHERE closed = 0"))
+        async with sagas.open(location, [order, plain]) as store:
+            await until(lambda: not rows(location, "SELECT 1 FROM shards WHERE closed = 0"))
             assert is_good(await store.audit())
 
     run(main())
     lacking = "SELECT shard FROM shards WHERE shard NOT IN (SELECT shard FROM shard_definitions)"
-    assert rows(place, lacking) == []
-    assert rows(place, "SELECT count(*) FROM shards WHERE closed = 2") == [(0,)]
+    assert rows(location, lacking) == []
+    assert rows(location, "SELECT count(*) FROM shards WHERE closed = 2") == [(0,)]
 
 
 async def least(store: sagas.Store, key: str) -> int:
-    """What the saga's plan costs, which `sagas check` verifies to be the least."""
+    """Return the cost of the saga's plan, which `sagas check` verifies to be the least."""
     plan = await store.plan(key)
     assert plan and str(plan.check()).startswith("least")
     assert plan.cost is not None
     return plan.cost
 
 
-def test_inclusion_and_its_plan(place: str) -> None:
+def test_inclusion_and_its_plan(location: str) -> None:
     async def main() -> None:
-        async with sagas.open(place, ALL) as store:
+        async with sagas.open(location, ALL) as store:
             good = Trip(Package(Hotel("Rome", ["a"], True), ["vw", "bmw"]))
             end = await ended(store, trip, "good", good)
             confirmed = ["booked in Rome", ["booked in Rome: a"], "by LH1"]
@@ -121,7 +123,7 @@ def test_inclusion_and_its_plan(place: str) -> None:
             bad = await ended(store, trip, "bad", Trip(Package(Hotel("Rome", ["a"]), ["none"])))
             assert bad.cost == 12 == await least(store, "bad")
             assert bad.errors == {"p-car-0-take": "sagas.Fail: no car"}
-        async with sagas.open(place, ALL) as store:
+        async with sagas.open(location, ALL) as store:
             again = await store.wait("good")
             assert again.result_of(shaped.inside[shaped.cars[shaped.take]]) == ["vw", "bmw"]
 
@@ -129,7 +131,7 @@ def test_inclusion_and_its_plan(place: str) -> None:
 
 
 def held() -> tuple[sagas.Saga, asyncio.Event]:
-    """A saga of two items that wait until they are let go."""
+    """Return a saga of two items that wait for their gate."""
     saga, go = sagas.Saga("held"), asyncio.Event()
 
     @saga.step(for_each=lambda input: {key: {"of": key} for key in input["keys"]})
@@ -144,8 +146,8 @@ def held() -> tuple[sagas.Saga, asyncio.Event]:
     return saga, go
 
 
-def test_items_are_those_of_the_start(place: str) -> None:
-    """After a restart, later code that would compute others gets the items that were kept."""
+def test_items_are_those_of_the_start(location: str) -> None:
+    """After a restart, a later release that would compute other items gets the stored ones."""
     first, _ = held()
     later = sagas.Saga("held")
 
@@ -158,15 +160,15 @@ def test_items_are_those_of_the_start(place: str) -> None:
         return task.result_of(work)
 
     async def main() -> None:
-        async with sagas.open(place, [first], shutdown_timeout=0) as store:
+        async with sagas.open(location, [first], shutdown_timeout=0) as store:
             await store.start(first, "k", {"keys": ["b/1", "a \x01"]})
-        async with sagas.open(place, [later]) as store:
+        async with sagas.open(location, [later]) as store:
             end = await store.wait("k", 60)
             wanted = {"a \x01": ["a \x01", {"of": "a \x01"}], "b/1": ["b/1", {"of": "b/1"}]}
             assert end.result_of(last) == wanted == end.each(work)
             with pytest.raises(sagas.InvalidInput, match="for_each= raised ZeroDivisionError"):
                 await store.start(later, "new", {"keys": []})
-            # the key that is there is the saga, whatever its shape would be today
+            # the existing saga has the key, whatever its shape would be now
             assert not (await store.start(later, "k", {"keys": ["b/1", "a \x01"]})).new
             with pytest.raises(sagas.KeyConflict):
                 await store.start(later, "k", {"keys": []})
@@ -174,11 +176,11 @@ def test_items_are_those_of_the_start(place: str) -> None:
     run(main())
 
 
-def test_each_its_own_definition(place: str) -> None:
-    """More definitions than a shard has, each text once in the store."""
+def test_each_its_own_definition(location: str) -> None:
+    """There are more definitions than a shard has, each text once in the store."""
 
     async def main() -> None:
-        async with sagas.open(place, [order]) as store:
+        async with sagas.open(location, [order]) as store:
             given = [Order([Parcel("a", number)] * 3, number=number) for number in range(150)]
             ends = await asyncio.gather(
                 *(ended(store, order, f"k{number}", one) for number, one in enumerate(given)),
@@ -187,11 +189,13 @@ def test_each_its_own_definition(place: str) -> None:
             assert all(end.ok for end in ends) and is_good(await store.audit())
 
     run(main())
-    assert rows(place, "SELECT count(*) FROM definitions") == [(150,)]
+    assert rows(location, "SELECT count(*) FROM definitions") == [(150,)]
 
 
-def test_definitions_start_no_further_engine(place: str, monkeypatch: pytest.MonkeyPatch) -> None:
-    """Each saga has a definition of its own, and each shard still has one engine, its first."""
+def test_definitions_start_no_further_engine(
+    location: str, monkeypatch: pytest.MonkeyPatch
+) -> None:
+    """Each saga has its own definition, and each shard still has one engine, its first."""
     engines: list[str] = []
 
     class Counted(shard_parts.EngineProcess):
@@ -204,7 +208,7 @@ def test_definitions_start_no_further_engine(place: str, monkeypatch: pytest.Mon
     monkeypatch.setattr(shard_parts, "EngineProcess", Counted)
 
     async def main() -> None:
-        async with sagas.open(place, [order]) as store:
+        async with sagas.open(location, [order]) as store:
             numbers = iter(range(300))
 
             async def lane() -> None:
@@ -217,21 +221,21 @@ def test_definitions_start_no_further_engine(place: str, monkeypatch: pytest.Mon
 
     run(main())
     shards = -(-300 // MOST_ADDED)
-    assert rows(place, "SELECT count(*) FROM shards") == [(shards,)]
+    assert rows(location, "SELECT count(*) FROM shards") == [(shards,)]
     assert len(engines) == len({*engines}) == shards
     assert sum(begun) < 300 // 4  # nearly all of them came later
-    assert rows(place, "SELECT count(*) FROM shard_definitions") == [(300,)]
+    assert rows(location, "SELECT count(*) FROM shard_definitions") == [(300,)]
 
 
-def test_a_definition_that_is_too_long_for_a_request(place: str) -> None:
-    """Its shard gets another engine, whatever else goes on there."""
+def test_a_definition_that_is_too_long_for_a_request(location: str) -> None:
+    """Its shard gets another engine, whatever else is in progress there."""
     large = sagas.Saga("large")
     pack = large.step(external=True, name="pack-and-label", for_each="items", undo=1, skip=1)
     pack.compensation(external=True)
     large.step(external=True, name="send", needs=[pack], undo=0)
 
     async def main() -> None:
-        async with sagas.open(place, [large]) as store:
+        async with sagas.open(location, [large]) as store:
             for key, count in (("few", 2), ("many", 1000), ("more", 1001)):
                 started = store.start(large, key, {"items": list(range(count))})
                 assert (await asyncio.wait_for(started, 60)).new
@@ -239,12 +243,12 @@ def test_a_definition_that_is_too_long_for_a_request(place: str) -> None:
             await asyncio.wait_for(asyncio.gather(*both), 60)
 
     run(main())
-    assert rows(place, "SELECT count(*) FROM shards") == [(1,)]
+    assert rows(location, "SELECT count(*) FROM shards") == [(1,)]
 
 
-def test_what_is_wrong_begins_nothing(place: str) -> None:
+def test_invalid_starts_start_nothing(location: str) -> None:
     async def main() -> None:
-        async with sagas.open(place, [order]) as store:
+        async with sagas.open(location, [order]) as store:
             with pytest.raises(sagas.InvalidInput, match="parcels"):
                 await store.start(order, "k", {"parcels": 3})
             with pytest.raises(sagas.TooLarge):
@@ -255,7 +259,7 @@ def test_what_is_wrong_begins_nothing(place: str) -> None:
     run(main())
 
 
-def test_a_limit_holds_over_all_items(place: str) -> None:
+def test_a_limit_holds_over_all_items(location: str) -> None:
     saga, now, most = sagas.Saga("limited"), 0, 0
 
     @saga.step(for_each="n", concurrency=3)
@@ -267,7 +271,7 @@ def test_a_limit_holds_over_all_items(place: str) -> None:
         now -= 1
 
     async def main() -> None:
-        async with sagas.open(place, [saga]) as store:
+        async with sagas.open(location, [saga]) as store:
             given = {"n": [0] * 7}
             ends = await asyncio.gather(*(ended(store, saga, f"k{n}", given) for n in range(4)))
             assert all(end.ok for end in ends) and most == 3
@@ -318,12 +322,12 @@ def test_another_version_of_an_included_saga(tmp_path: pathlib.Path) -> None:
     run(main())
 
 
-def test_engines_are_killed_while_definitions_come(place: str) -> None:
-    """Each saga has a definition of its own; meanwhile each engine is killed."""
+def test_engines_are_killed_while_definitions_come(location: str) -> None:
+    """Each saga has its own definition; at the same time each engine is killed."""
 
     async def main() -> None:
         draw, kills = random.Random(5), 0
-        async with sagas.open(place, [order, plain]) as store:
+        async with sagas.open(location, [order, plain]) as store:
 
             async def kill() -> None:
                 nonlocal kills
@@ -351,15 +355,15 @@ def test_engines_are_killed_while_definitions_come(place: str) -> None:
 
 
 def test_an_engine_refuses_definitions_while_sagas_of_them_are_opened(
-    place: str, monkeypatch: pytest.MonkeyPatch
+    location: str, monkeypatch: pytest.MonkeyPatch
 ) -> None:
-    """Those behind a refused one have other places in that engine. No saga gets one of them."""
-    refused, asked = 0, ShardDefinitions.define_lines
+    """Those after a refused one have other slots in that engine. No saga gets one of them."""
+    refused, right = 0, ShardDefinitions.define_lines
 
     def define_lines(self: ShardDefinitions) -> list[str]:
         nonlocal refused
-        lines = asked(self)
-        if self.has_grown and len(lines) > 1:  # the second one gets the place of the first
+        lines = right(self)
+        if self.has_grown and len(lines) > 1:  # the second one gets the slot of the first
             refused += 1
             lines[0] = '{"definition":"","do":"define"}'
         return lines
@@ -367,7 +371,7 @@ def test_an_engine_refuses_definitions_while_sagas_of_them_are_opened(
     monkeypatch.setattr(ShardDefinitions, "define_lines", define_lines)
 
     async def main() -> None:
-        async with sagas.open(place, [order, plain]) as store:
+        async with sagas.open(location, [order, plain]) as store:
 
             async def one(number: int) -> sagas.SagaResult:
                 await asyncio.sleep(number // 10 / 10)
@@ -383,7 +387,7 @@ def test_an_engine_refuses_definitions_while_sagas_of_them_are_opened(
     run(main())
 
 
-def test_a_codec_has_the_items_too(place: str) -> None:
+def test_a_codec_has_the_items_too(location: str) -> None:
     class Codec:
         def encode(self, data: bytes) -> bytes:
             return data[::-1]
@@ -392,13 +396,13 @@ def test_a_codec_has_the_items_too(place: str) -> None:
             return data[::-1]
 
     async def main() -> None:
-        async with sagas.open(place, [order], codec=Codec()) as store:
+        async with sagas.open(location, [order], codec=Codec()) as store:
             assert (await ended(store, order, "k", Order([Parcel("secret town")]))).ok
-        async with sagas.open(place, [order], codec=Codec()) as store:
+        async with sagas.open(location, [order], codec=Codec()) as store:
             assert (await store.wait("k")).result_of(ship) == ["0:secret town"]
 
     run(main())
-    assert "secret" not in str(rows(place, "SELECT shape FROM shapes"))
+    assert "secret" not in str(rows(location, "SELECT shape FROM shapes"))
 
 
 # -- clients
@@ -419,7 +423,7 @@ def test_a_client_starts_a_shaped_saga(url: str) -> None:
 def other_code(
     theirs: Any = lambda input: input["gone"],
 ) -> tuple[sagas.Saga, sagas.Saga]:
-    """A saga as a client and as a node have it, of which only the node's function raises."""
+    """Return a saga as a client and as a node have it; only the node's function raises."""
 
     def made(function: Any) -> sagas.Saga:
         saga = sagas.Saga("made")
@@ -434,14 +438,14 @@ def other_code(
 
 
 @pytest.mark.parametrize(
-    "function, told",
+    "function, message",
     [
         (lambda input: input["gone"], "for_each= raised KeyError"),
         (lambda input: (int(f"x{one}") for one in input["items"]), "for_each= raised ValueError"),
     ],
 )
-def test_a_start_that_raises_in_the_node_is_refused(url: str, function: Any, told: str) -> None:
-    """It is kept as such, and taken again where it is started again; other starts go on."""
+def test_a_start_that_raises_in_the_node_is_refused(url: str, function: Any, message: str) -> None:
+    """It is kept as such, and taken again if it is started again; other starts continue."""
     mine, theirs = other_code(function)
 
     async def main() -> None:
@@ -449,7 +453,7 @@ def test_a_start_that_raises_in_the_node_is_refused(url: str, function: Any, tol
             async with sagas.open(url, [theirs, plain]) as store:
                 started = await client.start(mine, "a", {"items": [1]})
                 for wait in (started.wait, lambda time: store.wait("a", time)):
-                    with pytest.raises(sagas.InvalidInput, match=told):
+                    with pytest.raises(sagas.InvalidInput, match=message):
                         await wait(60)
                 assert (await (await client.start(plain, "b")).wait(60)).ok
                 with pytest.raises(sagas.InvalidInput):
@@ -475,7 +479,9 @@ def test_a_start_that_raises_in_the_node_is_refused(url: str, function: Any, tol
     run(withdrawn())
 
 
-def test_refused_starts_go_as_ended_sagas_do(url: str, capsys: pytest.CaptureFixture[str]) -> None:
+def test_refused_starts_are_pruned_as_ended_sagas(
+    url: str, capsys: pytest.CaptureFixture[str]
+) -> None:
     """By their age since they were refused, by the command and by an open store; others stay."""
     mine, theirs = other_code()
 
@@ -490,8 +496,8 @@ def test_refused_starts_go_as_ended_sagas_do(url: str, capsys: pytest.CaptureFix
             await refused(client, "old", "new")
             with psycopg.connect(url) as link:
                 link.execute("UPDATE sagas.pending_starts SET at = at - 7200 WHERE key = 'old'")
-            words = [url, "prune", "--older-than", "1h"]
-            assert await asyncio.to_thread(store_command.main, words) == 0
+            arguments = [url, "prune", "--older-than", "1h"]
+            assert await asyncio.to_thread(store_command.main, arguments) == 0
             assert await client.get("old") is None
             with pytest.raises(sagas.NoSuchSaga):
                 await client.wait("old", 1)
@@ -543,19 +549,19 @@ def test_another_node_takes_over(url: str) -> None:
     assert count == 6
 
 
-def test_no_shape_outlives_its_saga(place: str) -> None:
+def test_no_shape_outlives_its_saga(location: str) -> None:
     from sagas.runtime import retention
 
     async def main() -> None:
-        async with sagas.open(place, [order]) as store:
+        async with sagas.open(location, [order]) as store:
             assert (await ended(store, order, "k", parcels(2))).ok
-        async with sagas.open(place, [order]):
-            await until(lambda: not rows(place, "SELECT 1 FROM shards WHERE closed = 0"))
+        async with sagas.open(location, [order]):
+            await until(lambda: not rows(location, "SELECT 1 FROM shards WHERE closed = 0"))
 
     run(main())
-    assert retention.prune(place, 0).sagas == 1
+    assert retention.prune(location, 0).sagas == 1
     for table in ("shapes", "definitions", "shard_definitions"):
-        assert rows(place, f"SELECT count(*) FROM {table}") == [(0,)], table
+        assert rows(location, f"SELECT count(*) FROM {table}") == [(0,)], table
 
 
 def test_two_inputs_are_two_sagas() -> None:

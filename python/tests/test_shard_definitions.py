@@ -1,4 +1,4 @@
-"""What an engine is asked about a shard's definitions, with the real engine."""
+"""The questions to an engine about a shard's definitions, with the real engine."""
 
 from __future__ import annotations
 
@@ -21,7 +21,7 @@ from sagas.definition.compiled import CompiledDefinition
 
 
 def kind(name: str) -> CompiledDefinition:
-    """A definition of one step."""
+    """Return a definition of one step."""
     saga = sagas.Saga(name)
 
     @saga.step
@@ -33,7 +33,7 @@ def kind(name: str) -> CompiledDefinition:
 
 @contextmanager
 def engine(folder: pathlib.Path, kinds: Sequence[CompiledDefinition]) -> Iterator[Engine]:
-    """`sagas drive --lines` with these definitions."""
+    """Run `sagas drive --lines` with these definitions."""
     paths = [folder / f"{number}.toml" for number in range(len(kinds))]
     for path, one in zip(paths, kinds):
         path.write_text(one.text)
@@ -71,24 +71,26 @@ def instance(definitions: ShardDefinitions, of: CompiledDefinition) -> SagaInsta
 def test_the_first_definition_is_known_before_a_saga_of_it_is_opened(
     tmp_path: pathlib.Path,
 ) -> None:
-    """Behind it, a saga is opened by the same question as its definition is added."""
+    """After it, a saga is opened by the same question that adds its definition."""
     first, second, third, fourth = map(kind, ("first", "second", "third", "fourth"))
     driver, definitions = driver_of([first])
     with engine(tmp_path, [first]) as started:
-        asked = turn(driver, started, instance(definitions, first), instance(definitions, second))
-        assert ['"do":"define"' in line for line in asked] == [True, False]
+        requests = turn(
+            driver, started, instance(definitions, first), instance(definitions, second)
+        )
+        assert ['"do":"define"' in line for line in requests] == [True, False]
         assert (driver.opened, definitions.known) == (1, 2)
         assert len(turn(driver, started)) == 1 and driver.opened == 2
         both = instance(definitions, third), instance(definitions, fourth)
-        asked = turn(driver, started, *both, instance(definitions, third))
-        assert ['"do":"define"' in line for line in asked] == [True, True, False, False, False]
+        requests = turn(driver, started, *both, instance(definitions, third))
+        assert ['"do":"define"' in line for line in requests] == [True, True, False, False, False]
     assert (driver.opened, definitions.known) == (5, 4)
     assert [saga.place for saga in driver.sagas.values()] == [0, 1, 2, 3, 2]
 
 
 def test_no_saga_is_opened_with_another_definition(tmp_path: pathlib.Path) -> None:
-    """The engine gives a definition another place: nothing that it said of it counts, and an
-    engine is wanted that begins with all definitions.
+    """The engine gives a definition another slot: its replies about it do not count, and the shard
+    requests an engine that begins with all definitions.
     """
     first, second, third = map(kind, ("first", "second", "third"))
     driver, definitions = driver_of([first])
@@ -105,14 +107,16 @@ def test_no_saga_is_opened_with_another_definition(tmp_path: pathlib.Path) -> No
 
 
 def kind_line(of: CompiledDefinition) -> str:
-    """The request that adds a definition, which the driver does not know of."""
+    """Return the request that adds a definition, which the driver does not know."""
     definitions = ShardDefinitions([])
     definitions.place(of)
     return definitions.define_lines()[0]
 
 
-def test_what_undoes_an_older_child_is_stored_with_its_definition(place: str) -> None:
-    """Also in a shard of sagas whose steps come from their inputs, where no other saga has it."""
+def test_the_undo_of_an_older_child_is_stored(location: str) -> None:
+    """This holds also in a shard of sagas whose steps come from their inputs, where no other saga
+    has it.
+    """
 
     def declared(is_later: bool) -> list[sagas.Saga]:
         hotel, trip, order = sagas.Saga("hotel"), sagas.Saga("trip"), sagas.Saga("order")
@@ -127,16 +131,16 @@ def test_what_undoes_an_older_child_is_stored_with_its_definition(place: str) ->
 
     async def main() -> None:
         older, later = declared(False), declared(True)
-        async with sagas.open(place, older) as store:
+        async with sagas.open(location, older) as store:
             await store.start(older[1], "trip-1")
             await until(lambda: store.get("trip-1/:stay"))
             await store.wait("trip-1/:stay")
-        async with sagas.open(place, later) as store:
+        async with sagas.open(location, later) as store:
             assert (await ended(store, later[2], "order-1", {"items": [1]})).ok
             await store.fail("trip-1", "pay", "no")
             assert (await store.wait("trip-1")).states == {"stay": "undone", "pay": "failed"}
-        async with sagas.open(place, later) as store:
+        async with sagas.open(location, later) as store:
             assert (await ended(store, later[2], "order-2", {"items": [1]})).ok
-            assert all(said.startswith("yes") for said in (await store.audit()).values())
+            assert all(verdict.startswith("yes") for verdict in (await store.audit()).values())
 
     run(main())

@@ -1,4 +1,7 @@
-"""The commit of a step inside the database: its row and the record of its result, whatever is refused, cut or killed meanwhile."""
+"""The commit of a step inside the database: its row and the record of its result.
+
+Statements are refused, connections cut and programs killed.
+"""
 
 from __future__ import annotations
 
@@ -32,18 +35,18 @@ ORDERS = (
     "CREATE TABLE orders(key text PRIMARY KEY)",
     "CREATE TABLE items(key text REFERENCES orders DEFERRABLE INITIALLY DEFERRED)",
 )
-"""What is looked at in the commit."""
+"""The rule that the commit checks."""
 
 
 def prepare(url: str, *more: str) -> None:
-    """A table of the user's own, and what else a case needs."""
+    """Make a table of the user's own, and the rules of a case."""
     with psycopg.connect(url) as link:
         for text in ("CREATE TABLE book(key text, step text, token text)", *more):
             link.execute(text)  # type: ignore[arg-type]
 
 
 def booked(url: str) -> Counter[tuple[str, str]]:
-    """The rows of it."""
+    """Return its rows."""
     with psycopg.connect(url) as link:
         return Counter(
             (key, step) for key, step in link.execute("SELECT key, step FROM book").fetchall()
@@ -51,28 +54,33 @@ def booked(url: str) -> Counter[tuple[str, str]]:
 
 
 def waits(url: str) -> bool:
-    """Whether such a commit waits for a lock."""
-    text = "SELECT 1 FROM pg_stat_activity WHERE datname = current_database() AND wait_event_type = 'Lock' AND query LIKE 'EXECUTE sagas_record%'"
+    """Return whether such a commit waits for a lock."""
+    text = (
+        "SELECT 1 FROM pg_stat_activity WHERE datname = current_database() AND wait_event_type ="
+        " 'Lock' AND query LIKE 'EXECUTE sagas_record%'"
+    )
     with psycopg.connect(url) as link:
         return bool(link.execute(text).fetchall())
 
 
 async def write(task: Task, name: str) -> str:
-    """A row over the step's connection."""
+    """Write a row over the step's connection."""
     await task.connection.execute(BOOK, (task.key, name, task.idempotency_key))
     return f"{name} is booked"
 
 
 def three(timeout: float | None = None) -> sagas.Saga:
-    """Three steps inside, in a row, the last of which fails where the input says so; each can be undone."""
+    """Return three steps inside, in a row, the last of which fails if the input says so; each can
+    be undone.
+    """
     kind, last = sagas.Saga("three"), None
     for name in ("one", "two", "three"):
 
         async def book(task: Task) -> str:
-            said = await write(task, task.step)
+            result = await write(task, task.step)
             if task.input == task.step:
                 raise sagas.Fail("no")
-            return said
+            return result
 
         async def unbook(task: Task) -> None:
             await write(task, f"un{task.step}")
@@ -85,12 +93,12 @@ def three(timeout: float | None = None) -> sagas.Saga:
 
 
 async def audited(store: sagas.Store) -> None:
-    """All that its logs say is allowed."""
-    assert all(said.startswith("yes") for said in (await store.audit()).values())
+    """Return whether all of its logs are allowed."""
+    assert all(verdict.startswith("yes") for verdict in (await store.audit()).values())
 
 
 def test_among_others_each_commits_by_itself(url: str) -> None:
-    """Their transactions go side by side, and what they come to goes into one commit."""
+    """Their transactions run in parallel, and their outcomes are in one commit."""
     prepare(url)
     kind = three()
 
@@ -119,9 +127,11 @@ def test_among_others_each_commits_by_itself(url: str) -> None:
 
 
 def test_a_constraint_refuses_the_commit(url: str) -> None:
-    """It is looked at in the commit: the step has failed, though its end was told to the log's child, and what stands is undone."""
+    """The commit checks it: the step has failed, though its end was reported to the log's engine,
+    and the kept steps are undone.
+    """
     prepare(url, *ORDERS)
-    kind, said = sagas.Saga("shop"), []
+    kind, events = sagas.Saga("shop"), []
 
     @kind.step(transaction=True)
     async def reserve(task: Task) -> str:
@@ -139,7 +149,7 @@ def test_a_constraint_refuses_the_commit(url: str) -> None:
         return task.attempt
 
     async def main() -> None:
-        async with sagas.open(url, [kind], on_event=lambda event: said.append(event)) as store:
+        async with sagas.open(url, [kind], on_event=lambda event: events.append(event)) as store:
             with psycopg.connect(url) as link:
                 link.execute("INSERT INTO orders VALUES ('third')")
             assert (await ended(store, kind, "third", 3)).results == {
@@ -154,10 +164,10 @@ def test_a_constraint_refuses_the_commit(url: str) -> None:
             await audited(store)
 
     run(main())
-    assert [event.name for event in said if event.name in ("step_retrying", "step_failed")] == [
+    assert [event.name for event in events if event.name in ("step_retrying", "step_failed")] == [
         "step_retrying"
     ] * 4 + ["step_failed"]
-    assert not [event for event in said if event.name == "commit_failed"]
+    assert not [event for event in events if event.name == "commit_failed"]
     assert booked(url) == {
         ("third", "reserve"): 1,
         ("never", "reserve"): 1,
@@ -168,7 +178,7 @@ def test_a_constraint_refuses_the_commit(url: str) -> None:
 
 
 def test_the_answer_to_the_commit_is_lost(postgresql: Server, url: str) -> None:
-    """Its row and its record are there: the step is not called again, and the saga goes on."""
+    """Its row and its record exist: the step is not called again, and the saga continues."""
     prepare(url)
     kind, calls = sagas.Saga("three"), []
 
@@ -195,7 +205,7 @@ def test_the_answer_to_the_commit_is_lost(postgresql: Server, url: str) -> None:
 
 
 def test_lone_sagas_while_connections_are_cut(postgresql: Server, url: str) -> None:
-    """One behind the other: each effect is there once."""
+    """They run one after the other: each effect occurs once."""
     prepare(url)
     kind = three()
 
@@ -222,8 +232,10 @@ def test_lone_sagas_while_connections_are_cut(postgresql: Server, url: str) -> N
     }
 
 
-def test_a_limit_is_left_behind_the_commit(url: str) -> None:
-    """Steps with a limit commit by themselves: the next one begins behind the commit, and sees what it wrote."""
+def test_a_limit_is_released_after_the_commit(url: str) -> None:
+    """Steps with a limit commit by themselves: the next one starts after the commit, and sees its
+    writes.
+    """
     prepare(url)
     kind, seen = sagas.Saga("one"), []
 
@@ -242,8 +254,11 @@ def test_a_limit_is_left_behind_the_commit(url: str) -> None:
 
 
 def test_the_child_dies_as_the_step_is_over(url: str) -> None:
-    """Its record is reported to the next child. Where the log was taken up before it was written,
-    nothing of the step is there, and it is called again, as the same attempt."""
+    """Its record is reported to the next engine.
+
+    If the log was loaded before the record was written, the step has no effect, and it is called
+    again, as the same attempt.
+    """
     prepare(url)
     kind, calls = sagas.Saga("one"), []
     stores: list[sagas.Store] = []
@@ -252,11 +267,11 @@ def test_the_child_dies_as_the_step_is_over(url: str) -> None:
     async def book(task: Task) -> str:
         calls.append(task.attempt_id)
         (runner,) = stores[0]._coordinator.shards.runners.values()  # type: ignore[union-attr]
-        said = await write(task, "book")
+        result = await write(task, "book")
         assert runner.engine
         os.kill(runner.engine.process.pid, signal.SIGKILL)
         os.waitid(os.P_PID, runner.engine.process.pid, os.WEXITED | os.WNOWAIT)
-        return said
+        return result
 
     async def main() -> None:
         async with sagas.open(url, [kind]) as store:
@@ -269,7 +284,9 @@ def test_the_child_dies_as_the_step_is_over(url: str) -> None:
 
 
 def test_a_lock_is_not_waited_for_by_all(url: str) -> None:
-    """Another transaction has what the commit looks at: that one waits by itself, and the other sagas of the node go on."""
+    """Another transaction has a lock that the commit needs: only that commit waits, and the other
+    sagas of the node continue.
+    """
     prepare(url, *ORDERS, "INSERT INTO orders VALUES ('k')")
     kind, other, calls = sagas.Saga("one"), simple(lambda task: 1), []
 
@@ -295,9 +312,17 @@ def test_a_lock_is_not_waited_for_by_all(url: str) -> None:
 
 
 def test_a_record_needs_no_setting(url: str) -> None:
-    """It names its tables whole: the commit sees what the function set, and its triggers too."""
-    look = "CREATE FUNCTION look() RETURNS trigger LANGUAGE plpgsql AS $$ BEGIN INSERT INTO mine.saw VALUES (current_setting('search_path')); RETURN NULL; END $$"
-    trigger = "CREATE CONSTRAINT TRIGGER looks AFTER INSERT ON book DEFERRABLE INITIALLY DEFERRED FOR EACH ROW EXECUTE FUNCTION look()"
+    """It names its tables in full: the commit sees the function's settings, and its
+    triggers too.
+    """
+    look = (
+        "CREATE FUNCTION look() RETURNS trigger LANGUAGE plpgsql AS $$ BEGIN INSERT INTO mine.saw"
+        " VALUES (current_setting('search_path')); RETURN NULL; END $$"
+    )
+    trigger = (
+        "CREATE CONSTRAINT TRIGGER looks AFTER INSERT ON book DEFERRABLE INITIALLY DEFERRED FOR"
+        " EACH ROW EXECUTE FUNCTION look()"
+    )
     prepare(url, "CREATE SCHEMA mine", "CREATE TABLE mine.saw(said text)", look, trigger)
     kind = sagas.Saga("two")
 
@@ -331,8 +356,10 @@ def test_a_record_needs_no_setting(url: str) -> None:
     ],
 )
 @pytest.mark.parametrize("in_thread", [False, True])
-def test_what_a_step_does_to_its_connection(url: str, in_thread: bool, setting: str) -> None:
-    """The next one has a connection as it was made; where one ends its transaction and goes on in another, that is an error."""
+def test_a_step_cannot_spoil_its_connection(url: str, in_thread: bool, setting: str) -> None:
+    """The next one has a fresh connection; a step that ends its transaction and continues in
+    another one has an error.
+    """
     prepare(url)
     kind, seen = sagas.Saga("one"), list[Any]()
     look = "SELECT pg_backend_pid() AS process, current_setting('statement_timeout') AS timeout"
@@ -373,8 +400,8 @@ def test_what_a_step_does_to_its_connection(url: str, in_thread: bool, setting: 
     assert first == second and first[1] == behind[1] == "0" and first[0] != behind[0]
 
 
-def test_connections_that_rest_are_let_go() -> None:
-    """Where the server has none left for the store itself, which lost its own."""
+def test_idle_connections_are_closed() -> None:
+    """The server has none left for the store itself, which lost its own."""
     kind, barrier = sagas.Saga("one"), asyncio.Barrier(4)
 
     @kind.step(transaction=True)
@@ -400,7 +427,7 @@ def test_connections_that_rest_are_let_go() -> None:
                         if coordinator.store._writer._wire is None:  # type: ignore[attr-defined]
                             break
                         coordinator.store._writer.cut()  # type: ignore[attr-defined]
-                        await asyncio.sleep(0.1)  # the server lets it go, and a stranger has it
+                        await asyncio.sleep(0.1)  # the server frees it, and another program has it
                 assert (await asyncio.wait_for(surely_ended(store, kind, "behind"), 60)).ok
 
     with serving(
@@ -412,7 +439,9 @@ def test_connections_that_rest_are_let_go() -> None:
 
 
 def test_few_statements_are_kept(url: str, monkeypatch: pytest.MonkeyPatch) -> None:
-    """Commits of many forms go on over one connection, which lets go what it has prepared before that is too much for the server."""
+    """Commits of many forms continue over one connection, which frees its prepared statements
+    before they are too many for the server.
+    """
     monkeypatch.setattr("sagas.storage.postgresql.prepared.MOST", 3)
     prepare(url)
     kind = three()
@@ -422,13 +451,15 @@ def test_few_statements_are_kept(url: str, monkeypatch: pytest.MonkeyPatch) -> N
             for number in range(6):
                 ends = await asyncio.gather(
                     *(
-                        ended(store, kind, f"k{number}-{place}", "three" if place % 2 else None)
-                        for place in range(number)
+                        ended(store, kind, f"k{number}-{index}", "three" if index % 2 else None)
+                        for index in range(number)
                     )
                 )
                 assert all(end.phase in ("completed", "recovered") for end in ends)
             coordinator = store._coordinator
-            assert coordinator and 0 < len(coordinator.store._writer._wire._names) <= 3  # type: ignore[attr-defined]
+            assert coordinator
+            names = coordinator.store._writer._wire._names  # type: ignore[attr-defined]
+            assert 0 < len(names) <= 3
             await audited(store)
 
     run(main())
@@ -437,10 +468,12 @@ def test_few_statements_are_kept(url: str, monkeypatch: pytest.MonkeyPatch) -> N
 @pytest.mark.parametrize("text", ["DEALLOCATE ALL", "SELECT 1; DEALLOCATE ALL"])
 @pytest.mark.parametrize("in_thread", [False, True])
 def test_prepared_statements_are_gone(url: str, in_thread: bool, text: str) -> None:
-    """The function lets all of its connection's go: all goes on without them, and no log is taken
-    up again. Where it could not be seen, the server says so, and the function is called again."""
+    """The function deallocates all of its connection's statements: all works without them, and no
+    log is loaded again. If that was not visible, the server reports it, and the function is called
+    again.
+    """
     prepare(url)
-    kind, calls, told = sagas.Saga("one"), [], list[str]()
+    kind, calls, event_names = sagas.Saga("one"), [], list[str]()
 
     if in_thread:
 
@@ -460,7 +493,9 @@ def test_prepared_statements_are_gone(url: str, in_thread: bool, text: str) -> N
             return "it's \\ ä"
 
     async def main() -> None:
-        async with sagas.open(url, [kind], on_event=lambda event: told.append(event.name)) as store:
+        async with sagas.open(
+            url, [kind], on_event=lambda event: event_names.append(event.name)
+        ) as store:
             for number in range(3):
                 end = await ended(store, kind, f"k{number}")
                 assert end.results == {"book": None if in_thread else "it's \\ ä"}
@@ -470,12 +505,12 @@ def test_prepared_statements_are_gone(url: str, in_thread: bool, text: str) -> N
 
     run(main())
     assert booked(url) == {(f"k{number}", "book"): 1 for number in range(6)}
-    assert "commit_failed" not in told
+    assert "commit_failed" not in event_names
     assert len(calls) == 6 + (text != "DEALLOCATE ALL") and len({*calls}) == 6
 
 
-def test_what_is_prepared_is_used_again() -> None:
-    """It rests for a second at first, and for ten minutes at most, where servers do not know it."""
+def test_prepared_statements_are_reused() -> None:
+    """At first it pauses for a second, and for ten minutes at most, if servers do not know it."""
     one, pauses = Prepares(""), list[float]()
     assert one.works
     for _ in range(12):
@@ -488,7 +523,7 @@ def test_what_is_prepared_is_used_again() -> None:
 
 
 class Undone(Exception):
-    """What a part of a step is rolled back by."""
+    """Rolls back a part of a step."""
 
 
 KNOWN = "SELECT count(*) FROM pg_prepared_statements WHERE name LIKE %s"
@@ -497,12 +532,13 @@ KNOWN = "SELECT count(*) FROM pg_prepared_statements WHERE name LIKE %s"
 
 @pytest.mark.parametrize("way", ["rolls back", "a part rolls back", "drops"])
 @pytest.mark.parametrize("in_thread", [False, True])
-def test_a_rollback_leaves_what_is_prepared(url: str, in_thread: bool, way: str) -> None:
-    """Behind a rollback, or a DROP, psycopg lets all go that is prepared, if it has prepared
-    something itself. The record of the step is written all the same, once, no log is taken up
-    again, and the next step has it prepared."""
+def test_a_rollback_with_prepared_statements(url: str, in_thread: bool, way: str) -> None:
+    """After a rollback, or a DROP, psycopg deallocates all prepared statements, if it has prepared
+    one itself. The record of the step is written anyway, once, no log is loaded again, and the next
+    step has it prepared.
+    """
     prepare(url)
-    kind, calls, found, told = sagas.Saga("one"), list[str](), list[int](), list[str]()
+    kind, calls, prepared, event_names = sagas.Saga("one"), list[str](), list[int](), list[str]()
     drops = "CREATE TABLE gone()", "DROP TABLE gone"
 
     if in_thread:
@@ -511,7 +547,7 @@ def test_a_rollback_leaves_what_is_prepared(url: str, in_thread: bool, way: str)
         def book_in_thread(task: Task) -> None:
             calls.append(task.key)
             for _ in range(8):
-                found.append(task.connection.execute(KNOWN, ("sagas%",)).fetchall()[0][0])
+                prepared.append(task.connection.execute(KNOWN, ("sagas%",)).fetchall()[0][0])
             task.connection.execute(BOOK, (task.key, "book", ""))
             if task.input == "rolls back":
                 raise Undone
@@ -528,7 +564,7 @@ def test_a_rollback_leaves_what_is_prepared(url: str, in_thread: bool, way: str)
             calls.append(task.key)
             for _ in range(8):
                 rows = await (await task.connection.execute(KNOWN, ("sagas%",))).fetchall()
-                found.append(rows[0][0])
+                prepared.append(rows[0][0])
             await write(task, "book")
             if task.input == "rolls back":
                 raise Undone
@@ -540,11 +576,13 @@ def test_a_rollback_leaves_what_is_prepared(url: str, in_thread: bool, way: str)
                 await task.connection.execute(text)
 
     async def main() -> None:
-        async with sagas.open(url, [kind], on_event=lambda event: told.append(event.name)) as store:
+        async with sagas.open(
+            url, [kind], on_event=lambda event: event_names.append(event.name)
+        ) as store:
             for number, given in enumerate((None, way, None, way, None)):
                 end = await ended(store, kind, f"k{number}", given)
                 assert end.ok is not (given == "rolls back")
-            for key in ("first", "second"):  # beside another, each commits by itself
+            for key in ("first", "second"):  # in parallel with another one, each commits by itself
                 given = {0: None, 1: way, 2: None}
                 ends = [ended(store, kind, f"{key} {at}", one) for at, one in given.items()]
                 await asyncio.gather(*ends)
@@ -552,8 +590,8 @@ def test_a_rollback_leaves_what_is_prepared(url: str, in_thread: bool, way: str)
 
     run(main())
     gone = {"k1", "k3", "first 1", "second 1"} if way == "rolls back" else set()
-    assert not {"commit_failed", "engine_died", "shard_lost"} & {*told}
-    assert len(calls) == len({*calls}) == 11 and {*found} == {1}
+    assert not {"commit_failed", "engine_died", "shard_lost"} & {*event_names}
+    assert len(calls) == len({*calls}) == 11 and {*prepared} == {1}
     assert booked(url) == {(key, "book"): 1 for key in {*calls} - gone}
 
 
@@ -563,12 +601,14 @@ KILLED = """
     saga = sagas.Saga("two")
     @saga.step(transaction=True)
     async def one(task):
-        await task.connection.execute("INSERT INTO book(key, step, token) VALUES(%s, 'one', %s)", (task.key, task.attempt_id))
+        row = task.key, "one", task.attempt_id
+        await task.connection.execute("INSERT INTO book(key, step, token) VALUES(%s, %s, %s)", row)
         return "booked"
     @saga.step(transaction=True, needs=[one])
     async def two(task):
         {owner}.{method} = lambda self, *words: os._exit(9)
-        await task.connection.execute("INSERT INTO book(key, step, token) VALUES(%s, 'two', %s)", (task.key, task.attempt_id))
+        row = task.key, "two", task.attempt_id
+        await task.connection.execute("INSERT INTO book(key, step, token) VALUES(%s, %s, %s)", row)
         return "booked"
     async def main():
         async with sagas.open({url!r}, [saga], node="killed") as store:
@@ -587,7 +627,9 @@ KILLED = """
 def test_a_kill_at_the_commit(
     url: str, tmp_path: pathlib.Path, method: str, is_there: bool
 ) -> None:
-    """Before it was sent nothing is there; behind its report all is, and nothing is called again."""
+    """Before it was sent there is no effect; after its report there is all of it, and nothing is
+    called again.
+    """
     prepare(url)
     script = tmp_path / "killed.py"
     module, owner, name = method.rsplit(".", 2)
@@ -628,14 +670,14 @@ def test_a_kill_at_the_commit(
 
 
 def gated(gate: asyncio.Event) -> sagas.Saga:
-    """As `three`, of which the second step waits for a gate behind its row."""
+    """As `three`, with a second step that waits for a gate after its row."""
     kind = sagas.Saga("three")
 
     async def book(task: Task) -> str:
-        said = await write(task, task.step)
+        result = await write(task, task.step)
         if task.step == "two":
             await gate.wait()
-        return said
+        return result
 
     async def unbook(task: Task) -> None:
         await write(task, f"un{task.step}")
@@ -652,7 +694,9 @@ def gated(gate: asyncio.Event) -> sagas.Saga:
 async def under_way(
     url: str,
 ) -> AsyncIterator[tuple[sagas.Saga, sagas.Store, sagas.Run, psycopg.Connection[Any]]]:
-    """A saga in a store, of whose first step the commit waits for a lock: who has it is a connection, to be rolled back."""
+    """Run a saga in a store whose first step's commit waits for a lock of this connection, to be
+    rolled back.
+    """
     prepare(url)
     gate = asyncio.Event()
     kind = gated(gate)
@@ -669,7 +713,7 @@ async def under_way(
 
 
 def test_a_store_closes_while_it_is_under_way(url: str) -> None:
-    """It waits for the commit's answer, and keeps what it came to."""
+    """It waits for the commit's reply, and stores the outcome."""
 
     async def main() -> None:
         async with under_way(url) as (kind, store, _, link):
@@ -689,7 +733,9 @@ def test_a_store_closes_while_it_is_under_way(url: str) -> None:
 
 
 def test_a_standby_takes_over() -> None:
-    """Behind a step's row: that is gone with its server, the step is called again at the other, and what was told stays."""
+    """It does so after a step's row: that is lost with its server, the step is called again at the
+    other one, and acknowledged results stay.
+    """
     gate = asyncio.Event()
     kind = gated(gate)
 
@@ -710,17 +756,19 @@ def test_a_standby_takes_over() -> None:
 
 
 def test_an_end_of_another_saga_comes_with_the_report(url: str) -> None:
-    """One place alone: the plan of a saga that was aborted meanwhile comes with the answer to the report. It is written as its own."""
+    """With one slot: the plan of a saga that was aborted in the meantime comes with the reply to
+    the report. It is written as its own.
+    """
     prepare(url)
     kind, gate, reached = sagas.Saga("one"), asyncio.Event(), asyncio.Event()
 
     @kind.step(transaction=True)
     async def first(task: Task) -> str:
-        said = await write(task, "first")
+        result = await write(task, "first")
         if task.key == "a":
             reached.set()
             await gate.wait()
-        return said
+        return result
 
     async def main() -> None:
         async with sagas.open(url, [kind], concurrency=1) as store:
@@ -742,7 +790,9 @@ def test_an_end_of_another_saga_comes_with_the_report(url: str) -> None:
 
 
 def test_plans_for_small_tables_are_not_kept(url: str) -> None:
-    """The server has counted few rows as a connection prepares what ends a step: later ones are looked up by their keys all the same."""
+    """The server has counted few rows as a connection prepares the statements of a step's end:
+    later rows are looked up by their keys anyway.
+    """
     prepare(url)
     kind = sagas.Saga("one")
 
@@ -754,12 +804,13 @@ def test_plans_for_small_tables_are_not_kept(url: str) -> None:
         with psycopg.connect(url, autocommit=True) as link:
             link.execute("SELECT pg_stat_force_next_flush()")
             ((count,),) = link.execute(
-                "SELECT sum(seq_scan) FROM pg_stat_user_tables WHERE schemaname = 'sagas' AND relname IN ('sagas', 'shards')"
+                "SELECT sum(seq_scan) FROM pg_stat_user_tables WHERE schemaname = 'sagas' AND"
+                " relname IN ('sagas', 'shards')"
             ).fetchall()
             return int(count)
 
     def sessions() -> bool:
-        """Whether any is left: each adds what it counted at its end."""
+        """Return whether any is left: each adds its counts at its end."""
         with psycopg.connect(url, autocommit=True) as link:
             text = "SELECT 1 FROM pg_stat_activity WHERE application_name = 'sagas'"
             return bool(link.execute(f"{text} AND datname = current_database()").fetchall())

@@ -1,4 +1,5 @@
-"""What a store promises: keys, results, aborts, held steps, logs and definitions, and the questions that it answers."""
+"""The promises of a store: keys, results, aborts, held steps, logs and definitions, and its reads.
+"""
 
 from __future__ import annotations
 
@@ -22,7 +23,7 @@ from typing import Any
 import psycopg
 import pytest
 import records
-from cases import HOUR, QUICK, Task, asked_of, ended, hears, run, simple, until
+from cases import HOUR, QUICK, Task, attempts_to_report, ended, hears, run, simple, until
 from kills import children
 
 import sagas
@@ -37,7 +38,7 @@ from sagas.storage.sqlite import writer as writer_module
 
 
 def row(gate: asyncio.Event | None = None) -> sagas.Saga:
-    """Three steps in a row, the last of which fails where the input says so."""
+    """Return three steps in a row, the last of which fails if the input says so."""
     row = sagas.Saga("row")
 
     @row.step
@@ -67,35 +68,37 @@ def row(gate: asyncio.Event | None = None) -> sagas.Saga:
     return row
 
 
-# -- keys and results ------------------------------------------------------------------------------------------------
+# -- keys and results
 
 
-def test_start_with_a_key_that_is_there(place: str) -> None:
-    """It gives the saga that is there, whatever became of it; another saga or another input is KeyConflict."""
+def test_start_with_an_existing_key(location: str) -> None:
+    """It returns the existing saga, whatever its state; another saga or another input is
+    KeyConflict.
+    """
     kinds = [row(), simple(lambda task: 1)]
 
     async def main() -> None:
-        async with sagas.open(place, kinds) as store:
+        async with sagas.open(location, kinds) as store:
             first = await ended(store, kinds[0], given={"a": 1, "b": [2]})
             assert await ended(store, kinds[0], given={"b": [2], "a": 1}) == first
             for saga, given in ((kinds[0], {"a": 2}), (kinds[1], {"a": 1, "b": [2]})):
                 with pytest.raises(sagas.KeyConflict):
                     await store.start(saga, key="k", input=given)
-            asked = [
+            starts = [
                 store.start(kinds[0], key="k", input=given)
                 for given in ({"a": 2}, {"a": 1, "b": [2]})
             ]
-            told = await asyncio.gather(
-                *asked, store.wait("k"), store.abort("k"), return_exceptions=True
+            results = await asyncio.gather(
+                *starts, store.wait("k"), store.abort("k"), return_exceptions=True
             )
             assert (
-                isinstance(told[0], sagas.KeyConflict)
-                and not told[1].new
-                and told[2:] == [first, False]
+                isinstance(results[0], sagas.KeyConflict)
+                and not results[1].new
+                and results[2:] == [first, False]
             )
             same = await asyncio.gather(*(ended(store, kinds[0], "many") for _ in range(20)))
             assert len({end.key for end in same}) == 1
-        async with sagas.open(place, kinds) as store:
+        async with sagas.open(location, kinds) as store:
             assert await ended(store, kinds[0], given={"a": 1, "b": [2]}) == first
             with pytest.raises(sagas.KeyConflict):
                 await store.start(kinds[1], key="k")
@@ -103,15 +106,15 @@ def test_start_with_a_key_that_is_there(place: str) -> None:
                 await store.start(kinds[0], key="new", input=object())
 
     run(main())
-    assert len(records.read(place).sagas) == 2
+    assert len(records.read(location).sagas) == 2
 
 
-def test_a_key_that_is_none(place: str) -> None:
-    """A name of its own, and a text that is not too long."""
+def test_an_invalid_key(location: str) -> None:
+    """They are a name of the package's own, and a text that is too long."""
     saga = simple(lambda task: 1)
 
     async def main() -> None:
-        async with sagas.open(place, [saga]) as store:
+        async with sagas.open(location, [saga]) as store:
             for key in (17, "", "a\n", "k" * 3000, None):
                 with pytest.raises(
                     sagas.InvalidKey,
@@ -141,7 +144,7 @@ class Line:
 
 @dataclasses.dataclass
 class Order:
-    """What the first step reads."""
+    """The input of the first step."""
 
     amount: int
     lines: list[Line] = dataclasses.field(default_factory=list)
@@ -162,8 +165,10 @@ class Order:
         ),
     ],
 )
-def test_an_input_that_the_first_step_cannot_read(place: str, given: Any, text: str) -> None:
-    """It is refused by its place, and nothing is begun; what is there is found by its key all the same."""
+def test_an_input_that_the_first_step_cannot_read(location: str, given: Any, text: str) -> None:
+    """The error has its location, and no saga is started; an existing saga is found by its key
+    anyway.
+    """
     loose, strict = sagas.Saga("order"), sagas.Saga("order")
     loose.step(name="charge")(lambda task: None)
 
@@ -172,9 +177,9 @@ def test_an_input_that_the_first_step_cannot_read(place: str, given: Any, text: 
         return task.input.amount
 
     async def main() -> None:
-        async with sagas.open(place, [loose]) as store:
+        async with sagas.open(location, [loose]) as store:
             assert (await ended(store, loose, "old", given)).ok
-        async with sagas.open(place, [strict]) as store:
+        async with sagas.open(location, [strict]) as store:
             with pytest.raises(sagas.InvalidInput, match=f"saga 'order', step 'charge': {text}"):
                 await store.start(strict, "new", given)
             assert await store.get("new") is None and (await ended(store, strict, "old", given)).ok
@@ -188,12 +193,14 @@ def test_an_input_that_the_first_step_cannot_read(place: str, given: Any, text: 
         sagas.testing.run(strict, given)
 
 
-def test_results(place: str) -> None:
-    """`task.results` are of all steps that a step needs, directly or not; `end.results` of the steps that stand."""
+def test_results(location: str) -> None:
+    """`task.results` are of all steps that a step needs, directly or not; `end.results` of the
+    steps that are kept.
+    """
     saga = row()
 
     async def main() -> None:
-        async with sagas.open(place, [saga]) as store:
+        async with sagas.open(location, [saga]) as store:
             assert (await ended(store, saga, "good")).results == {
                 "a": "A",
                 "b": "AB",
@@ -209,16 +216,19 @@ def test_results(place: str) -> None:
     run(main())
 
 
-# -- aborts and held steps ---------------------------------------------------------------------------------------------
+# -- aborts and held steps
 
 
-def test_abort(place: str) -> None:
-    """No step begins any more; what is under way ends, and the plan says what is undone. False where it is over or was aborted."""
+def test_abort(location: str) -> None:
+    """No step starts any more; running ones end, and the plan says which are undone.
+
+    False if it is over or was aborted.
+    """
     gate = asyncio.Event()
     saga = row(gate)
 
     async def main() -> None:
-        async with sagas.open(place, [saga]) as store:
+        async with sagas.open(location, [saga]) as store:
             going = await store.start(saga, key="k")
             assert await going.abort() is True and await going.abort() is False
             gate.set()
@@ -241,9 +251,11 @@ def test_abort(place: str) -> None:
 
 @pytest.mark.parametrize("error", [ValueError, TimeoutError], ids=["backoff", "unknown"])
 def test_a_held_step_takes_no_slot_and_keeps_nothing_from_draining(
-    place: str, error: type[Exception]
+    location: str, error: type[Exception]
 ) -> None:
-    """While a step waits an hour for its next try, or is called again then, another saga runs at concurrency 1; an abort does not wait for it."""
+    """While a step waits an hour for its next try, or is called again then, another saga runs at
+    concurrency 1; an abort does not wait for it.
+    """
     calls: list[str] = []
 
     def fails(task: Task) -> int:
@@ -255,7 +267,7 @@ def test_a_held_step_takes_no_slot_and_keeps_nothing_from_draining(
     saga = simple(fails, tries=3, backoff=HOUR)
 
     async def main() -> None:
-        async with sagas.open(place, [saga], concurrency=1) as store:
+        async with sagas.open(location, [saga], concurrency=1) as store:
             slow = await store.start(saga, key="slow", input=1)
 
             async def is_held() -> bool:
@@ -275,8 +287,10 @@ def test_a_held_step_takes_no_slot_and_keeps_nothing_from_draining(
     run(main())
 
 
-def test_functions_know_nothing_of_each_other(place: str) -> None:
-    """Whether they wait or not: each has the context in which the store was opened, and a task, which it may even cancel at its end."""
+def test_functions_know_nothing_of_each_other(location: str) -> None:
+    """Whether they wait or not: each has the context in which the store was opened, and a task,
+    which it may even cancel at its end.
+    """
     var = contextvars.ContextVar("var", default="opened")
     saga = sagas.Saga("row")
 
@@ -300,7 +314,7 @@ def test_functions_know_nothing_of_each_other(place: str) -> None:
                 await asyncio.sleep(60)
 
     async def main() -> None:
-        async with sagas.open(place, [saga]) as store:
+        async with sagas.open(location, [saga]) as store:
             var.set("started")
             ends = await asyncio.gather(*(ended(store, saga, str(number)) for number in range(30)))
             assert all(end.ok and end.results["a"] == "opened" for end in ends)
@@ -308,8 +322,8 @@ def test_functions_know_nothing_of_each_other(place: str) -> None:
     run(main())
 
 
-def test_no_more_than_its_concurrency(place: str) -> None:
-    """Over all steps and sagas, in the loop and in threads; and all its places are used."""
+def test_no_more_than_its_concurrency(location: str) -> None:
+    """Over all steps and sagas, in the loop and in threads; and all its slots are used."""
     inside, most = set[str](), 0
     gate = threading.Event()
     one, other = sagas.Saga("one"), sagas.Saga("other")
@@ -333,13 +347,13 @@ def test_no_more_than_its_concurrency(place: str) -> None:
         inside.discard(task.key)
 
     async def main() -> None:
-        async with sagas.open(place, [one, other], concurrency=3) as store:
+        async with sagas.open(location, [one, other], concurrency=3) as store:
             work = [
                 asyncio.create_task(ended(store, (one, other)[number % 2], f"k{number}"))
                 for number in range(12)
             ]
             await until(lambda: len(inside) == 3)
-            await asyncio.sleep(0.1)  # a fourth would be there by now
+            await asyncio.sleep(0.1)  # a fourth would be here by now
             gate.set()
             assert all(end.ok for end in await asyncio.gather(*work))
 
@@ -347,8 +361,8 @@ def test_no_more_than_its_concurrency(place: str) -> None:
     assert most == 3
 
 
-def test_a_limit_holds_back_nobody_else(place: str) -> None:
-    """At most two of the slow step run at once, over all sagas; the quick ones go by."""
+def test_a_limit_does_not_delay_other_steps(location: str) -> None:
+    """At most two of the slow step run at once, over all sagas; the quick ones run past them."""
     running, most, gate = Counter[str](), Counter[str](), asyncio.Event()
     slow, quick = sagas.Saga("slow"), sagas.Saga("quick")
 
@@ -364,7 +378,7 @@ def test_a_limit_holds_back_nobody_else(place: str) -> None:
         ...
 
     async def main() -> None:
-        async with sagas.open(place, [slow, quick], concurrency=8) as store:
+        async with sagas.open(location, [slow, quick], concurrency=8) as store:
             held = [await store.start(slow, key=f"s{number}") for number in range(6)]
             await asyncio.gather(*(ended(store, quick, f"q{number}") for number in range(20)))
             assert running["a"] == 2
@@ -375,12 +389,12 @@ def test_a_limit_holds_back_nobody_else(place: str) -> None:
     assert most["a"] == 2
 
 
-# -- waits, approvals, work elsewhere ------------------------------------------------------------------------------------
+# -- waits, approvals, external work
 
 
 @pytest.mark.parametrize("how", ["timedelta", "datetime", "function"])
-def test_wait(place: str, how: str) -> None:
-    """A timer: its function is called when the time has come, and not before."""
+def test_wait(location: str, how: str) -> None:
+    """Its function is called when the time has come, and not before."""
     soon = datetime.timedelta(seconds=0.3)
     at = datetime.datetime.now(datetime.timezone.utc) + soon
     times = {
@@ -395,7 +409,7 @@ def test_wait(place: str, how: str) -> None:
         return time.time()
 
     async def main() -> None:
-        async with sagas.open(place, [saga]) as store:
+        async with sagas.open(location, [saga]) as store:
             began = time.time()
             end = await ended(store, saga, given=0.3)
             assert (
@@ -405,15 +419,17 @@ def test_wait(place: str, how: str) -> None:
     run(main())
 
 
-def test_a_wait_that_cannot_say_its_time(place: str) -> None:
-    """Each try asks for it again, also in the next program; its function is not called before its time, and after its tries it has failed."""
-    asked: list[tuple[str, int]] = []
+def test_a_wait_whose_time_cannot_be_computed(location: str) -> None:
+    """Each try computes it again, also in the next program; its function is not called before its
+    time, and after its tries it has failed.
+    """
+    computed: list[tuple[str, int]] = []
     times: list[float] = []
     called: list[float] = []
     saga = sagas.Saga("late")
 
     def when(task: Task) -> Any:
-        asked.append((task.key, task.attempt))
+        computed.append((task.key, task.attempt))
         if task.key == "never" or task.attempt == 1:
             return task.input
         times.append(time.time())
@@ -424,35 +440,37 @@ def test_a_wait_that_cannot_say_its_time(place: str) -> None:
         called.append(time.time())
 
     async def first() -> None:
-        async with sagas.open(place, [saga]) as store:
+        async with sagas.open(location, [saga]) as store:
             await store.start(saga, "never", "2030-01-01T00:00:00+00:00")
             await store.start(saga, "later")
-            await until(lambda: {("never", 1), ("later", 1)} <= {*asked})
+            await until(lambda: {("never", 1), ("later", 1)} <= {*computed})
 
     async def second() -> None:
-        async with sagas.open(place, [saga]) as store:
+        async with sagas.open(location, [saga]) as store:
             end = await store.wait("never")
             assert (
                 end.states == {"wait": "failed"} and "datetime.fromisoformat" in end.errors["wait"]
             )
             assert (await store.wait("later")).ok
-            assert held(place) == []
+            assert held(location) == []
 
     run(first())
     run(second())
-    assert [attempt for key, attempt in asked if key == "never"] == [1, 2, 3]
+    assert [attempt for key, attempt in computed if key == "never"] == [1, 2, 3]
     assert len(called) == 1 and called[0] >= times[0] + 0.19
 
 
-def test_a_wait_whose_time_is_over_waits_no_more(place: str) -> None:
-    """Nobody knew what its function did, then it failed, and then another program took it up: it is called, and does not wait anew."""
-    asked: list[int] = []
+def test_a_wait_does_not_repeat_after_its_time(location: str) -> None:
+    """The outcome of its function was unknown, then it failed, and then another program recovered
+    it: it is called, and does not wait again.
+    """
+    computed: list[int] = []
     calls: list[int] = []
     saga = sagas.Saga("late")
 
     def when(task: Task) -> datetime.timedelta:
-        asked.append(task.attempt)
-        return datetime.timedelta(seconds=0.05 if len(asked) == 1 else 3600)
+        computed.append(task.attempt)
+        return datetime.timedelta(seconds=0.05 if len(computed) == 1 else 3600)
 
     @saga.wait(until=when, backoff=sagas.Backoff(initial=0.2, maximum=0.2))
     def wait(task: Task) -> int:
@@ -462,23 +480,25 @@ def test_a_wait_whose_time_is_over_waits_no_more(place: str) -> None:
         return 1
 
     async def first() -> None:
-        async with sagas.open(place, [saga]) as store:
+        async with sagas.open(location, [saga]) as store:
             await store.start(saga, "k")
             await until(lambda: len(calls) == 2)
 
     async def second() -> None:
-        async with sagas.open(place, [saga]) as store:
+        async with sagas.open(location, [saga]) as store:
             assert (await store.wait("k")).ok
-            assert held(place) == []
+            assert held(location) == []
 
     run(first())
     run(second())
-    assert asked == [1] and calls == [1, 1, 2]
+    assert computed == [1] and calls == [1, 1, 2]
 
 
 @pytest.mark.parametrize("how", ["undone", "for good"])
-def test_a_saga_that_is_over_waits_for_nothing(place: str, how: str) -> None:
-    """What the store had of its wait is gone: its saga was undone meanwhile, or its function failed, and the tries that were left were given up."""
+def test_a_saga_that_is_over_waits_for_nothing(location: str, how: str) -> None:
+    """The stored row of its wait is gone: its saga was undone in the meantime, or its function
+    failed, and the remaining tries were given up.
+    """
     saga = sagas.Saga("late")
 
     @saga.wait(until=datetime.timedelta(seconds=0 if how == "for good" else 3600))
@@ -491,38 +511,40 @@ def test_a_saga_that_is_over_waits_for_nothing(place: str, how: str) -> None:
             raise ValueError("no")
 
     async def main() -> None:
-        async with sagas.open(place, [saga]) as store:
+        async with sagas.open(location, [saga]) as store:
             assert (await ended(store, saga)).states["wait"] == (
                 "failed" if how == "for good" else "waiting"
             )
-            assert held(place) == []
+            assert held(location) == []
 
     run(main())
 
 
 @pytest.mark.parametrize("answer", ["yes", "no", "nothing"])
-def test_approval(place: str, answer: str) -> None:
-    """A person, or another program, says done or failed; where nobody says anything in time it has failed. It outlives the program."""
-    asked: list[str] = []
+def test_approval(location: str, answer: str) -> None:
+    """An operator, or another program, reports success or failure; without a report in time it has
+    failed. It outlives the program.
+    """
+    keys: list[str] = []
     saga = sagas.Saga("signed")
 
     @saga.approval(timeout=datetime.timedelta(seconds=0.2) if answer == "nothing" else None)
     def sign(task: Task) -> None:
-        asked.append(task.key)
+        keys.append(task.key)
 
     @saga.step(needs=[sign])
     def go(task: Task) -> Any:
         return task.result_of(sign)
 
     async def first() -> None:
-        async with sagas.open(place, [saga]) as store:
+        async with sagas.open(location, [saga]) as store:
             await store.start(saga, key="k")
-            await until(lambda: asked)
+            await until(lambda: keys)
             with pytest.raises(sagas.StepNotWaiting):
                 await store.complete("k", go, 1)
 
     async def second() -> sagas.SagaResult:
-        async with sagas.open(place, [saga]) as store:
+        async with sagas.open(location, [saga]) as store:
             if answer == "yes":
                 await store.complete("k", sign, {"by": "Ada"})
             elif answer == "no":
@@ -531,13 +553,13 @@ def test_approval(place: str, answer: str) -> None:
 
     run(first())
     end = run(second())
-    assert asked == ["k"]
+    assert keys == ["k"]
     assert end.results == ({"sign": {"by": "Ada"}, "go": {"by": "Ada"}} if answer == "yes" else {})
     assert end.states["sign"] == ("committed" if answer == "yes" else "failed")
 
 
-def test_an_answer_that_comes_at_once(place: str) -> None:
-    """Whoever is asked answers before the asking function has returned: the answer is not lost."""
+def test_an_answer_that_comes_at_once(location: str) -> None:
+    """The caller answers before the function that asked has returned: the answer is not lost."""
     saga = sagas.Saga("signed")
     answers: list[asyncio.Task[None]] = []
 
@@ -549,7 +571,7 @@ def test_an_answer_that_comes_at_once(place: str) -> None:
     stores: list[sagas.Store] = []
 
     async def case() -> None:
-        async with sagas.open(place, [saga]) as store:
+        async with sagas.open(location, [saga]) as store:
             stores.append(store)
             assert (await ended(store, saga)).results == {"sign": "at once"}
             await answers[0]
@@ -557,8 +579,10 @@ def test_an_answer_that_comes_at_once(place: str) -> None:
     run(case())
 
 
-def test_a_step_that_is_done_elsewhere(place: str) -> None:
-    """`external=True`: it has no function here; a worker elsewhere reports, for the compensation too."""
+def test_a_step_that_is_done_elsewhere(location: str) -> None:
+    """`external=True`: it has no function here; an external worker reports, for the compensation
+    too.
+    """
     saga = sagas.Saga("far")
     print_it = saga.step(external=True, name="print")
     print_it.compensation(external=True)
@@ -567,15 +591,15 @@ def test_a_step_that_is_done_elsewhere(place: str) -> None:
     def check(task: Task) -> None:
         raise sagas.Fail(f"{task.result_of(print_it)} is torn")
 
-    async def finish(store: sagas.Store, **words: Any) -> None:
+    async def finish(store: sagas.Store, **options: Any) -> None:
         while True:
             try:
-                return await store.complete("k", print_it, **words)
+                return await store.complete("k", print_it, **options)
             except sagas.StepNotWaiting:
                 await asyncio.sleep(0.01)
 
     async def main() -> sagas.SagaResult:
-        async with sagas.open(place, [saga]) as store:
+        async with sagas.open(location, [saga]) as store:
             going = await store.start(saga, key="k")
             await finish(store, result="page 1")
             await finish(store, undo=True)
@@ -584,8 +608,8 @@ def test_a_step_that_is_done_elsewhere(place: str) -> None:
     assert run(main()).states == {"print": "undone", "check": "failed"}
 
 
-def test_a_compensation_of_which_nobody_knows(place: str) -> None:
-    """A person says how it ended, by `undo=True`; who forgets that hears it."""
+def test_a_compensation_with_an_unknown_outcome(location: str) -> None:
+    """An operator reports its outcome, by `undo=True`; without that the call is an error."""
     saga = sagas.Saga("row")
 
     @saga.step
@@ -601,9 +625,9 @@ def test_a_compensation_of_which_nobody_knows(place: str) -> None:
         raise sagas.Fail("no")
 
     async def main() -> sagas.SagaResult:
-        async with sagas.open(place, [saga]) as store:
+        async with sagas.open(location, [saga]) as store:
             going = await store.start(saga, key="k")
-            await until(lambda: asked_of(store))
+            await until(lambda: attempts_to_report(store))
             with pytest.raises(TimeoutError, match="with undo=True"):
                 await going.wait(timeout=0.01)
             with pytest.raises(sagas.StepNotWaiting, match="undo=True"):
@@ -614,11 +638,13 @@ def test_a_compensation_of_which_nobody_knows(place: str) -> None:
     assert run(main()).states == {"a": "undone", "b": "failed"}
 
 
-# -- logs and definitions ------------------------------------------------------------------------------------------------
+# -- logs and definitions
 
 
-def test_full_logs_are_audited_and_closed(place: str, monkeypatch: pytest.MonkeyPatch) -> None:
-    """New sagas go to the newest log until it is full; a settled one is audited once and marked closed, and then never again."""
+def test_full_logs_are_audited_and_closed(location: str, monkeypatch: pytest.MonkeyPatch) -> None:
+    """New sagas go to the newest log until it is full; a finished one is audited once and marked
+    closed, and then never again.
+    """
     monkeypatch.setattr("sagas.definition.shelf.SHARD_CAPACITY", 15)
     saga, right, audits = row(), program.run, Counter[str]()
 
@@ -632,18 +658,18 @@ def test_full_logs_are_audited_and_closed(place: str, monkeypatch: pytest.Monkey
     monkeypatch.setattr("sagas.base.program.run", counting)
 
     async def again() -> None:
-        async with sagas.open(place, [saga]) as store:
+        async with sagas.open(location, [saga]) as store:
             assert (await ended(store, saga, "again")).ok
 
     async def main() -> None:
-        async with sagas.open(place, [saga]) as store:
+        async with sagas.open(location, [saga]) as store:
             await asyncio.gather(
                 *(
                     ended(store, saga, f"k{number}", "fails" if number % 3 else None)
                     for number in range(120)
                 )
             )
-            path = place
+            path = location
             await until(
                 lambda: sum(log.closed for log in records.read(path).logs.values())
                 >= len(records.read(path).logs) - 1
@@ -652,17 +678,19 @@ def test_full_logs_are_audited_and_closed(place: str, monkeypatch: pytest.Monkey
     run(main())
     closed = [
         lines.HEADER + "".join(text for _, text in log.chunks)
-        for log in records.read(place).logs.values()
+        for log in records.read(location).logs.values()
         if log.closed
     ]
     run(again())
     assert [audits[text] for text in closed] == [1] * len(closed)
-    kept = records.read(place)
+    kept = records.read(location)
     assert len(kept.logs) > 3 and len(kept.sagas) == 121
 
 
-def test_definitions_change(place: str) -> None:
-    """Open sagas go on by the definition that they were begun with; new ones begin a new log; the old one is closed once it is settled."""
+def test_definitions_change(location: str) -> None:
+    """Open sagas continue by their original definition; new ones start a new log; the old one is
+    closed once it is finished.
+    """
     gates = [asyncio.Event(), asyncio.Event()]
 
     def version(number: int) -> sagas.Saga:
@@ -682,23 +710,25 @@ def test_definitions_change(place: str) -> None:
         return saga
 
     async def first(saga: sagas.Saga) -> None:
-        async with sagas.open(place, [saga], shutdown_timeout=0.0) as store:
+        async with sagas.open(location, [saga], shutdown_timeout=0.0) as store:
             await store.start(saga, key="old")
 
     async def second(saga: sagas.Saga) -> None:
         gates[1].set()
-        async with sagas.open(place, [saga]) as store:
+        async with sagas.open(location, [saga]) as store:
             assert (await store.wait("old")).results == {"a": 1}
             assert (await ended(store, saga, "new")).results == {"a": 1, "b": 2}
-            await until(lambda: records.read(place).logs[0].closed)
+            await until(lambda: records.read(location).logs[0].closed)
 
     run(first(version(0)))
     run(second(version(1)))
-    assert len(records.read(place).logs) == 2
+    assert len(records.read(location).logs) == 2
 
 
-def test_functions_and_times_change_at_any_start(place: str) -> None:
-    """Another function, timeout and back-off of a step, and another order of the sagas: it is the same log, and what is open goes on with them."""
+def test_functions_and_times_change_at_any_start(location: str) -> None:
+    """Another function, timeout and back-off of a step, and another order of the sagas: it is the
+    same log, and open sagas continue with them.
+    """
     tokens: list[str] = []
 
     def kinds(number: int) -> list[sagas.Saga]:
@@ -721,23 +751,25 @@ def test_functions_and_times_change_at_any_start(place: str) -> None:
         return [second, first] if number else [first, second]
 
     async def begin(old: list[sagas.Saga]) -> None:
-        async with sagas.open(place, old, shutdown_timeout=0.0) as store:
+        async with sagas.open(location, old, shutdown_timeout=0.0) as store:
             await store.start(old[0], "k")
             await until(lambda: tokens)
 
     async def go_on(new: list[sagas.Saga]) -> None:
-        async with sagas.open(place, new) as store:
+        async with sagas.open(location, new) as store:
             assert (await store.wait("k")).results == {"a": 1}
             assert (await ended(store, new[0], "new")).results == {"b": 1}
 
     run(begin(kinds(0)))
     run(go_on(kinds(1)))
-    (texts,) = {tuple(log.texts) for log in records.read(place).logs.values()}
+    (texts,) = {tuple(log.texts) for log in records.read(location).logs.values()}
     assert len(tokens) == 2 and len(set(tokens)) == 1 and len(texts) == 2
 
 
-def test_versions(place: str) -> None:
-    """A definition's meaning changes by a version: both are given to open, and each saga goes on by its own."""
+def test_versions(location: str) -> None:
+    """A definition's meaning changes by a version: both are passed to open, and each saga continues
+    by its own.
+    """
     gate = asyncio.Event()
 
     def version(number: int) -> sagas.Saga:
@@ -753,12 +785,12 @@ def test_versions(place: str) -> None:
     old, new = version(1), version(2)
 
     async def first() -> None:
-        async with sagas.open(place, [old], shutdown_timeout=0.0) as store:
+        async with sagas.open(location, [old], shutdown_timeout=0.0) as store:
             await store.start(old, key="old")
 
     async def second() -> None:
         gate.set()
-        async with sagas.open(place, [old, new]) as store:
+        async with sagas.open(location, [old, new]) as store:
             assert (await store.wait("old")).results == {"a": 1}
             assert (await ended(store, new, "new")).results == {"a": 2}
 
@@ -766,8 +798,10 @@ def test_versions(place: str) -> None:
     run(second())
 
 
-def test_a_function_that_is_gone(place: str) -> None:
-    """An error at open that names the step; the older program settles it with accept_new=False, and takes no new sagas."""
+def test_a_removed_function(location: str) -> None:
+    """Opening is an error that names the step; the older program finishes it with accept_new=False,
+    and takes no new sagas.
+    """
     gate = asyncio.Event()
     old, new = sagas.Saga("trip"), sagas.Saga("trip")
 
@@ -780,37 +814,36 @@ def test_a_function_that_is_gone(place: str) -> None:
         ...
 
     async def first() -> None:
-        async with sagas.open(place, [old], shutdown_timeout=0.0) as store:
+        async with sagas.open(location, [old], shutdown_timeout=0.0) as store:
             await store.start(old, key="k")
-        if place.startswith(
-            "postgresql:"
-        ):  # another node may have it: this one leaves the saga alone
-            async with sagas.open(place, [new]) as store:
+        # another node may have it: this one leaves the saga alone
+        if location.startswith("postgresql:"):
+            async with sagas.open(location, [new]) as store:
                 assert (await store.list(phase="open"))[0].key == "k"
             return
         listed = r"; open sagas: 1; `sagas store .* list --phase open` lists them"
         with pytest.raises(sagas.MissingStep, match=f"'a'.*{listed}"):
-            async with sagas.open(place, [new]):
+            async with sagas.open(location, [new]):
                 pass
         with pytest.raises(sagas.MissingStep, match="'trip' .* not open the store with that saga"):
-            async with sagas.open(place, [row()]):
+            async with sagas.open(location, [row()]):
                 pass
 
     async def second() -> None:
         gate.set()
-        async with sagas.open(place, [old], accept_new=False) as store:
+        async with sagas.open(location, [old], accept_new=False) as store:
             with pytest.raises(sagas.SagasError):
                 await store.start(old, key="another")
             await store.wait_idle()
-        async with sagas.open(place, [new]) as store:
+        async with sagas.open(location, [new]) as store:
             assert (await ended(store, new, "new")).ok
 
     run(first())
     run(second())
 
 
-def test_a_compensation_that_is_gone(tmp_path: pathlib.Path) -> None:
-    """One that may still be called: an error at open that names its step."""
+def test_a_removed_compensation(tmp_path: pathlib.Path) -> None:
+    """If it may still be called, opening is an error that names its step."""
     old, new = sagas.Saga("trip"), sagas.Saga("trip")
 
     async def a(task: Task) -> None:
@@ -829,7 +862,7 @@ def test_a_compensation_that_is_gone(tmp_path: pathlib.Path) -> None:
     run(main())
 
 
-def test_a_log_whose_sagas_wait_lets_its_process_go(place: str) -> None:
+def test_a_log_with_waiting_sagas_frees_its_engine(location: str) -> None:
     """It is started again when one is due."""
     saga = sagas.Saga("late")
 
@@ -840,7 +873,7 @@ def test_a_log_whose_sagas_wait_lets_its_process_go(place: str) -> None:
     others = set(children(os.getpid()))  # servers that other tests use
 
     async def main() -> None:
-        async with sagas.open(place, [saga], idle=0.1) as store:
+        async with sagas.open(location, [saga], idle=0.1) as store:
             going = await store.start(saga, key="k")
             assert len(set(children(os.getpid())) - others) == 1
             await until(lambda: not set(children(os.getpid())) - others)
@@ -850,20 +883,20 @@ def test_a_log_whose_sagas_wait_lets_its_process_go(place: str) -> None:
 
 
 def lives(pid: int) -> bool:
-    """Whether a process is neither dead nor killed and about to be."""
+    """Return whether a process is neither dead nor killed and about to be."""
     try:
-        told = dict(
+        status = dict(
             line.split(":\t", 1)
             for line in pathlib.Path(f"/proc/{pid}/status").read_text().splitlines()
             if ":\t" in line
         )
     except OSError:
         return False
-    return told["State"][0] not in "ZX" and not int(told["ShdPnd"], 16) & 1 << 8
+    return status["State"][0] not in "ZX" and not int(status["ShdPnd"], 16) & 1 << 8
 
 
-def test_few_children_for_many_logs(place: str, monkeypatch: pytest.MonkeyPatch) -> None:
-    """Sagas in many logs share two children, also when the store is opened again."""
+def test_few_children_for_many_logs(location: str, monkeypatch: pytest.MonkeyPatch) -> None:
+    """Sagas in many logs share two engines, also after a restart."""
     monkeypatch.setattr("sagas.definition.shelf.SHARD_CAPACITY", 7)
     gate, most = asyncio.Event(), 0
     saga = row(gate)
@@ -881,27 +914,27 @@ def test_few_children_for_many_logs(place: str, monkeypatch: pytest.MonkeyPatch)
         return await task
 
     async def first() -> None:
-        async with sagas.open(place, [saga], engine_processes=2, shutdown_timeout=0.0) as store:
+        async with sagas.open(location, [saga], engine_processes=2, shutdown_timeout=0.0) as store:
             await watched(
                 asyncio.gather(*(store.start(saga, key=f"k{number}") for number in range(60)))
             )
 
     async def second() -> None:
         gate.set()
-        async with sagas.open(place, [saga], engine_processes=2) as store:
+        async with sagas.open(location, [saga], engine_processes=2) as store:
             ends = await watched(
                 asyncio.gather(*(store.wait(f"k{number}") for number in range(60)))
             )
             assert all(end.ok for end in ends)
 
     run(first())
-    assert len(records.read(place).logs) > 4
+    assert len(records.read(location).logs) > 4
     run(second())
     assert 1 <= most <= 3  # two that drive, and one that audits
 
 
-def test_one_slot_for_many_logs(place: str, monkeypatch: pytest.MonkeyPatch) -> None:
-    """Logs that find no slot are fed when one is given back unused, too: nothing hangs."""
+def test_one_slot_for_many_logs(location: str, monkeypatch: pytest.MonkeyPatch) -> None:
+    """Logs that find no slot are served when one is released unused, too: nothing hangs."""
     monkeypatch.setattr("sagas.definition.shelf.SHARD_CAPACITY", 4)
     saga = sagas.Saga("pair")
 
@@ -914,7 +947,7 @@ def test_one_slot_for_many_logs(place: str, monkeypatch: pytest.MonkeyPatch) -> 
         return 2
 
     async def main() -> None:
-        async with sagas.open(place, [saga], concurrency=1, engine_processes=2) as store:
+        async with sagas.open(location, [saga], concurrency=1, engine_processes=2) as store:
             for turn in range(6):
                 ends = await asyncio.gather(
                     *(ended(store, saga, f"k{turn}-{number}") for number in range(30))
@@ -924,29 +957,29 @@ def test_one_slot_for_many_logs(place: str, monkeypatch: pytest.MonkeyPatch) -> 
     run(main())
 
 
-# -- what is written -----------------------------------------------------------------------------------------------------
+# -- writes
 
 
 @contextlib.contextmanager
-def locked(place: str) -> Iterator[None]:
-    """Nobody can write the store's lines."""
-    if place.startswith("postgresql:"):
-        with psycopg.connect(place) as link:
+def locked(location: str) -> Iterator[None]:
+    """Lock the store's lines against writes."""
+    if location.startswith("postgresql:"):
+        with psycopg.connect(location) as link:
             link.execute("LOCK TABLE sagas.event_log IN EXCLUSIVE MODE")
             yield
     else:
-        with contextlib.closing(sqlite3.connect(place, isolation_level=None)) as db:
+        with contextlib.closing(sqlite3.connect(location, isolation_level=None)) as db:
             db.execute("BEGIN IMMEDIATE")
             yield
 
 
 def test_one_transaction_takes_what_all_logs_have(
-    place: str, monkeypatch: pytest.MonkeyPatch
+    location: str, monkeypatch: pytest.MonkeyPatch
 ) -> None:
-    """Steps end in eight logs while a commit is under way: one more holds all of it."""
+    """Steps end in eight logs while a commit is in progress: one more holds all of it."""
     monkeypatch.setattr("sagas.definition.shelf.SHARD_CAPACITY", 2)
     gate, far = asyncio.Event(), sagas.Saga("far")
-    far.step(external=True, name="b")  # it stays open, so that no log is closed meanwhile
+    far.step(external=True, name="b")  # it stays open, so that no log is closed in the meantime
     calls: list[str] = []
 
     async def a(task: Task) -> None:
@@ -956,7 +989,7 @@ def test_one_transaction_takes_what_all_logs_have(
     saga = simple(a)
 
     async def main() -> None:
-        async with sagas.open(place, [saga, far]) as store:
+        async with sagas.open(location, [saga, far]) as store:
             runs = []
             for number in range(8):
                 await store.start(far, f"far-{number}")
@@ -968,7 +1001,7 @@ def test_one_transaction_takes_what_all_logs_have(
                 lambda: len(runners) == 8 and not any(one.driver.unwritten for one in runners)
             )
             before = store.commits
-            with locked(place):
+            with locked(location):
                 gate.set()
                 await until(lambda: all(one.driver.unwritten for one in runners))
             assert all(end.ok for end in await asyncio.gather(*(one.wait() for one in runs)))
@@ -978,7 +1011,7 @@ def test_one_transaction_takes_what_all_logs_have(
 
 
 def test_a_file_is_synced_at_each_commit(tmp_path: pathlib.Path) -> None:
-    """A WAL, and each commit on the disk before anything is told."""
+    """It has a WAL, and each commit is on the disk before any acknowledgement."""
     saga = simple(lambda task: 1)
 
     async def main() -> None:
@@ -995,7 +1028,9 @@ def test_a_file_is_synced_at_each_commit(tmp_path: pathlib.Path) -> None:
 def test_commits_in_the_loop_and_in_the_thread(
     tmp_path: pathlib.Path, monkeypatch: pytest.MonkeyPatch, at_once: float
 ) -> None:
-    """All commits are made in the thread, or most where they are asked for: the same is kept, and the WAL is moved into the file now and then."""
+    """All commits are made in the thread, or most of them where they are requested: the same is
+    stored, and the WAL is moved into the file now and then.
+    """
     monkeypatch.setattr(writer_module, "AT_ONCE", at_once)
     saga, most = row(), 0
 
@@ -1012,7 +1047,7 @@ def test_commits_in_the_loop_and_in_the_thread(
                 ends.append(await ended(store, saga, f"one-{number}"))
                 most = max(most, (tmp_path / "store.db-wal").stat().st_size)
             assert all(end.ok for end in ends)
-            assert all(said.startswith("yes") for said in (await store.audit()).values())
+            assert all(verdict.startswith("yes") for verdict in (await store.audit()).values())
 
     run(main())
     assert most < 16 << 20
@@ -1020,15 +1055,15 @@ def test_commits_in_the_loop_and_in_the_thread(
 
 @pytest.mark.parametrize("wait", [0, 50])
 def test_answers_that_are_waited_for_and_others(
-    place: str, monkeypatch: pytest.MonkeyPatch, wait: int
+    location: str, monkeypatch: pytest.MonkeyPatch, wait: int
 ) -> None:
-    """An answer that is not there in time comes by the loop, and for a while none is waited for."""
+    """A reply that does not come in time comes by the loop, and for a while none is waited for."""
     monkeypatch.setattr(process, "WAIT", wait)
     monkeypatch.setattr(process, "AGAIN", 3)
     saga = row()
 
     async def main() -> None:
-        async with sagas.open(place, [saga]) as store:
+        async with sagas.open(location, [saga]) as store:
             for number in range(12):
                 given = "fails" if number % 4 == 3 else None
                 end = await ended(store, saga, f"k{number}", given)
@@ -1040,14 +1075,14 @@ def test_answers_that_are_waited_for_and_others(
                 *(ended(store, saga, f"more-{number}") for number in range(40))
             )
             assert all(end.ok for end in ends)
-            assert all(said.startswith("yes") for said in (await store.audit()).values())
+            assert all(verdict.startswith("yes") for verdict in (await store.audit()).values())
 
     run(main())
 
 
 @dataclasses.dataclass
 class Popped:
-    """A type that changes what it is made of."""
+    """A type that changes the value that it is made of."""
 
     data: dict[str, Any]
 
@@ -1055,8 +1090,10 @@ class Popped:
         self.kind = self.data.pop("kind")
 
 
-def test_each_type_is_tried_with_an_input_of_its_own(place: str) -> None:
-    """Two first steps read the same type, which changes what it gets: neither hears of the other."""
+def test_each_type_is_tried_with_an_input_of_its_own(location: str) -> None:
+    """Two first steps read the same type, which changes its argument: neither sees the other's
+    changes.
+    """
     saga = sagas.Saga("two")
 
     @saga.step
@@ -1072,7 +1109,7 @@ def test_each_type_is_tried_with_an_input_of_its_own(place: str) -> None:
         return len(task.input)
 
     async def main() -> None:
-        async with sagas.open(place, [saga]) as store:
+        async with sagas.open(location, [saga]) as store:
             assert (await ended(store, saga, given={"data": {"kind": "x"}})).results == {
                 "a": "x",
                 "b": "x",
@@ -1082,8 +1119,8 @@ def test_each_type_is_tried_with_an_input_of_its_own(place: str) -> None:
     run(main())
 
 
-def test_nobody_waits_for_rows_of_an_answer_that_is_late(tmp_path: pathlib.Path) -> None:
-    """A child that stands still: meanwhile other programs write the file."""
+def test_a_late_reply_locks_no_rows(tmp_path: pathlib.Path) -> None:
+    """An engine does not respond: other programs write the file in the meantime."""
     path, saga = str(tmp_path / "store.db"), row()
     others = set(children(os.getpid()))
 
@@ -1107,9 +1144,11 @@ def test_nobody_waits_for_rows_of_an_answer_that_is_late(tmp_path: pathlib.Path)
 
 @pytest.mark.parametrize("turn", [0.0, dispatcher.TURN])
 def test_steps_give_the_loop_a_turn(
-    place: str, monkeypatch: pytest.MonkeyPatch, turn: float
+    location: str, monkeypatch: pytest.MonkeyPatch, turn: float
 ) -> None:
-    """Whatever is committed and answered at once: what else goes on in the loop has its turn after `TURN`, and is not held up by a saga of many steps."""
+    """Commits and replies may come at once: other work of the loop has its turn after `TURN`, and
+    is not delayed by a saga of many steps.
+    """
     monkeypatch.setattr(dispatcher, "TURN", turn)
     saga, turns, seen = sagas.Saga("long"), 0, []
     for number in range(30):
@@ -1121,7 +1160,7 @@ def test_steps_give_the_loop_a_turn(
 
     async def main() -> None:
         nonlocal turns
-        async with sagas.open(place, [saga]) as store:
+        async with sagas.open(location, [saga]) as store:
             going = asyncio.ensure_future(ended(store, saga))
             while not going.done():
                 turns += 1
@@ -1137,10 +1176,10 @@ def test_tasks_of_a_reply() -> None:
     one = '{"attempt":1,"name":"hotel","saga":0,"step":1,"task":"run"}'
     two = '{"attempt":12,"name":"a-b_c","saga":999,"step":65535,"task":"undo"}'
     plan = '{"answer":{"cost":1,"kept":[],"kind":"plan"},"phase":"going","saga":0,"task":"plan"}'
-    told = [(0, 1, "run", 1), (999, 65535, "undo", 12)]
-    assert lines.tasks_in(f'{{"tasks":[{one}]}}') == told[:1]
-    assert lines.tasks_in(f'{{"tasks":[{one},{two}]}}') == told
-    assert lines.tasks_in(f'{{"settled":false,"tasks":[{two}]}}') == told[1:]
+    expected = [(0, 1, "run", 1), (999, 65535, "undo", 12)]
+    assert lines.tasks_in(f'{{"tasks":[{one}]}}') == expected[:1]
+    assert lines.tasks_in(f'{{"tasks":[{one},{two}]}}') == expected
+    assert lines.tasks_in(f'{{"settled":false,"tasks":[{two}]}}') == expected[1:]
     for other in (
         f'{{"tasks":[{one},{plan}]}}',
         f'{{"tasks":[{plan}]}}',
@@ -1149,10 +1188,12 @@ def test_tasks_of_a_reply() -> None:
         assert lines.tasks_in(other) is None
 
 
-def test_a_commit_in_the_loop_waits_for_nobody(
+def test_a_commit_in_the_loop_does_not_block(
     tmp_path: pathlib.Path, monkeypatch: pytest.MonkeyPatch
 ) -> None:
-    """While another program writes the file, the loop goes on, and the commit is made when that is over."""
+    """While another program writes the file, the loop continues, and the commit is made when that
+    is over.
+    """
     monkeypatch.setattr(writer_module, "AT_ONCE", 60.0)
     saga = simple(lambda task: 1)
 
@@ -1186,8 +1227,10 @@ TEXTS = [
 ODD = "\0\ud800'; DROP TABLE sagas; --"
 
 
-def test_texts_are_no_statements(place: str, caplog: pytest.LogCaptureFixture) -> None:
-    """Keys, inputs, results, what is raised and notes, with whatever a database could take for something else."""
+def test_texts_are_no_statements(location: str, caplog: pytest.LogCaptureFixture) -> None:
+    """Keys, inputs, results, exceptions and notes have text that a database could take for
+    something else.
+    """
     caplog.set_level(logging.CRITICAL, "sagas")  # the tests' runner takes no halves of pairs
     saga, hazy, must = sagas.Saga("plain"), sagas.Saga("hazy"), sagas.Saga("must")
 
@@ -1204,7 +1247,7 @@ def test_texts_are_no_statements(place: str, caplog: pytest.LogCaptureFixture) -
         raise sagas.Fail(task.input)
 
     async def main() -> None:
-        async with sagas.open(place, [saga, hazy, must]) as store:
+        async with sagas.open(location, [saga, hazy, must]) as store:
             for text in TEXTS:
                 assert (await ended(store, saga, text, {text: ODD})).results == {"a": {text: ODD}}
                 with pytest.raises(sagas.KeyConflict):
@@ -1223,13 +1266,13 @@ def test_texts_are_no_statements(place: str, caplog: pytest.LogCaptureFixture) -
             assert [one.key for one in await store.list(phase="resolved")] == ["must"]
 
     run(main())
-    assert set(records.read(place).sagas) == {*TEXTS, "hazy", "must"}
+    assert set(records.read(location).sagas) == {*TEXTS, "hazy", "must"}
 
 
-# -- questions -----------------------------------------------------------------------------------------------------------
+# -- reads
 
 
-def test_questions(place: str) -> None:
+def test_questions(location: str) -> None:
     """get, list, stuck, resolve, log, audit and draw."""
     good, bad = row(), sagas.Saga("must")
 
@@ -1238,7 +1281,7 @@ def test_questions(place: str) -> None:
         raise sagas.Fail("never")
 
     async def main() -> None:
-        async with sagas.open(place, [good, bad]) as store:
+        async with sagas.open(location, [good, bad]) as store:
             for number in range(5):
                 await ended(store, good, f"g{number}", "fails" if number == 1 else None)
             end = await ended(store, bad, "b")
@@ -1254,9 +1297,9 @@ def test_questions(place: str) -> None:
             page = await store.list(limit=2)
             assert [one.key for one in await store.list(limit=2, after=page[-1].id)] == ["g2", "g3"]
             wrong: list[Any] = [{"after": "g1"}, {"limit": "all"}, {"limit": 0}, {"phase": "over"}]
-            for words in wrong:
-                with pytest.raises((TypeError, ValueError), match=f"{[*words][0]}="):
-                    await store.list(**words)
+            for options in wrong:
+                with pytest.raises((TypeError, ValueError), match=f"{[*options][0]}="):
+                    await store.list(**options)
             assert [one.key for one in await store.stuck()] == ["b"]
             for note in ("", " ", None):
                 with pytest.raises((TypeError, ValueError), match="what was done about it"):
@@ -1267,11 +1310,11 @@ def test_questions(place: str) -> None:
             (resolved,) = await store.list(phase="resolved")
             assert await store.stuck() == [] and resolved.note == "seen to"
             events = await store.log("g1")
-            words = [event.event for event in events]
+            options = [event.event for event in events]
             assert (
-                words[:2] == ["open", "start_run"]
-                and words.count("undone") == 2
-                and "adopt" in words
+                options[:2] == ["open", "start_run"]
+                and options.count("undone") == 2
+                and "adopt" in options
             )
             assert [event.value for event in events if event.event == "commit"] == ["A", "AB"]
             assert all(0 <= time.time() - event.at < 60 for event in events)
@@ -1281,23 +1324,25 @@ def test_questions(place: str) -> None:
     run(main())
 
 
-def test_events_and_logging(place: str, caplog: pytest.LogCaptureFixture) -> None:
-    """Hooks for metrics and traces, and structured logging under `sagas`; a hook that raises stops no saga."""
-    told: list[sagas.Event] = []
+def test_events_and_logging(location: str, caplog: pytest.LogCaptureFixture) -> None:
+    """Hooks for metrics and traces, and structured logging under `sagas`; a hook that raises stops
+    no saga.
+    """
+    events: list[sagas.Event] = []
 
     def hook(event: sagas.Event) -> None:
-        told.append(event)
+        events.append(event)
         raise RuntimeError("the metrics are down")
 
     saga = row()
 
     async def main() -> None:
-        async with sagas.open(place, [saga], on_event=hook) as store:
+        async with sagas.open(location, [saga], on_event=hook) as store:
             await ended(store, saga, given="fails")
 
     with caplog.at_level(logging.INFO, "sagas"):
         run(main())
-    names = Counter(event.name for event in told)
+    names = Counter(event.name for event in events)
     assert (
         names["saga_started"]
         == names["saga_ended"]
@@ -1308,7 +1353,7 @@ def test_events_and_logging(place: str, caplog: pytest.LogCaptureFixture) -> Non
     assert names["step_started"] == 5 and names["step_succeeded"] == 4
     assert all(
         (event.seconds is not None) == (event.name in ("step_succeeded", "step_failed"))
-        for event in told
+        for event in events
     )
     kept = [
         record
@@ -1319,9 +1364,9 @@ def test_events_and_logging(place: str, caplog: pytest.LogCaptureFixture) -> Non
 
 
 @pytest.mark.parametrize("how", ["refused", "late", "for good"])
-def test_a_final_failure_is_told_once(place: str, how: str) -> None:
-    """As `step_failed`, though the step had tries left; of these nothing is told."""
-    told: list[tuple[str, str | None]] = []
+def test_a_final_failure_is_reported_once(location: str, how: str) -> None:
+    """It is `step_failed`, though the step had tries left; these are not reported."""
+    events: list[tuple[str, str | None]] = []
     saga = sagas.Saga("signed")
 
     if how == "for good":
@@ -1338,10 +1383,10 @@ def test_a_final_failure_is_told_once(place: str, how: str) -> None:
 
     def hook(event: sagas.Event) -> None:
         if event.name in ("step_retrying", "step_failed", "step_succeeded"):
-            told.append((event.name, event.detail))
+            events.append((event.name, event.detail))
 
     async def main() -> None:
-        async with sagas.open(place, [saga], on_event=hook) as store:
+        async with sagas.open(location, [saga], on_event=hook) as store:
             run = await store.start(saga, "k")
             if how == "refused":
                 while not await store.waits_for("k"):
@@ -1350,7 +1395,7 @@ def test_a_final_failure_is_told_once(place: str, how: str) -> None:
             assert (await run.wait()).states == {"sign": "failed"}
 
     run(main())
-    assert told == [
+    assert events == [
         (
             "step_failed",
             {
@@ -1362,8 +1407,8 @@ def test_a_final_failure_is_told_once(place: str, how: str) -> None:
     ]
 
 
-def test_a_log_line_is_one_line(place: str, caplog: pytest.LogCaptureFixture) -> None:
-    """Keys and details are quoted where they are not one plain word; what it has of lines is written with their ends."""
+def test_a_log_line_is_one_line(location: str, caplog: pytest.LogCaptureFixture) -> None:
+    """Keys and details are quoted unless they are one plain word; line ends in them are escaped."""
 
     def fails(task: Task) -> None:
         raise ValueError('a "b"\nc\x85=ü')
@@ -1371,7 +1416,7 @@ def test_a_log_line_is_one_line(place: str, caplog: pytest.LogCaptureFixture) ->
     saga = simple(fails)
 
     async def main() -> None:
-        async with sagas.open(place, [saga]) as store:
+        async with sagas.open(location, [saga]) as store:
             await ended(store, saga, "order/2026 ü")
             await ended(store, saga, "order-1")
 
@@ -1384,10 +1429,10 @@ def test_a_log_line_is_one_line(place: str, caplog: pytest.LogCaptureFixture) ->
     ]
 
 
-def test_without_async(place: str) -> None:
+def test_without_async(location: str) -> None:
     """`open_sync`: a thread has the loop."""
     saga = row()
-    with sagas.open_sync(place, [saga]) as store:
+    with sagas.open_sync(location, [saga]) as store:
         assert store.start(saga, key="good").wait(30).ok and not store.start(saga, key="good").new
         assert store.start(saga, key="bad", input="fails").wait(30).states["a"] == "undone"
         ends: list[sagas.SagaResult] = []
@@ -1403,12 +1448,12 @@ def test_without_async(place: str) -> None:
         assert [one.key for one in store.list()] == ["good", "bad", "one"] and store.get(
             "none"
         ) is None
-        assert all(said.startswith("yes") for said in store.audit().values())
+        assert all(verdict.startswith("yes") for verdict in store.audit().values())
     with pytest.raises(sagas.Closed):
         store.start(saga, key="late")
 
 
-def test_who_waits_too_long(place: str) -> None:
+def test_a_wait_that_takes_too_long(location: str) -> None:
     """The error says what the saga waits for, as far as this program knows."""
     saga, gate = sagas.Saga("signed"), threading.Event()
 
@@ -1420,7 +1465,7 @@ def test_who_waits_too_long(place: str) -> None:
     def sign(task: Task) -> None:
         ...
 
-    with sagas.open_sync(place, [saga]) as store:
+    with sagas.open_sync(location, [saga]) as store:
         run = store.start(saga, "k")
         hears(lambda: run.wait(0.01), "'k' is still open after 0.01 s: send runs")
         gate.set()
@@ -1434,7 +1479,7 @@ def test_who_waits_too_long(place: str) -> None:
         assert run.wait(60).ok
 
     async def main() -> None:
-        async with sagas.open(place, [saga]) as store:
+        async with sagas.open(location, [saga]) as store:
             one = await store.start(saga, "two")
             with pytest.raises(TimeoutError, match="'two' is still open after 0.01 s"):
                 await one.wait(timeout=0.01)
@@ -1447,7 +1492,7 @@ def test_who_waits_too_long(place: str) -> None:
 
 
 def test_another_loop(tmp_path: pathlib.Path) -> None:
-    """A store is of its loop: another one, in a thread, hears so at once."""
+    """A store belongs to its loop: another one, in a thread, gets the error at once."""
     saga = row()
 
     async def main() -> None:
@@ -1467,7 +1512,9 @@ def test_another_loop(tmp_path: pathlib.Path) -> None:
 
 
 def test_a_step_calls_a_store_without_async(tmp_path: pathlib.Path) -> None:
-    """A plain function may, since it runs in a thread; an async one would hold up the loop that it waits for, and hears so."""
+    """A plain function may, since it runs in a thread; an async one would block the loop that it
+    waits for, and gets an error.
+    """
     saga, other = simple(
         lambda task: store.start(inner, "inner").wait(60).results["a"]
     ), sagas.Saga("other")
@@ -1485,16 +1532,17 @@ def test_a_step_calls_a_store_without_async(tmp_path: pathlib.Path) -> None:
         )
 
 
-def held(place: str) -> list[tuple[Any, ...]]:
-    """What a store keeps of attempts that are held."""
-    with contextlib.closing(admin.connect(place)) as link:
+def held(location: str) -> list[tuple[Any, ...]]:
+    """Return what a store keeps of attempts that are held."""
+    with contextlib.closing(admin.connect(location)) as link:
         return link.ask("SELECT id, step, action, number, reason FROM suspensions")
 
 
 @pytest.mark.parametrize("reopened", [False, True])
-def test_nothing_is_kept_of_a_wait_behind_its_sagas_end(place: str, reopened: bool) -> None:
-    """A wait's function raises as another step fails for good: it is not tried again, and its time,
-    which was kept for that try, goes with the saga's end."""
+def test_nothing_is_kept_of_a_wait_after_its_sagas_end(location: str, reopened: bool) -> None:
+    """A wait's function raises as another step fails permanently: it is not retried, and its time,
+    which was kept for that try, is deleted with the saga's end.
+    """
     saga, inside = sagas.Saga("two"), list[str]()
     gate = asyncio.Event()
 
@@ -1515,24 +1563,26 @@ def test_nothing_is_kept_of_a_wait_behind_its_sagas_end(place: str, reopened: bo
 
     async def main() -> None:
         if reopened:
-            async with sagas.open(place, [saga], shutdown_timeout=0.0) as store:
+            async with sagas.open(location, [saga], shutdown_timeout=0.0) as store:
                 await store.start(saga, "k")
                 await until(lambda: len(inside) == 2)
             inside.clear()
-        async with sagas.open(place, [saga]) as store:
+        async with sagas.open(location, [saga]) as store:
             run = await store.start(saga, "k")
             await until(lambda: len(inside) == 2)
-            assert held(place)
+            assert held(location)
             gate.set()
             end = await run.wait()
             assert end.states == {"late": "waiting", "bad": "failed"}
 
     run(main())
-    assert held(place) == []
+    assert held(location) == []
 
 
 def test_callers_that_gave_up_are_not_kept(tmp_path: pathlib.Path) -> None:
-    """A saga that waits for a person is asked about again and again, each time for a moment: few of those callers are kept, and who waits hears of its end."""
+    """Callers wait for a saga again and again, each time for a moment: few of these waits are kept,
+    and a waiting caller gets its end.
+    """
     kind = sagas.Saga("outside")
     kind.step(name="a", external=True)
 
@@ -1551,22 +1601,23 @@ def test_callers_that_gave_up_are_not_kept(tmp_path: pathlib.Path) -> None:
     run(main())
 
 
-def test_keys_that_are_no_texts(place: str) -> None:
-    """No saga has one; and who asks for another key in the same moment, or later, hears of that."""
+def test_keys_that_are_no_texts(location: str) -> None:
+    """No saga has one; a caller with another key, at the same moment or later, is not affected."""
     kind, wrong = simple(lambda task: 1), [42, None, b"k", 1.5]
 
     async def main() -> None:
-        async with sagas.open(place, [kind]) as store:
+        async with sagas.open(location, [kind]) as store:
             assert (await ended(store, kind)).ok
             async with asyncio.timeout(60):
-                found = await asyncio.gather(*(store.get(key) for key in [*wrong, "k", "other"]))  # type: ignore[arg-type]
-                assert [one is not None for one in found] == [False] * 4 + [True, False]
+                keys: list[Any] = [*wrong, "k", "other"]
+                results = await asyncio.gather(*(store.get(key) for key in keys))
+                assert [one is not None for one in results] == [False] * 4 + [True, False]
                 for call in (store.wait, store.abort, store.log):
                     with pytest.raises(sagas.NoSuchSaga, match="no saga has the key 42"):
                         await call(42)  # type: ignore[arg-type]
                 assert (await store.wait("k")).ok
-        if place.startswith("postgresql"):
-            async with sagas.Client(place) as client:
+        if location.startswith("postgresql"):
+            async with sagas.Client(location) as client:
                 assert await client.get(42) is None  # type: ignore[arg-type]
                 with pytest.raises(sagas.NoSuchSaga, match="no saga has the key 42"):
                     await client.wait(42)  # type: ignore[arg-type]

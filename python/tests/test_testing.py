@@ -1,4 +1,7 @@
-"""`sagas.testing`: a whole saga in memory, with failures by step and attempt, and a clock that nobody waits for."""
+"""`sagas.testing`: a whole saga in memory, with failures by step and attempt.
+
+Its clock needs no real time.
+"""
 
 from __future__ import annotations
 
@@ -20,7 +23,9 @@ DAY = datetime.timedelta(days=1)
 
 
 def trip() -> sagas.Saga:
-    """A flight for ever, a car worth keeping, a hotel with three tries, a tour from it."""
+    """Return a saga: a flight without a compensation, a car worth keeping, a hotel with three
+    tries, and a tour that needs it.
+    """
     trip = sagas.Saga("trip")
 
     @trip.step
@@ -51,7 +56,7 @@ def trip() -> sagas.Saga:
 
 
 def late(approves: bool = True) -> sagas.Saga:
-    """Something that can be undone, three days, and a person's word."""
+    """Return a saga: a step that can be undone, a wait of three days, and an approval."""
     late = sagas.Saga("late")
 
     @late.step
@@ -78,7 +83,7 @@ def late(approves: bool = True) -> sagas.Saga:
 
 
 def test_all_goes_well() -> None:
-    """Each step is called once, with the results of what it needs."""
+    """Each step is called once, with the results of the steps that it needs."""
     trial = run(trip(), "LH400")
     assert trial.phase == "completed" and set(trial.states.values()) == {"committed"}
     assert trial.results == {
@@ -97,7 +102,7 @@ def test_all_goes_well() -> None:
 
 
 def test_fails_by_number() -> None:
-    """The first two attempts fail, the third does well, and the back-off takes no time."""
+    """The first two attempts fail, the third succeeds, and the back-off takes no time."""
     began = time.perf_counter()
     trial = run(trip(), "LH400", fail={"hotel": 2})
     assert time.perf_counter() - began < 2
@@ -111,8 +116,8 @@ def test_fails_by_number() -> None:
     ]
 
 
-def test_fails_for_good() -> None:
-    """Flight and car stand, for 0 + 3 + 25 + 10; the other tries are not made after `Fail`."""
+def test_fails_permanently() -> None:
+    """Flight and car are kept, for 0 + 3 + 25 + 10; the other tries are not made after `Fail`."""
     ways: tuple[sagas.testing.Attempts, ...] = (3, sagas.Fail("full"))
     for fail in ways:
         trial = run(trip(), "LH400", fail={"hotel": fail})
@@ -133,7 +138,7 @@ def test_fails_at_one_attempt() -> None:
 
 
 def test_unknown_is_made_again_with_the_same_token() -> None:
-    """What the function returned is lost twice: three calls, one token, one attempt."""
+    """The function's result is lost twice: three calls, one token, one attempt."""
     trial = run(trip(), "LH400", unknown={"car": 2})
     cars = [call for call in trial.calls if call.step == "car"]
     assert [call.outcome for call in cars] == ["unknown", "unknown", "succeeded"]
@@ -141,7 +146,7 @@ def test_unknown_is_made_again_with_the_same_token() -> None:
 
 
 def test_unknown_for_ever_waits_for_a_person() -> None:
-    """After three of them somebody has to say."""
+    """After three of them an operator has to report."""
     with pytest.raises(LookupError, match="car"):
         run(trip(), "LH400", unknown={"car": 99})
     assert (
@@ -150,29 +155,29 @@ def test_unknown_for_ever_waits_for_a_person() -> None:
     )
 
 
-def test_abort_undoes_what_costs_less_undone() -> None:
-    """Once the order is there the saga is aborted: it is undone, and nothing waits three days."""
+def test_abort_undoes_what_costs_less_to_undo() -> None:
+    """Once the order exists the saga is aborted: it is undone, and no step waits three days."""
     trial = run(late(), abort="order")
     assert trial.aborted and trial.states["order"] == "undone" and trial.phase == "recovered"
     assert [call.step for call in trial.undone] == ["order"] and trial.seconds == 0.0
 
 
 def test_a_compensation_fails() -> None:
-    """It has one try: the order stays as it is, and the saga ends with it."""
+    """It has one try: the order stays, and the saga ends with it."""
     trial = run(late(), abort="order", fail_undo={"order": 1})
     assert trial.states["order"] == "undo_failed" and trial.phase == "recovered"
 
 
 def test_three_days_take_no_time() -> None:
-    """The clock goes on to what is next."""
+    """The clock advances to the next event."""
     clock = Clock(datetime.datetime(2031, 5, 1, tzinfo=datetime.timezone.utc))
     trial = run(late(), answers={"manager": "yes"}, clock=clock)
     assert trial.results["go"] == "yes" and trial.seconds == 3 * 86400
     assert clock.now().isoformat() == "2031-05-04T00:00:00+00:00"
 
 
-def test_nobody_approves_in_time() -> None:
-    """After two more days it has failed, and what can be undone is."""
+def test_an_approval_that_times_out() -> None:
+    """After two more days it has failed, and the steps that can be undone are undone."""
     trial = run(late())
     assert (
         trial.states["manager"] == "failed"
@@ -181,8 +186,8 @@ def test_nobody_approves_in_time() -> None:
     )
 
 
-def test_somebody_has_to_be_asked() -> None:
-    """Without a time an approval needs an answer, by a value, a function or an exception."""
+def test_an_approval_needs_an_answer() -> None:
+    """Without a time an approval needs an answer: a value, a function or an exception."""
     with pytest.raises(LookupError, match="manager"):
         run(late(approves=False))
     assert (
@@ -192,7 +197,7 @@ def test_somebody_has_to_be_asked() -> None:
 
 
 def test_stuck() -> None:
-    """What must not be left out fails for good."""
+    """A step that must not be left out fails permanently."""
     must = sagas.Saga("must")
 
     @must.step(skip=sagas.NEVER)
@@ -204,7 +209,7 @@ def test_stuck() -> None:
 
 
 def test_a_trial_is_as_an_end() -> None:
-    """`ok`, `of` and `errors`, as of `SagaResult`; an exception is told by its class, too."""
+    """`ok`, `of` and `errors`, as of `SagaResult`; an exception is given by its class, too."""
     saga = trip()
     trial = run(saga, "LH400")
     assert trial.ok and trial.result_of(saga.steps[0]) == "flight LH400" and trial.errors == {}
@@ -213,7 +218,7 @@ def test_a_trial_is_as_an_end() -> None:
 
 
 def test_a_trial_is_printed_as_an_end() -> None:
-    """A line, and one for each step; `of` takes names, too."""
+    """One line, and one for each step; `of` takes names, too."""
     trial = run(trip(), "LH400", key="order-1", fail={"hotel": sagas.Fail("full")})
     assert str(trial).splitlines() == [
         "trip order-1: recovered, plan of cost 38",
@@ -231,7 +236,7 @@ FORMS = r"must be a number of attempts \(1\), a list of attempts"
 
 
 @pytest.mark.parametrize(
-    "words, kind, text",
+    "script, kind, text",
     [
         ({"fail": {"boat": 1}}, KeyError, "no step 'boat'"),
         ({"fail": {"hotle": 1}}, KeyError, "no step 'hotle'; did you mean 'hotel'"),
@@ -251,16 +256,19 @@ FORMS = r"must be a number of attempts \(1\), a list of attempts"
         (
             {"fail_undo": {"flight": 1}},
             ValueError,
-            "fail_undo: step 'flight' has no compensation, so it is never undone. Declare one with @flight.compensation",
+            (
+                "fail_undo: step 'flight' has no compensation, so it is never undone. Declare one"
+                " with @flight.compensation"
+            ),
         ),
         ({"answers": ["hotel"]}, TypeError, "must be a dict of answers by step"),
         ({"abort": "boat"}, KeyError, "no step 'boat'"),
     ],
 )
-def test_a_script_that_is_none(words: dict[str, Any], kind: type[Exception], text: str) -> None:
-    """A script that means nothing is a fault of the test, by its word."""
+def test_an_invalid_script(script: dict[str, Any], kind: type[Exception], text: str) -> None:
+    """A script without a meaning is an error of the test, by its name."""
     with pytest.raises(kind, match=text):
-        run(trip(), "LH400", **words)
+        run(trip(), "LH400", **script)
 
 
 def test_all_attempts_by_a_number() -> None:
@@ -268,8 +276,8 @@ def test_all_attempts_by_a_number() -> None:
     assert run(trip(), "LH400", fail={"hotel": sys.maxsize}).states["hotel"] == "failed"
 
 
-def test_what_fails_to_be_undone_by_doing_nothing() -> None:
-    """Nothing cannot fail; and what is no saga is told as that."""
+def test_failures_of_doing_nothing() -> None:
+    """Doing nothing cannot fail; and an argument that is not a saga is reported as that."""
     with pytest.raises(
         ValueError, match="unknown_undo: step 'wait' .* undoing it does nothing, which cannot fail"
     ):
@@ -278,15 +286,18 @@ def test_what_fails_to_be_undone_by_doing_nothing() -> None:
         run("trip")  # type: ignore[arg-type]
 
 
-def one(function: Any, **words: Any) -> sagas.Saga:
-    """A saga of one step."""
+def one(function: Any, **options: Any) -> sagas.Saga:
+    """Return a saga of one step."""
     saga = sagas.Saga("one")
-    saga.step(name="a", **words)(function)
+    saga.step(name="a", **options)(function)
     return saga
 
 
-def test_a_result_that_is_no_json() -> None:
-    """It raises, as an answer does: a store keeps the effect and loses the result. What a compensation returns counts for nothing."""
+def test_a_result_that_is_not_json() -> None:
+    """It raises, as an answer does: a store keeps the effect and loses the result.
+
+    The return value of a compensation is ignored.
+    """
     with pytest.raises(
         sagas.ResultNotSerializable,
         match="step 'a' returned a value that is not JSON: object is not JSON",
@@ -302,13 +313,13 @@ def test_a_result_that_is_no_json() -> None:
 
 @dataclasses.dataclass
 class Half:
-    """A type with a name that is there for the checker alone."""
+    """A type with a name that only the type checker has."""
 
     other: Elsewhere  # type: ignore[name-defined]
 
 
 def test_an_input_that_does_not_fit() -> None:
-    """As a store refuses it; what cannot be told of it is left to the step."""
+    """It is refused as by a store; parts that cannot be checked are left to the step."""
 
     def reads(task: sagas.Task[dict[int, datetime.date]]) -> None:
         ...
@@ -322,7 +333,7 @@ def test_an_input_that_does_not_fit() -> None:
 
 
 def test_a_transaction() -> None:
-    """There is no database here: a test hands a connection in, if a step asks for one."""
+    """There is no database here: a test passes a connection in, if a step requests one."""
     asks = one(lambda task: [*task.connection], transaction=True)
     with pytest.raises(RuntimeError, match=r"sagas.testing has no database. Set connection=\.\.\."):
         run(asks)
@@ -334,15 +345,15 @@ def test_a_transaction() -> None:
 def test_a_wait_until_something_else(until: datetime.datetime) -> None:
     """The step fails, as in a store."""
     saga = sagas.Saga("late")
-    told: Callable[[sagas.Task[Any]], datetime.datetime] = lambda task: until
-    saga.wait(until=told, name="wait")(lambda task: None)
+    until_time: Callable[[sagas.Task[Any]], datetime.datetime] = lambda task: until
+    saga.wait(until=until_time, name="wait")(lambda task: None)
     error = run(saga).errors["wait"]
     assert error.startswith("TypeError: until returned ")
     assert "it must be a timedelta or a datetime with a time zone" in error
 
 
 def test_in_a_loop() -> None:
-    """`run_async` where a loop runs."""
+    """`run_async` works while a loop runs."""
 
     async def main() -> sagas.testing.Trial:
         return await sagas.testing.run_async(trip(), "LH400")

@@ -1,4 +1,5 @@
-"""What each attempt did: queued, running at a worker, waiting, backing off; and what people decided of it."""
+"""The timeline of each attempt: queued, running at a worker, waiting, backing off; and decisions.
+"""
 
 from __future__ import annotations
 
@@ -33,9 +34,9 @@ def client(service: Served) -> Iterator[httpx.Client]:
 
 
 def attempts(client: httpx.Client, key: str) -> list[dict[str, Any]]:
-    """The attempts of a saga, whose parts follow one another without gaps."""
-    found: list[dict[str, Any]] = client.get(f"/v1/sagas/{key}/timeline").json()["attempts"]
-    for one in found:
+    """Return the attempts of a saga, whose parts follow one another without gaps."""
+    listed: list[dict[str, Any]] = client.get(f"/v1/sagas/{key}/timeline").json()["attempts"]
+    for one in listed:
         spans = one["spans"]
         assert one["ready"] <= one["began"] and spans[0]["began"] in (
             one["ready"],
@@ -43,33 +44,38 @@ def attempts(client: httpx.Client, key: str) -> list[dict[str, Any]]:
         ), one
         assert all(first["ended"] == then["began"] for first, then in zip(spans, spans[1:])), one
         assert spans[-1]["ended"] == one["ended"], one
-    return found
+    return listed
 
 
-def told(one: dict[str, Any]) -> list[tuple[str, str | None]]:
-    """The parts from the begin on."""
+def states_of(one: dict[str, Any]) -> list[tuple[str, str | None]]:
+    """Return the parts from the begin on."""
     return [(span["state"], span["why"]) for span in one["spans"] if span["state"] != "queued"]
 
 
 def test_workers_people_and_pauses(client: httpx.Client) -> None:
-    """A worker's lease that ends, the next worker, a retry, an unknown outcome, and who reported it and why."""
+    """A worker's lease that ends, the next worker, a retry, an unknown outcome, and its reporter
+    with the reason.
+    """
     start(client, "trip", "t")
-    words = {"steps": ["trip/flight"], "wait": 30, "limit": 1}
-    first = client.post("/v1/tasks/claim", json={**words, "lease": 600, "worker": "first"}).json()[
+    claim = {"steps": ["trip/flight"], "wait": 30, "limit": 1}
+    first = client.post("/v1/tasks/claim", json={**claim, "lease": 600, "worker": "first"}).json()[
         "tasks"
     ][0]
     (now,) = attempts(client, "t")
-    assert now["outcome"] is None and told(now) == [("waiting", "worker"), ("running", "worker")]
+    assert now["outcome"] is None and states_of(now) == [
+        ("waiting", "worker"),
+        ("running", "worker"),
+    ]
     assert (now["spans"][-1]["worker"], now["spans"][-1]["ended"]) == ("local/first", None)
     beat = {"lease": first["lease"], "seconds": 1}
     assert client.post(f"/v1/tasks/{first['attempt_id']}/heartbeat", json=beat).status_code == 200
-    second = client.post("/v1/tasks/claim", json={**words, "lease": 60, "worker": "second"}).json()[
+    second = client.post("/v1/tasks/claim", json={**claim, "lease": 60, "worker": "second"}).json()[
         "tasks"
     ][0]
     assert second["attempt_id"] == first["attempt_id"]
     assert report(client, second, result=1).status_code == 200
     (flight, *_) = attempts(client, "t")
-    assert told(flight) == [
+    assert states_of(flight) == [
         ("waiting", "worker"),
         ("running", "worker"),
         ("waiting", "worker"),
@@ -104,18 +110,22 @@ def test_workers_people_and_pauses(client: httpx.Client) -> None:
     one, two = attempts(client, "t")[-2:]
     assert (one["attempt"], one["outcome"], one["error"]) == (1, "retried", "closed today")
     assert (two["attempt"], two["outcome"], two["unknown_outcomes"]) == (2, "succeeded", 1)
-    assert told(two)[-1] == ("waiting", "person")
-    assert ("running", "worker") in told(two) and two["spans"][-1]["detail"] == "the line went dead"
+    assert states_of(two)[-1] == ("waiting", "person")
+    assert ("running", "worker") in states_of(two) and two["spans"][-1][
+        "detail"
+    ] == "the line went dead"
     assert (two["decision"]["command"], two["decision"]["note"]) == ("complete", "they say so")
     (done,) = client.get("/v1/sagas/t/timeline").json()["decisions"]
     assert (done["command"], done["step"], done["accepted"]) == ("complete", "tour", True)
 
 
 def test_an_approval_waits(client: httpx.Client) -> None:
-    """For a decision, which is named with who made it; what follows was ready then. Nobody's saga has no timeline."""
+    """It waits for a decision, which is named with its operator; the steps after it were ready
+    then. An unknown saga has no timeline.
+    """
     start(client, "order", "o")
     deadline = time.monotonic() + LONG
-    while told(attempts(client, "o")[0])[-1:] != [("waiting", "approval")]:
+    while states_of(attempts(client, "o")[0])[-1:] != [("waiting", "approval")]:
         assert time.monotonic() < deadline
     assert (
         client.post(
@@ -133,8 +143,11 @@ def test_an_approval_waits(client: httpx.Client) -> None:
     assert client.get("/v1/sagas/none/timeline").status_code == 404
 
 
-def test_functions(place: str) -> None:
-    """Of one that is called at once nothing is stored. A retry, a limit that lasts, and a program that ended in its midst are told by the next one."""
+def test_functions(location: str) -> None:
+    """For a function that is called at once nothing is stored.
+
+    The next program reports a retry, a limit that lasts, and a program that ended during a call.
+    """
     shop = sagas.Saga("shop")
     held, calls = asyncio.Event(), list[str]()
 
@@ -155,13 +168,13 @@ def test_functions(place: str) -> None:
             await asyncio.Event().wait()
 
     async def first() -> None:
-        async with sagas.open(place, [shop]) as store:
+        async with sagas.open(location, [shop]) as store:
             await store.start(shop, "one")
             await held.wait()
             await store.close(0)
 
     async def then() -> list[timeline.AttemptTimes]:
-        async with sagas.open(place, [shop]) as store:
+        async with sagas.open(location, [shop]) as store:
             run = await store.start(shop, "one")
             assert (await run.wait()).ok
             reader = StoreReader(store.reader())
@@ -171,10 +184,10 @@ def test_functions(place: str) -> None:
             return timeline.of(view, store.now())
 
     asyncio.run(first())
-    found = {(one.step, one.attempt): one for one in asyncio.run(then())}
+    by_attempt = {(one.step, one.attempt): one for one in asyncio.run(then())}
     spans = {
         at: [(span.state, span.why) for span in one.spans if span.state != "queued"]
-        for at, one in found.items()
+        for at, one in by_attempt.items()
     }
     assert spans == {
         ("plain", 1): [("running", None)],
@@ -182,15 +195,15 @@ def test_functions(place: str) -> None:
         ("again", 2): [("backoff", None), ("running", None)],
         ("last", 1): [("running", None), ("running", None)],
     }
-    assert found["last", 1].spans[-1].detail == timeline.CALLED_AGAIN
+    assert by_attempt["last", 1].spans[-1].detail == timeline.CALLED_AGAIN
     assert (
-        found["again", 1].error == "RuntimeError: not yet"
-        and found["again", 2].seconds(0.0)["backoff"] > 0.03
+        by_attempt["again", 1].error == "RuntimeError: not yet"
+        and by_attempt["again", 2].seconds(0.0)["backoff"] > 0.03
     )
 
 
-def test_a_call_behind_the_last_attempt(place: str) -> None:
-    """It waits for its pause, as one behind an attempt of the definition."""
+def test_a_call_after_the_last_attempt(location: str) -> None:
+    """It waits for its pause, as one after an attempt of the definition."""
     shop, calls = sagas.Saga("shop"), list[int]()
 
     @shop.step(on_exhausted="retry", backoff=sagas.Backoff(0.5, 0.5))
@@ -200,7 +213,7 @@ def test_a_call_behind_the_last_attempt(place: str) -> None:
             raise RuntimeError("not yet")
 
     async def main() -> None:
-        async with sagas.open(place, [shop]) as store:
+        async with sagas.open(location, [shop]) as store:
             run = await store.start(shop, "one")
             waited = list[tuple[str, str | None]]()
             while ("backoff", None) not in waited and len(calls) < 2:
@@ -216,9 +229,12 @@ def test_a_call_behind_the_last_attempt(place: str) -> None:
         view = reader.ask(one_saga.view("one"))
         reader.close()
         assert view
-        found = timeline.of(view, store.now())
+        timelines = timeline.of(view, store.now())
         return [
-            (span.state, span.why) for one in found for span in one.spans if span.state != "queued"
+            (span.state, span.why)
+            for one in timelines
+            for span in one.spans
+            if span.state != "queued"
         ]
 
     asyncio.run(main())

@@ -1,4 +1,7 @@
-"""Trace contexts are kept and handed on; with OpenTelemetry's API, each attempt has a span, within which its function runs."""
+"""Trace contexts are stored and passed on.
+
+With OpenTelemetry's API, each attempt has a span, within which its function runs.
+"""
 
 from __future__ import annotations
 
@@ -28,7 +31,7 @@ MODULES = ("opentelemetry", "opentelemetry.trace")
 
 @pytest.fixture
 def api(monkeypatch: pytest.MonkeyPatch) -> Iterator[Any]:
-    """OpenTelemetry's API, as it is installed beside the package."""
+    """Install OpenTelemetry's API, as if it is installed next to the package."""
     monkeypatch.syspath_prepend(HERE / "opentelemetry_api")
     for name in MODULES:
         monkeypatch.delitem(sys.modules, name, raising=False)
@@ -39,20 +42,20 @@ def api(monkeypatch: pytest.MonkeyPatch) -> Iterator[Any]:
 
 @pytest.fixture
 def without(monkeypatch: pytest.MonkeyPatch) -> None:
-    """Nobody has it."""
+    """Remove it."""
     for name in MODULES:
         monkeypatch.setitem(sys.modules, name, None)  # type: ignore[arg-type]
 
 
 def span_of(api: Any, name: str) -> Any:
-    """The span of this name."""
-    (found,) = [span for span in api.ENDED if span.name == name]
-    return found
+    """Return the span of this name."""
+    (matched,) = [span for span in api.ENDED if span.name == name]
+    return matched
 
 
 def context_of(span: Any) -> str:
-    told = span.get_span_context()
-    return f"00-{told.trace_id:032x}-{told.span_id:016x}-{int(told.trace_flags):02x}"
+    context = span.get_span_context()
+    return f"00-{context.trace_id:032x}-{context.span_id:016x}-{int(context.trace_flags):02x}"
 
 
 # -- the standard
@@ -67,8 +70,8 @@ def context_of(span: Any) -> str:
         (
             GIVEN[:-2] + "ff",
             GIVEN[:-2] + "03",
-        ),  # flags that the standard does not know are not handed on
-        (f"cc-{TRACE}-{PARENT}-01", GIVEN),  # of a later version what is known is read
+        ),  # flags that the standard does not know are not passed on
+        (f"cc-{TRACE}-{PARENT}-01", GIVEN),  # of a later version the known parts are read
         (f"cc-{TRACE}-{PARENT}-01-what-follows", GIVEN),
         (f"cc-{TRACE}-{PARENT}-01.what-follows", None),
         (f"ff-{TRACE}-{PARENT}-01", None),
@@ -83,7 +86,7 @@ def context_of(span: Any) -> str:
     ],
 )
 def test_a_header_is_read_as_the_standard_has_it(text: str, read: str | None) -> None:
-    """https://www.w3.org/TR/trace-context: versions, flags, and what is not valid."""
+    """https://www.w3.org/TR/trace-context: versions, flags, and invalid headers."""
     assert tracing.read(text) == read
     if read is None:
         with pytest.raises(ValueError, match="must be a W3C trace context"):
@@ -95,25 +98,27 @@ def test_a_header_is_read_as_the_standard_has_it(text: str, read: str | None) ->
 # -- without the API
 
 
-def hearing(heard: list[str | None], **words: Any) -> sagas.Saga:
-    """A saga whose step says what it was handed."""
+def hearing(heard: list[str | None], **options: Any) -> sagas.Saga:
+    """Return a saga whose step returns the context that it got."""
     saga = sagas.Saga("one")
 
-    @saga.step(**words)
+    @saga.step(**options)
     async def a(task: Task) -> None:
         heard.append(task.traceparent)
 
     return saga
 
 
-def test_without_the_api_a_context_is_kept(place: str, without: None) -> None:
-    """It is handed to functions; of a start again the first one counts; what is not valid is refused before anything is written."""
+def test_without_the_api_a_context_is_kept(location: str, without: None) -> None:
+    """Functions get it; of a repeated start the first one counts; an invalid one is refused before
+    anything is written.
+    """
     heard: list[str | None] = []
     saga = hearing(heard)
 
     async def main() -> None:
         assert tracing.tracer() is None
-        async with sagas.open(place, [saga]) as store:
+        async with sagas.open(location, [saga]) as store:
             for key, given in (("with", GIVEN), ("without", None)):
                 await (await store.start(saga, key, traceparent=given)).wait(60)
             again = await store.start(saga, "with", traceparent=GIVEN.replace(PARENT, "1" * 16))
@@ -127,18 +132,18 @@ def test_without_the_api_a_context_is_kept(place: str, without: None) -> None:
     assert heard == [GIVEN, None]
 
 
-def test_a_context_outlives_the_program(place: str, without: None) -> None:
-    """Another program that goes on with the saga has it from the store."""
+def test_a_context_outlives_the_program(location: str, without: None) -> None:
+    """Another program that continues the saga has it from the store."""
     heard: list[str | None] = []
     saga = sagas.Saga("later")
-    asked = saga.approval(name="asked")(lambda task: None)
-    saga.step(name="a", needs=[asked])(lambda task: heard.append(task.traceparent))
+    review = saga.approval(name="asked")(lambda task: None)
+    saga.step(name="a", needs=[review])(lambda task: heard.append(task.traceparent))
 
     async def main() -> None:
-        async with sagas.open(place, [saga]) as store:
+        async with sagas.open(location, [saga]) as store:
             await store.start(saga, "k", traceparent=GIVEN)
         heard.append("the second program")
-        async with sagas.open(place, [saga]) as store:
+        async with sagas.open(location, [saga]) as store:
             await store.complete("k", "asked")
             await store.wait("k", 60)
 
@@ -146,14 +151,14 @@ def test_a_context_outlives_the_program(place: str, without: None) -> None:
     assert heard == ["the second program", GIVEN]
 
 
-def test_a_child_is_in_the_trace_of_its_parent(place: str, without: None) -> None:
+def test_a_child_is_in_the_trace_of_its_parent(location: str, without: None) -> None:
     heard: list[str | None] = []
     child = hearing(heard)
     saga = sagas.Saga("parent")
     saga.child(child, name="below", input=lambda task: None)
 
     async def main() -> None:
-        async with sagas.open(place, [saga, child]) as store:
+        async with sagas.open(location, [saga, child]) as store:
             await (await store.start(saga, "k", traceparent=GIVEN)).wait(60)
 
     run(main())
@@ -161,7 +166,9 @@ def test_a_child_is_in_the_trace_of_its_parent(place: str, without: None) -> Non
 
 
 def test_a_client_s_start_has_it(url: str, without: None) -> None:
-    """It is written with the start, also in the transaction of the caller, and a node hands it on."""
+    """It is written with the start, also in the transaction of the caller, and a node
+    passes it on.
+    """
     heard: list[str | None] = []
     saga = hearing(heard)
 
@@ -177,7 +184,7 @@ def test_a_client_s_start_has_it(url: str, without: None) -> None:
 
 
 def test_a_message_has_it() -> None:
-    """An order goes to a worker of a queue as JSON, and comes there as it was."""
+    """An order goes to a worker of a queue as JSON, and arrives unchanged."""
     order = Order("one", 1, "k", "log", 0, "a", "run", 1, 1, "null", {}, None, None, GIVEN)
     assert Order.read(order.written()) == order and order.written()["traceparent"] == GIVEN
 
@@ -186,7 +193,7 @@ def test_a_message_has_it() -> None:
 
 
 def trip(seen: list[tuple[str, str | None]], api: Any) -> sagas.Saga:
-    """Steps of all manners, the last of which fails for good."""
+    """Return steps of all kinds, the last of which fails permanently."""
     trip = sagas.Saga("trip")
 
     def look(task: Task) -> None:
@@ -221,20 +228,22 @@ def trip(seen: list[tuple[str, str | None]], api: Any) -> sagas.Saga:
     return trip
 
 
-def test_each_attempt_has_a_span(place: str, api: Any) -> None:
-    """In the trace of who started the saga, current while the function runs: in the loop, in a thread, and in what it awaits."""
+def test_each_attempt_has_a_span(location: str, api: Any) -> None:
+    """It is in the trace of the caller that started the saga, current while the function runs: in
+    the loop, in a thread, and in what it awaits.
+    """
     seen: list[tuple[str, str | None]] = []
     saga = trip(seen, api)
 
     async def main() -> None:
-        async with sagas.open(place, [saga]) as store:
+        async with sagas.open(location, [saga]) as store:
             with api.use_span(
                 api.NonRecordingSpan(
                     api.SpanContext(int(TRACE, 16), int(PARENT, 16), True, api.TraceFlags(1))
                 )
             ):
-                found = await store.start(saga, "k", {"to": "Rome"})
-            assert (await found.wait(60)).phase == "recovered"
+                run = await store.start(saga, "k", {"to": "Rome"})
+            assert (await run.wait(60)).phase == "recovered"
 
     run(main())
     spans = api.ENDED
@@ -249,11 +258,11 @@ def test_each_attempt_has_a_span(place: str, api: Any) -> None:
     assert seen == [(span.attributes["sagas.attempt_id"], context_of(span)) for span in spans]
     assert all(span.ends == 1 and context_of_parent(span) == GIVEN for span in spans)
     flight, first, second, tour, no_car, no_flight = spans
-    told = dict(flight.attributes)
-    assert told.pop("code.function.name").endswith("trip.<locals>.flight") and told.pop(
+    left = dict(flight.attributes)
+    assert left.pop("code.function.name").endswith("trip.<locals>.flight") and left.pop(
         "sagas.attempt_id"
     )
-    assert told == {
+    assert left == {
         "sagas.saga": "trip",
         "sagas.key": "k",
         "sagas.step": "flight",
@@ -291,23 +300,22 @@ def test_each_attempt_has_a_span(place: str, api: Any) -> None:
     )
 
 
+def header_of(context: Any) -> str:
+    return f"00-{context.trace_id:032x}-{context.span_id:016x}-{int(context.trace_flags):02x}"
+
+
 def context_of_parent(span: Any) -> str | None:
-    return (
-        None
-        if span.parent is None
-        else f"00-{span.parent.trace_id:032x}-{span.parent.span_id:016x}-{int(span.parent.trace_flags):02x}"
-    )
+    return None if span.parent is None else header_of(span.parent)
 
 
 def links_of(span: Any) -> list[str]:
-    return [
-        f"00-{one.context.trace_id:032x}-{one.context.span_id:016x}-{int(one.context.trace_flags):02x}"
-        for one in span.links
-    ]
+    return [header_of(link.context) for link in span.links]
 
 
-def test_a_saga_that_nobody_traces(place: str, api: Any) -> None:
-    """Its spans begin traces of their own, also where the store was opened within a span; a saga that a function starts is in the trace of that."""
+def test_a_saga_without_a_trace(location: str, api: Any) -> None:
+    """Its spans start their own traces, also if the store was opened within a span; a saga that a
+    function starts is in the trace of that function.
+    """
     heard: list[str | None] = []
     inner = hearing(heard)
     outer = sagas.Saga("outer")
@@ -319,7 +327,7 @@ def test_a_saga_that_nobody_traces(place: str, api: Any) -> None:
 
     async def main() -> None:
         with api.use_span(api.NonRecordingSpan(api.SpanContext(1, 2, True, api.TraceFlags(1)))):
-            store = sagas.open(place, [outer, inner])
+            store = sagas.open(location, [outer, inner])
             await store.__aenter__()
         stores.append(store)
         try:
@@ -333,8 +341,8 @@ def test_a_saga_that_nobody_traces(place: str, api: Any) -> None:
     assert first.parent is None and heard == [context_of(first)] == [context_of_parent(second)]
 
 
-def test_a_timeout_and_an_abort_are_told(tmp_path: pathlib.Path, api: Any) -> None:
-    """An outcome that nobody knows is an error of the span; one that is cancelled has ended too."""
+def test_a_timeout_and_an_abort_in_spans(tmp_path: pathlib.Path, api: Any) -> None:
+    """An unknown outcome is an error of the span; a cancelled one has ended too."""
     saga = sagas.Saga("slow")
 
     @saga.step(timeout=0.05, max_unknown=0)
@@ -375,18 +383,18 @@ def test_programs_without_async(tmp_path: pathlib.Path, api: Any) -> None:
     assert heard == [context_of(span), GIVEN]
 
 
-def test_what_an_exporter_raises_does_not_reach_a_saga(
-    place: str, api: Any, monkeypatch: pytest.MonkeyPatch, caplog: pytest.LogCaptureFixture
+def test_errors_of_an_exporter_do_not_reach_a_saga(
+    location: str, api: Any, monkeypatch: pytest.MonkeyPatch, caplog: pytest.LogCaptureFixture
 ) -> None:
-    """Neither as a span starts, nor as it ends; it is logged once."""
+    """Neither when a span starts, nor when it ends; it is logged once."""
     seen: list[str | None] = []
     saga = hearing(seen)
 
-    def broken(*_: object, **words: object) -> None:
+    def broken(*_: object, **options: object) -> None:
         raise RuntimeError("no exporter")
 
     async def main() -> None:
-        async with sagas.open(place, [saga]) as store:
+        async with sagas.open(location, [saga]) as store:
             for where, name in ((api.Tracer, "start_span"), (api.Span, "end")):
                 with monkeypatch.context() as patch:
                     patch.setattr(where, name, broken)
@@ -403,9 +411,9 @@ def test_what_an_exporter_raises_does_not_reach_a_saga(
 
 
 def test_without_a_tracer_functions_are_called_in_a_row(
-    place: str, without: None, monkeypatch: pytest.MonkeyPatch
+    location: str, without: None, monkeypatch: pytest.MonkeyPatch
 ) -> None:
-    """What tracing costs where nobody has it: no call is made in another way."""
+    """Without tracing no call is made in another way."""
     heard: list[str | None] = []
     saga = hearing(heard)
     calls: list[int] = []
@@ -415,7 +423,7 @@ def test_without_a_tracer_functions_are_called_in_a_row(
     )
 
     async def main() -> None:
-        async with sagas.open(place, [saga]) as store:
+        async with sagas.open(location, [saga]) as store:
             await (await store.start(saga, "k", traceparent=GIVEN)).wait(60)
 
     run(main())
@@ -425,7 +433,10 @@ def test_without_a_tracer_functions_are_called_in_a_row(
 # -- over HTTP
 
 FILES = {
-    "one.toml": 'format = 2\nname = "one"\n[[step]]\nname = "a"\nkeep = 9\nundo = 1\n[[step]]\nname = "b"\nneeds = ["a"]\nundo = "never"\n'
+    "one.toml": (
+        'format = 2\nname = "one"\n[[step]]\nname = "a"\nkeep = 9\nundo = 1\n[[step]]\nname ='
+        ' "b"\nneeds = ["a"]\nundo = "never"\n'
+    )
 }
 
 
@@ -436,9 +447,9 @@ def service(tmp_path_factory: pytest.TempPathFactory, store: str | None) -> Iter
 
 
 def test_the_header_of_a_start_goes_to_workers(service: Served) -> None:
-    """It is stored with the saga; one that is not valid, or there twice, is none, and no fault."""
+    """It is stored with the saga; an invalid or repeated one is ignored, and is not an error."""
     with service.client() as client:
-        for key, headers, told in (
+        for key, headers, header in (
             ("valid", [("traceparent", GIVEN)], GIVEN),
             ("none", [], None),
             ("wrong", [("traceparent", "00-1")], None),
@@ -449,7 +460,7 @@ def test_the_header_of_a_start_goes_to_workers(service: Served) -> None:
             )
             assert answer.status_code == 201
             (task,) = take(client, "one/a")
-            assert (task["key"], task["traceparent"]) == (key, told)
+            assert (task["key"], task["traceparent"]) == (key, header)
             client.post(
                 f"/v1/tasks/{task['attempt_id']}/fail",
                 json={"lease": task["lease"], "error": "no", "final": True},

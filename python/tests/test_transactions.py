@@ -1,4 +1,7 @@
-"""Steps whose effect in the database and its record are one transaction: exactly once, whatever is cut or killed."""
+"""Steps whose effect in the database and its record are one transaction.
+
+Each has its effect exactly once, even if connections are cut and programs killed.
+"""
 
 from __future__ import annotations
 
@@ -29,7 +32,9 @@ from sagas.storage.postgresql.step_pool import Pool
 
 
 def bank(in_thread: bool) -> sagas.Saga:
-    """Books an amount, by an async function or a plain one; the second step fails where the input says so."""
+    """Return a saga that books an amount, by an async function or a plain one; the second step
+    fails if the input says so.
+    """
     bank = sagas.Saga("bank")
     text = "INSERT INTO book(key, step, token) VALUES(%s, %s, %s)"
 
@@ -69,7 +74,7 @@ def bank(in_thread: bool) -> sagas.Saga:
 
 
 def prepare(url: str) -> None:
-    """Tables of the user's own; that an item is of an order is looked at in the commit."""
+    """Make tables of the user's own; the commit checks that an item is of an order."""
     with psycopg.connect(url) as link:
         link.execute("CREATE TABLE book(key text, step text, token text)")
         link.execute("CREATE TABLE orders(key text PRIMARY KEY)")
@@ -77,7 +82,7 @@ def prepare(url: str) -> None:
 
 
 def booked(url: str) -> Counter[tuple[str, str]]:
-    """The rows of it."""
+    """Return its rows."""
     with psycopg.connect(url) as link:
         return Counter(
             (key, step) for key, step in link.execute("SELECT key, step FROM book").fetchall()
@@ -86,7 +91,9 @@ def booked(url: str) -> Counter[tuple[str, str]]:
 
 @pytest.mark.parametrize("in_thread", [False, True])
 def test_effect_and_result_are_one(url: str, in_thread: bool) -> None:
-    """A row for each effect; what was raised is rolled back; the compensation the same."""
+    """There is a row for each effect; a call that raised is rolled back; the compensation
+    the same.
+    """
     prepare(url)
     kind = bank(in_thread)
 
@@ -101,7 +108,7 @@ def test_effect_and_result_are_one(url: str, in_thread: bool) -> None:
                 "book": "undone",
                 "check": "failed",
             }
-            assert all(said.startswith("yes") for said in (await store.audit()).values())
+            assert all(verdict.startswith("yes") for verdict in (await store.audit()).values())
 
     run(main())
     assert booked(url) == {
@@ -122,7 +129,9 @@ def test_effect_and_result_are_one(url: str, in_thread: bool) -> None:
 def test_exactly_once_while_connections_are_cut(
     postgresql: Server, url: str, in_thread: bool
 ) -> None:
-    """Statements are cut on their way, answers on their way back, commits' answers too: each effect is there once."""
+    """Statements are cut in transit, and replies, also those of commits: each effect
+    occurs once.
+    """
     prepare(url)
     kind = bank(in_thread)
 
@@ -155,7 +164,9 @@ def test_exactly_once_while_connections_are_cut(
 def test_texts_of_steps_inside_are_no_statements(
     url: str, caplog: pytest.LogCaptureFixture, way: str
 ) -> None:
-    """Keys, inputs, results, what is raised and the node's name, with whatever a database could take for something else: all come back whole."""
+    """Keys, inputs, results, exceptions and the node's name have text that a database could take
+    for something else: all are read back unchanged.
+    """
     caplog.set_level(logging.CRITICAL, "sagas")  # the tests' runner takes no halves of pairs
     prepare(url)
     good, bad = sagas.Saga("good"), sagas.Saga("bad")
@@ -194,14 +205,16 @@ def test_texts_of_steps_inside_are_no_statements(
             else:
                 for text in TEXTS:
                     await each(text)
-            assert all(said.startswith("yes") for said in (await store.audit()).values())
+            assert all(verdict.startswith("yes") for verdict in (await store.audit()).values())
 
     run(main())
     assert booked(url) == {(f"{word}{text}", "book"): 1 for text in TEXTS for word in ("", "odd ")}
 
 
 def test_a_step_of_a_lost_log_is_rolled_back(url: str) -> None:
-    """Two nodes of one name are at the same step: the one that has the log commits, and of the other's nothing stays."""
+    """Two nodes of one name are at the same step: the one that has the log commits, and nothing
+    stays of the other's.
+    """
     prepare(url)
     gates = asyncio.Event(), asyncio.Event()
     inside: list[int] = []
@@ -238,15 +251,17 @@ def test_a_step_of_a_lost_log_is_rolled_back(url: str) -> None:
                     == {"book": 1}
                     == (await second.wait("k")).results
                 )
-                assert all(said.startswith("yes") for said in (await second.audit()).values())
+                assert all(verdict.startswith("yes") for verdict in (await second.audit()).values())
 
     run(main())
     assert booked(url) == {("k", "book"): 1}
 
 
 @pytest.mark.parametrize("in_thread", [False, True])
-def test_nobody_takes_a_log_while_a_step_of_it_is_committed(url: str, in_thread: bool) -> None:
-    """Its commit waits for a lock behind the look whose the log is: until that is over the log's row is locked."""
+def test_no_node_takes_a_log_during_a_step_commit(url: str, in_thread: bool) -> None:
+    """Its commit waits for a lock after the check of the log's owner: until that is over the log's
+    row is locked.
+    """
     prepare(url)
     kind, text = sagas.Saga("shop"), "INSERT INTO items VALUES (%s)"
 
@@ -260,17 +275,20 @@ def test_nobody_takes_a_log_while_a_step_of_it_is_committed(url: str, in_thread:
 
     async def main() -> None:
         async with sagas.open(url, [kind]) as store:
-            with psycopg.connect(url) as stranger, psycopg.connect(url, autocommit=True) as eye:
-                eye.execute("INSERT INTO orders VALUES ('k')")
+            with psycopg.connect(url) as stranger, psycopg.connect(
+                url, autocommit=True
+            ) as observer:
+                observer.execute("INSERT INTO orders VALUES ('k')")
                 stranger.execute("SELECT 1 FROM orders FOR UPDATE")
                 going = await store.start(kind, "k")
                 await until(
-                    lambda: eye.execute(
-                        "SELECT 1 FROM pg_stat_activity WHERE datname = current_database() AND wait_event_type = 'Lock'"
+                    lambda: observer.execute(
+                        "SELECT 1 FROM pg_stat_activity WHERE datname = current_database() AND"
+                        " wait_event_type = 'Lock'"
                     ).fetchall()
                 )
                 assert (
-                    eye.execute("SELECT 1 FROM sagas.shards FOR UPDATE SKIP LOCKED").fetchall()
+                    observer.execute("SELECT 1 FROM sagas.shards FOR UPDATE SKIP LOCKED").fetchall()
                     == []
                 )
             assert (await going.wait()).ok
@@ -280,7 +298,10 @@ def test_nobody_takes_a_log_while_a_step_of_it_is_committed(url: str, in_thread:
 
 @pytest.mark.parametrize("in_thread", [False, True])
 def test_a_forgotten_await_in_a_transaction(url: str, in_thread: bool) -> None:
-    """What an async function returns is awaited within its transaction. A plain one that returns something to await has failed: it cannot be awaited there."""
+    """An awaitable that an async function returns is awaited within its transaction.
+
+    A plain function that returns one has failed: it cannot be awaited there.
+    """
     prepare(url)
     kind = sagas.Saga("one")
 
@@ -316,7 +337,9 @@ KILLED = """
     saga = sagas.Saga("one")
     @saga.step(transaction=True)
     async def book(task):
-        await task.connection.execute("INSERT INTO book(key, step, token) VALUES(%s, 'book', %s)", (task.key, task.attempt_id))
+        row = task.key, task.attempt_id
+        statement = "INSERT INTO book(key, step, token) VALUES(%s, 'book', %s)"
+        await task.connection.execute(statement, row)
         return "booked"
     Executor.ended = lambda self, attempt, outcome, at_once: os._exit(9)
     async def main():
@@ -327,7 +350,9 @@ KILLED = """
 
 
 def test_a_kill_between_the_transaction_and_its_report(url: str, tmp_path: pathlib.Path) -> None:
-    """The result is there without its event: the next node reports it, and does not call the step again."""
+    """The result exists without its event: the next node reports it, and does not call the step
+    again.
+    """
     prepare(url)
     script = tmp_path / "killed.py"
     script.write_text(textwrap.dedent(KILLED.format(url=url)))
@@ -352,7 +377,7 @@ def test_a_kill_between_the_transaction_and_its_report(url: str, tmp_path: pathl
     async def main() -> None:
         async with sagas.open(url, [kind], node="killed") as store:
             assert (await store.wait("k")).results == {"book": "booked"}
-            assert all(said.startswith("yes") for said in (await store.audit()).values())
+            assert all(verdict.startswith("yes") for verdict in (await store.audit()).values())
 
     run(main())
     assert not calls and booked(url) == {("k", "book"): 1}
@@ -381,8 +406,10 @@ def test_a_file_has_no_transactions(tmp_path: pathlib.Path) -> None:
 
 
 @pytest.mark.parametrize("in_thread", [False, True])
-def test_what_the_server_refuses_is_a_miss(url: str, in_thread: bool) -> None:
-    """A constraint that is looked at in the commit, a failed statement that the function passes over, and its own commit: rolled back, and tried again."""
+def test_a_refusal_of_the_server_is_a_failed_attempt(url: str, in_thread: bool) -> None:
+    """A constraint that the commit checks, a failed statement that the function ignores, and its
+    own commit: rolled back, and tried again.
+    """
     prepare(url)
     shop = sagas.Saga("shop")
     text = "INSERT INTO items VALUES (%s)"
@@ -410,13 +437,13 @@ def test_what_the_server_refuses_is_a_miss(url: str, in_thread: bool) -> None:
                     await task.connection.execute("SELECT 1 / 0")
 
     async def main() -> None:
-        said: list[str] = []
+        details: list[str] = []
         async with sagas.open(
             url,
             [shop],
-            on_event=lambda event: said.append(event.detail or "")
-            if event.name == "step_retrying"
-            else None,
+            on_event=lambda event: (
+                details.append(event.detail or "") if event.name == "step_retrying" else None
+            ),
         ) as store:
             with psycopg.connect(url) as link:
                 link.execute("INSERT INTO orders VALUES ('k')")
@@ -424,7 +451,7 @@ def test_what_the_server_refuses_is_a_miss(url: str, in_thread: bool) -> None:
             assert (await asyncio.wait_for(run.wait(), 60)).ok
         assert [
             next(word for word in ("ForeignKey", "commit()", "InFailedSql") if word in one)
-            for one in said
+            for one in details
         ] == ["ForeignKey", "commit()", "InFailedSql"]
 
     run(main())
@@ -434,7 +461,7 @@ def test_what_the_server_refuses_is_a_miss(url: str, in_thread: bool) -> None:
 
 @pytest.mark.parametrize("in_thread", [False, True])
 def test_the_function_cannot_end_its_transaction(url: str, in_thread: bool) -> None:
-    """A block of its own within it, as the first thing that it does, is no commit; nor is what psycopg calls one."""
+    """A nested block, as its first statement, is not a commit; nor are psycopg's calls for one."""
     prepare(url)
     kind = sagas.Saga("one")
     text = "INSERT INTO book(key, step, token) VALUES(%s, 'book', '')"
@@ -475,7 +502,9 @@ def test_the_function_cannot_end_its_transaction(url: str, in_thread: bool) -> N
 
 @pytest.mark.parametrize("in_thread", [False, True])
 def test_a_transaction_that_is_over_before_its_step(url: str, in_thread: bool) -> None:
-    """By a statement of the function's, by the connection's end, or by the server's: nothing is kept of it, that is counted, and other sagas go on."""
+    """It ends by a statement of the function's, by the connection's end, or by the server's:
+    nothing of it is stored, that is counted, and other sagas continue.
+    """
     prepare(url)
     kind, other, calls = sagas.Saga("one"), simple(lambda task: 1), Counter[int]()
     text, rests = (
@@ -517,11 +546,13 @@ def test_a_transaction_that_is_over_before_its_step(url: str, in_thread: bool) -
             if calls[3] == 2:
                 link.pgconn.finish()
 
-    said: list[tuple[str, str]] = []
+    events: list[tuple[str, str]] = []
 
     async def main() -> None:
         async with sagas.open(
-            url, [kind, other], on_event=lambda event: said.append((event.name, event.detail or ""))
+            url,
+            [kind, other],
+            on_event=lambda event: events.append((event.name, event.detail or "")),
         ) as store:
             going = await store.start(kind, "k")
             for number in range(5):
@@ -530,9 +561,9 @@ def test_a_transaction_that_is_over_before_its_step(url: str, in_thread: bool) -
 
     run(main())
     assert calls == {1: 1, 2: 1, 3: 3} and booked(url) == {("k", "book"): 1}
-    told = [
+    details = [
         detail
-        for name, detail in said
+        for name, detail in events
         if name in ("step_retrying", "step_unknown", "commit_failed")
     ]
     assert [
@@ -547,7 +578,7 @@ def test_a_transaction_that_is_over_before_its_step(url: str, in_thread: bool) -
             )
             if word in f"{one}?"
         )
-        for one in told
+        for one in details
     ] == [
         "no statement of the function",
         "close()",
@@ -556,7 +587,7 @@ def test_a_transaction_that_is_over_before_its_step(url: str, in_thread: bool) -
     ]
 
 
-def test_what_does_nothing_over_its_connection_is_as_another_step(url: str) -> None:
+def test_a_step_inside_without_a_statement(url: str) -> None:
     """It has no transaction, and waits for no other: neither in the loop nor in a thread."""
     kind = sagas.Saga("one")
 
@@ -580,9 +611,13 @@ def test_what_does_nothing_over_its_connection_is_as_another_step(url: str) -> N
 
 @pytest.mark.parametrize("in_thread", [False, True])
 def test_a_first_statement_that_fails(url: str, in_thread: bool) -> None:
-    """It goes to the server together with the begin. What psycopg refuses leaves the transaction as it is, what the server refuses ends it."""
+    """It goes to the server together with the begin.
+
+    A statement that psycopg refuses leaves the transaction usable, one that the server refuses ends
+    it.
+    """
     prepare(url)
-    text, said = "INSERT INTO book(key, step, token) VALUES(%s, 'book', %s)", []
+    text, states = "INSERT INTO book(key, step, token) VALUES(%s, 'book', %s)", []
     kind = sagas.Saga("one")
 
     if in_thread:
@@ -593,26 +628,25 @@ def test_a_first_statement_that_fails(url: str, in_thread: bool) -> None:
             if task.attempt == 1:
                 with pytest.raises(psycopg.ProgrammingError):
                     link.execute(text, (task.key,))
-                said.append(link.info.transaction_status.name)
+                states.append(link.info.transaction_status.name)
                 raise ValueError("again")
             if task.attempt == 2:
                 with pytest.raises(psycopg.errors.DivisionByZero):
                     link.execute("SELECT 1 / %s::int", (0,))
-                said.append(link.info.transaction_status.name)
+                states.append(link.info.transaction_status.name)
                 with pytest.raises(psycopg.errors.InFailedSqlTransaction):
                     link.execute(text, (task.key, "second"))
             if task.attempt == 3:
-                with pytest.raises(
-                    psycopg.errors.QueryCanceled
-                ):  # an operational error, and the connection is there
+                # an operational error, and the connection works
+                with pytest.raises(psycopg.errors.QueryCanceled):
                     link.execute(
                         "SELECT set_config('statement_timeout', '20', true), %s::int", (1,)
                     )
                     link.execute("SELECT pg_sleep(%s)", (60,))
-                said.append(link.info.transaction_status.name)
+                states.append(link.info.transaction_status.name)
                 raise ValueError("again")
             if task.attempt == 4:
-                said.append(
+                states.append(
                     str(link.execute("SELECT %(a)s::int + %(b)s", {"a": 1, "b": 2}).fetchall())
                 )
                 link.execute(text, (task.key, "fourth"))
@@ -625,12 +659,12 @@ def test_a_first_statement_that_fails(url: str, in_thread: bool) -> None:
             if task.attempt == 1:
                 with pytest.raises(psycopg.ProgrammingError):
                     await link.execute(text, (task.key,))
-                said.append(link.info.transaction_status.name)
+                states.append(link.info.transaction_status.name)
                 raise ValueError("again")
             if task.attempt == 2:
                 with pytest.raises(psycopg.errors.DivisionByZero):
                     await link.execute("SELECT 1 / %s::int", (0,))
-                said.append(link.info.transaction_status.name)
+                states.append(link.info.transaction_status.name)
                 with pytest.raises(psycopg.errors.InFailedSqlTransaction):
                     await link.execute(text, (task.key, "second"))
             if task.attempt == 3:
@@ -639,10 +673,10 @@ def test_a_first_statement_that_fails(url: str, in_thread: bool) -> None:
                         "SELECT set_config('statement_timeout', '20', true), %s::int", (1,)
                     )
                     await link.execute("SELECT pg_sleep(%s)", (60,))
-                said.append(link.info.transaction_status.name)
+                states.append(link.info.transaction_status.name)
                 raise ValueError("again")
             if task.attempt == 4:
-                said.append(
+                states.append(
                     str(
                         await (
                             await link.execute("SELECT %(a)s::int + %(b)s", {"a": 1, "b": 2})
@@ -656,12 +690,14 @@ def test_a_first_statement_that_fails(url: str, in_thread: bool) -> None:
             assert (await asyncio.wait_for(ended(store, kind, "k"), 60)).ok
 
     run(main())
-    assert said == ["INTRANS", "INERROR", "INERROR", "[(3,)]"]
+    assert states == ["INTRANS", "INERROR", "INERROR", "[(3,)]"]
     assert booked(url) == {("k", "book"): 1}
 
 
-def test_a_first_statement_that_nobody_waits_for(url: str) -> None:
-    """The function gives up on it, and goes on: its connection is of no use any more, nothing of that is kept, and it is called again."""
+def test_a_first_statement_that_is_abandoned(url: str) -> None:
+    """The function gives up on it, and continues: its connection is of no use any more, nothing of
+    it is stored, and it is called again.
+    """
     prepare(url)
     kind, calls = sagas.Saga("one"), []
 
@@ -686,7 +722,9 @@ def test_a_first_statement_that_nobody_waits_for(url: str) -> None:
 
 
 def test_connections_are_handed_out(postgresql: Server, url: str) -> None:
-    """As many as there may be; who waits gets the next one; one that broke while it rested is not handed out; who gave up has none."""
+    """There is a limit; a waiting caller gets the next one; one that broke while it was idle is not
+    passed out; a caller that gave up has none.
+    """
 
     async def main() -> None:
         pool = Pool(url, 2)
@@ -703,14 +741,15 @@ def test_connections_are_handed_out(postgresql: Server, url: str) -> None:
         await second.rollback()
         with psycopg.connect(url, autocommit=True) as link:
             link.execute(
-                "SELECT pg_terminate_backend(pid) FROM pg_stat_activity WHERE datname = current_database() AND pid <> pg_backend_pid()"
+                "SELECT pg_terminate_backend(pid) FROM pg_stat_activity WHERE datname ="
+                " current_database() AND pid <> pg_backend_pid()"
             )
         await until(lambda: not first.is_there() and not second.is_there())
         assert pool.try_acquire() is None
         fourth = await pool.acquire()
         assert fourth not in (first, second)
         await fourth.execute("SELECT 1")
-        pool.release(fourth)  # in the middle of a transaction: it is not handed out again
+        pool.release(fourth)  # during a transaction: it is not passed out again
         assert fourth.closed or pool.try_acquire() is None
         last = asyncio.create_task(pool.acquire())
         await last
@@ -728,7 +767,9 @@ def test_connections_are_handed_out(postgresql: Server, url: str) -> None:
 
 
 def test_connections_are_reserved(url: str) -> None:
-    """One that rests is kept for who may want it, and is for others as soon as he does not; one that breaks meanwhile is nobody's."""
+    """An idle one is reserved for a possible user, and is free as soon as it is not used; one that
+    breaks in the meantime is dropped.
+    """
 
     async def main() -> None:
         pool = Pool(url, 2)
@@ -753,7 +794,8 @@ def test_connections_are_reserved(url: str) -> None:
         await pool.reserve()
         with psycopg.connect(url, autocommit=True) as link:
             link.execute(
-                "SELECT pg_terminate_backend(pid) FROM pg_stat_activity WHERE datname = current_database() AND pid <> pg_backend_pid()"
+                "SELECT pg_terminate_backend(pid) FROM pg_stat_activity WHERE datname ="
+                " current_database() AND pid <> pg_backend_pid()"
             )
         await until(lambda: first.closed)
         with pytest.raises(psycopg.OperationalError, match="broke"):
@@ -772,7 +814,7 @@ def test_connections_are_reserved(url: str) -> None:
 
 
 def test_a_connection_that_is_lent_comes_back_once(url: str) -> None:
-    """Whether its function is over before who called it goes on, behind that, or never begins."""
+    """Whether its function is over before its caller continues, after that, or never starts."""
 
     async def main() -> None:
         pool = Pool(url, 1)
@@ -788,7 +830,7 @@ def test_a_connection_that_is_lent_comes_back_once(url: str) -> None:
 
         second = await pool.lend()
         assert await asyncio.to_thread(second.begin) is link
-        second.leave()  # nobody waits for it any more
+        second.leave()  # no caller waits for it any more
         assert not pool.has_idle()
         await asyncio.to_thread(second.end)
         await until(pool.has_idle)
@@ -810,7 +852,9 @@ def test_a_connection_that_is_lent_comes_back_once(url: str) -> None:
 
 
 def test_a_function_that_asks_late(url: str) -> None:
-    """It waits for something before it asks for its connection, which is there; who asks behind its end gets none."""
+    """It waits for something before it requests its connection, which it gets; a function that
+    requests one after its end gets none.
+    """
     prepare(url)
     kind, left = sagas.Saga("one"), []
 
@@ -843,8 +887,10 @@ def test_a_function_that_asks_late(url: str) -> None:
     assert left[1] == "left" and booked(url) == {(f"k{number}", "book"): 1 for number in range(5)}
 
 
-def test_what_ends_at_once_leaves_its_connection(url: str) -> None:
-    """A function that asks for its connection and does nothing there, raises, or gives what is to be awaited: many of each, over two connections."""
+def test_a_short_function_returns_its_connection(url: str) -> None:
+    """A function that requests its connection and does nothing there, raises, or returns an
+    awaitable: many of each, over two connections.
+    """
     prepare(url)
     kind = sagas.Saga("one")
 
@@ -881,11 +927,13 @@ def test_what_ends_at_once_leaves_its_connection(url: str) -> None:
 
 
 NODE, OTHERS = 7, "other"
-"""Connections of a node, beside those of its steps; the name of those that are not a node's."""
+"""Connections of a node, in addition to those of its steps; the name of those that are not a
+node's.
+"""
 
 
 class Count:
-    """The most connections of an application that the server had at once, as often as it tells."""
+    """The most connections of an application that the server had at once."""
 
     def __init__(self, url: str, name: str) -> None:
         self.most = self.looks = 0
@@ -913,8 +961,9 @@ class Count:
 
 
 def test_how_many_connections_a_node_has(url: str) -> None:
-    """Steps inside, by async and plain functions, with limits over all nodes; reads; what clients
-    start and ask; logs that are taken over: it has `concurrency` and seven at most."""
+    """Steps inside, by async and plain functions, with limits over all nodes; reads; starts and
+    requests of clients; logs that are taken over: it has at most `concurrency` and seven.
+    """
     concurrency, gate = 16, asyncio.Event()
 
     def kinds() -> list[sagas.Saga]:
@@ -984,7 +1033,7 @@ def test_how_many_connections_a_node_has(url: str) -> None:
 
 
 async def surely_finished(client: sagas.Client, key: str) -> None:
-    """Approves it, once that is asked for."""
+    """Approve it, once that is requested."""
     while True:
         try:
             await client.complete(key, "approved", True)
@@ -997,8 +1046,9 @@ async def surely_finished(client: sagas.Client, key: str) -> None:
 
 @pytest.mark.parametrize("first", ["async", "plain"])
 def test_one_budget_for_both_kinds_of_functions(url: str, first: str) -> None:
-    """What plain functions had is had by async ones, and the other way round: no more connections
-    are made, and what psycopg has prepared over one is known to both."""
+    """Async functions get the connections of plain ones, and the other way round: no more are made,
+    and both know the statements that psycopg has prepared over one.
+    """
     processes = set[int]()
     kinds = {name: sagas.Saga(name) for name in ("async", "plain")}
     look = "SELECT pg_backend_pid(), pg_sleep(%s)"  # psycopg prepares it at its sixth use
@@ -1018,10 +1068,10 @@ def test_one_budget_for_both_kinds_of_functions(url: str, first: str) -> None:
         async with sagas.open(url, [*kinds.values()], concurrency=4) as store:
             for turn in range(6):
                 kind = kinds[first if turn % 2 else ({*kinds} - {first}).pop()]
-                ends = [ended(store, kind, f"{turn}, {place}") for place in range(12)]
+                ends = [ended(store, kind, f"{turn}, {number}") for number in range(12)]
                 assert all(end.ok for end in await asyncio.gather(*ends))
-            each = [(kind, place) for place in range(12) for kind in kinds.values()]
-            both = [ended(store, kind, f"{kind.name} {place}") for kind, place in each]
+            each = [(kind, number) for number in range(12) for kind in kinds.values()]
+            both = [ended(store, kind, f"{kind.name} {number}") for kind, number in each]
             assert all(end.ok for end in await asyncio.gather(*both))
 
     run(main())

@@ -1,4 +1,6 @@
-"""Who may act on a saga that undoes a child, what it has of the child, and what a hand may complete."""
+"""Who may act on a saga that undoes a child, what it has of the child, and what an operator may
+complete.
+"""
 
 from __future__ import annotations
 
@@ -31,7 +33,7 @@ Json = dict[str, Any]
 class Family:
     """A parent whose child is undone step by step: `c`, `b`, `a`, at a gate before each."""
 
-    def __init__(self, fails: bool = False, **words: Any) -> None:
+    def __init__(self, fails: bool = False, **options: Any) -> None:
         self.done, self.keys = list[str](), list[str]()
         self.child, self.top = sagas.Saga("child"), sagas.Saga("top")
         self.gate, self.is_broken = asyncio.Event(), fails
@@ -40,7 +42,7 @@ class Family:
             step = self.child.step(self._run, name=name, needs=before[-1:], keep=9)
             step.compensation(on_exhausted="fail")(self._undo)
             before.append(step)
-        self.kid = self.top.child(self.child, name="kid", input=lambda task: task.input, **words)
+        self.kid = self.top.child(self.child, name="kid", input=lambda task: task.input, **options)
         self.top.step(self._last, name="fin", needs=[self.kid])
         self.all = [self.top, self.child]
 
@@ -60,23 +62,25 @@ class Family:
         raise sagas.Fail("no")
 
     async def exhausted(self, store: sagas.Store, key: str = "t") -> sagas.Attention:
-        """What is asked of a person about the parent."""
+        """Return what needs an operator about the parent."""
 
-        async def asked() -> list[sagas.Attention]:
+        async def entries() -> list[sagas.Attention]:
             return [one for one in await store.attention() if one.key == key]
 
-        (found,) = await until(asked)
-        assert isinstance(found, sagas.Attention)
-        return found
+        (entry,) = await until(entries)
+        assert isinstance(entry, sagas.Attention)
+        return entry
 
 
-def test_what_undoes_a_child_is_not_aborted(place: str, capsys: pytest.CaptureFixture[str]) -> None:
-    """By its key the answer says why; many by a label leave it out, and say so. The undo goes on to its end."""
-    world, shell = Family(), Shell(place, capsys)
+def test_an_undo_saga_is_not_aborted(location: str, capsys: pytest.CaptureFixture[str]) -> None:
+    """For its key the response has the reason; a command for many by a label leaves it out, and
+    reports that. The undo continues to its end.
+    """
+    world, shell = Family(), Shell(location, capsys)
 
     async def main() -> None:
-        async with sagas.open(place, world.all) as store:
-            found = await store.start(world.top, "t", labels={"customer": "7"})
+        async with sagas.open(location, world.all) as store:
+            started = await store.start(world.top, "t", labels={"customer": "7"})
             await until(lambda: world.done == ["c", "b"])
             with pytest.raises(
                 sagas.NotAbortable, match="'t/:kid:undo' undoes a child, so it is not aborted"
@@ -85,12 +89,12 @@ def test_what_undoes_a_child_is_not_aborted(place: str, capsys: pytest.CaptureFi
             assert world.child.name in [
                 one.saga for one in await store.list(labels={"customer": "7"})
             ]
-            words = ("abort", "--all", "--label", "customer=7")
+            arguments = ("abort", "--all", "--label", "customer=7")
             assert (
-                await asyncio.to_thread(shell, *words)
+                await asyncio.to_thread(shell, *arguments)
                 == "1 saga: --yes aborts it\n1 saga skipped, because it undoes a child\n"
             )
-            assert await asyncio.to_thread(shell.json, *words) == {"count": 1, "undoing": 1}
+            assert await asyncio.to_thread(shell.json, *arguments) == {"count": 1, "undoing": 1}
             result = await store.abort_all(labels={"customer": "7"}, by="ann")
             assert (result.done, result.refused, result.waiting, result.undoing) == (
                 ["t"],
@@ -99,18 +103,18 @@ def test_what_undoes_a_child_is_not_aborted(place: str, capsys: pytest.CaptureFi
                 ["t/:kid:undo"],
             )
             assert (
-                await asyncio.to_thread(shell, *words, "--yes")
+                await asyncio.to_thread(shell, *arguments, "--yes")
                 == "t/:kid:undo: skipped, because it undoes a child\n"
             )
-            asked = {
+            refusal = {
                 "key": "t/:kid:undo",
                 "asked": "abort",
                 "answer": "skipped, because it undoes a child",
             }
-            assert await asyncio.to_thread(shell.json, *words, "--yes") == [asked]
+            assert await asyncio.to_thread(shell.json, *arguments, "--yes") == [refusal]
             assert await asyncio.to_thread(shell, "abort", "t/:kid:undo", status=1) == ""
             world.gate.set()
-            end = await found.wait(60)
+            end = await started.wait(60)
             assert end.aborted and end.states == {"kid": "undone", "fin": "failed"}
             undone = await store.wait("t/:kid:undo", 60)
             assert undone.ok and not undone.aborted and not await store.abort("t/:kid:undo")
@@ -121,13 +125,13 @@ def test_what_undoes_a_child_is_not_aborted(place: str, capsys: pytest.CaptureFi
     assert world.done == ["c", "b", "a"]
 
 
-def test_a_client_and_another_node_abort_none(url: str) -> None:
+def test_a_client_or_another_node_cannot_abort_an_undo(url: str) -> None:
     """They ask its node, or know it by themselves."""
     world = Family()
 
     async def main() -> None:
         async with sagas.open(url, world.all, node="one") as store, sagas.Client(url) as client:
-            found = await store.start(world.top, "t")
+            started = await store.start(world.top, "t")
             await until(lambda: world.done == ["c", "b"])
             async with sagas.open(url, world.all, node="two") as other:
                 for one in (client, other):
@@ -135,27 +139,30 @@ def test_a_client_and_another_node_abort_none(url: str) -> None:
                         await one.abort("t/:kid:undo")
             assert (await client.abort_all(saga="child-undo")).undoing == ["t/:kid:undo"]
             world.gate.set()
-            assert (await found.wait(60)).states["kid"] == "undone"
+            assert (await started.wait(60)).states["kid"] == "undone"
 
     run(main())
 
 
-@pytest.mark.parametrize("place", ["sqlite", "postgresql"], indirect=True)
+@pytest.mark.parametrize("location", ["sqlite", "postgresql"], indirect=True)
 @pytest.mark.parametrize("way", ["retry", "complete", "fail"])
-def test_an_undo_that_failed_waits_for_a_person(place: str, way: str) -> None:
-    """As any compensation, also behind a restart. A retry undoes what is left, in another saga."""
+def test_an_undo_that_failed_waits_for_a_person(location: str, way: str) -> None:
+    """It is treated as any compensation, also after a restart.
+
+    A retry undoes what is left, in another saga.
+    """
     world = Family(fails=True)
     world.gate.set()
 
     async def main() -> None:
-        async with sagas.open(place, world.all) as store:
+        async with sagas.open(location, world.all) as store:
             await store.start(world.top, "t")
-            found = await world.exhausted(store)
-            assert (found.why, found.step, found.undo) == ("exhausted", "kid", True)
+            entry = await world.exhausted(store)
+            assert (entry.why, entry.step, entry.undo) == ("exhausted", "kid", True)
             assert "'t/:kid:undo' has not completed: recovered. b: sagas.Fail: cannot" in str(
-                found.detail
+                entry.detail
             )
-        async with sagas.open(place, world.all) as store:
+        async with sagas.open(location, world.all) as store:
             run_again = await store.get("t")
             assert run_again is not None
             if way == "retry":
@@ -176,16 +183,16 @@ def test_an_undo_that_failed_waits_for_a_person(place: str, way: str) -> None:
 
     run(main())
     assert world.done == (["c", "b", "b", "b", "a"] if way == "retry" else ["c", "b"])
-    assert len({*world.keys}) == len({*world.done})  # one idempotency key a step, over all sagas
+    assert len({*world.keys}) == len({*world.done})  # one idempotency key per step, over all sagas
 
 
-def test_nobody_is_asked_if_so_declared(place: str) -> None:
+def test_no_operator_is_asked_if_so_declared(location: str) -> None:
     """Then the rest of the child stays."""
     world = Family(fails=True, undo_on_exhausted="fail")
     world.gate.set()
 
     async def main() -> None:
-        async with sagas.open(place, world.all) as store:
+        async with sagas.open(location, world.all) as store:
             end = await (await store.start(world.top, "t")).wait(60)
             assert end.states["kid"] == "undo_failed"
 
@@ -193,11 +200,12 @@ def test_nobody_is_asked_if_so_declared(place: str) -> None:
     with pytest.raises(
         sagas.DefinitionError, match="undo_on_exhausted='retry': must be fail or ask"
     ):
-        sagas.Saga("x").child(world.child, input=lambda task: 1, undo_on_exhausted="retry")  # type: ignore[call-overload]
+        wrong: dict[str, Any] = {"undo_on_exhausted": "retry"}
+        sagas.Saga("x").child(world.child, input=lambda task: 1, **wrong)
 
 
-def test_what_is_undone_of_a_grandchild_stays_undone(place: str) -> None:
-    """The saga that undoes it is tried again by itself, or as a part of its parent's."""
+def test_an_undone_grandchild_stays_undone(location: str) -> None:
+    """The saga that undoes it is retried by itself, or as a part of its parent's."""
     calls, broken = list[str](), [True]
     low, mid, top = (sagas.Saga(name) for name in ("low", "mid", "top"))
 
@@ -219,21 +227,21 @@ def test_what_is_undone_of_a_grandchild_stays_undone(place: str) -> None:
     top.step(last, name="fin", needs=[kid])
 
     async def main() -> None:
-        async with sagas.open(place, [top, mid, low]) as store:
-            found = await store.start(top, "t")
+        async with sagas.open(location, [top, mid, low]) as store:
+            started = await store.start(top, "t")
 
-            async def asked() -> list[str]:
+            async def exhausted_keys() -> list[str]:
                 return [one.key for one in await store.attention()]
 
-            await until(asked)
-            assert await asked() == ["t/:kid:undo"]
+            await until(exhausted_keys)
+            assert await exhausted_keys() == ["t/:kid:undo"]
             with pytest.raises(sagas.NotAbortable):
                 await store.abort("t/:kid:undo")
             await store.fail("t/:kid:undo", "below", "not now")
-            await until(lambda: is_list(asked, ["t"]))
+            await until(lambda: is_list(exhausted_keys, ["t"]))
             broken.clear()
             await store.retry("t", "kid", undo=True)
-            assert (await found.wait(60)).states == {"kid": "undone", "fin": "failed"}
+            assert (await started.wait(60)).states == {"kid": "undone", "fin": "failed"}
             keys = {one.key for one in await store.list()}
             assert {"t/:kid:undo/:below", "t/:kid:undo/2", "t/:kid:undo/2/:below"} <= keys
 
@@ -242,8 +250,10 @@ def test_what_is_undone_of_a_grandchild_stays_undone(place: str) -> None:
     assert calls == [f"y {low_key}", f"x {low_key}", f"x {low_key}"]
 
 
-def test_what_others_undid_is_not_asked_again(place: str) -> None:
-    """A compensation that is external is reported once, and not again in the next saga; with a codec, too."""
+def test_undone_compensations_are_not_requested_again(location: str) -> None:
+    """An external compensation is reported once, and not again in the next saga; with a
+    codec, too.
+    """
     broken, calls = [True], list[str]()
     child, top = sagas.Saga("child"), sagas.Saga("top")
 
@@ -263,8 +273,8 @@ def test_what_others_undid_is_not_asked_again(place: str) -> None:
     top.step(last, name="fin", needs=[kid])
 
     async def main() -> None:
-        async with sagas.open(place, [top, child], codec=Backwards()) as store:
-            found = await store.start(top, "t", "y" * 5000)
+        async with sagas.open(location, [top, child], codec=Backwards()) as store:
+            started = await store.start(top, "t", "y" * 5000)
             await until(lambda: store.get("t/:kid:undo"))
             await until(lambda: store.active_attempts("t/:kid:undo"))
             await store.complete("t/:kid:undo", "b")
@@ -273,7 +283,7 @@ def test_what_others_undid_is_not_asked_again(place: str) -> None:
             )
             broken.clear()
             await store.retry("t", "kid", undo=True)
-            assert (await found.wait(60)).states["kid"] == "undone"
+            assert (await started.wait(60)).states["kid"] == "undone"
             assert (await store.wait("t/:kid:undo/2", 60)).states == {
                 "b": "committed",
                 "a": "committed",
@@ -283,12 +293,15 @@ def test_what_others_undid_is_not_asked_again(place: str) -> None:
     assert calls == ["a", "a"]
 
 
-async def is_list(asked: Callable[[], Any], wanted: list[str]) -> bool:
-    return bool(await asked() == wanted)
+async def is_list(listing: Callable[[], Any], wanted: list[str]) -> bool:
+    return bool(await listing() == wanted)
 
 
 class Hand:
-    """A parent whose child step waits for an operator, since its child fails. Of that, `gone` is undone by then, and `first` stays."""
+    """A parent whose child step needs an operator, since its child fails.
+
+    In it, `gone` is undone by then, and `first` stays.
+    """
 
     def __init__(self) -> None:
         self.undone = list[str]()
@@ -308,10 +321,10 @@ class Hand:
         if task.input == "fails":
             raise sagas.Fail("no")
 
-    async def asked(self, store: sagas.Store) -> sagas.Run:
-        found = await store.start(self.top, "t", "fails")
+    async def started_and_waiting(self, store: sagas.Store) -> sagas.Run:
+        run = await store.start(self.top, "t", "fails")
         await until(lambda: [one for one in store.active_attempts("t") if one.waits == "exhausted"])
-        return found
+        return run
 
 
 def result(key: Any, **more: Any) -> Json:
@@ -331,7 +344,10 @@ WRONG: list[tuple[Any, str]] = [
     (result(7), "the key of a child is a text"),
     (
         result("good/:kid"),
-        "the key is not that of a child of this step.*: KEY is that of its child [(]it started 't/:kid'[)]",
+        (
+            "the key is not that of a child of this step.*: KEY is that of its child [(]it started"
+            " 't/:kid'[)]"
+        ),
     ),
     (result("t"), "the key is not that of a child of this step"),
     (result("nonsense"), "the key is not that of a child of this step"),
@@ -339,15 +355,18 @@ WRONG: list[tuple[Any, str]] = [
 
 
 def test_a_child_step_is_completed_with_a_childs_result(
-    place: str, capsys: pytest.CaptureFixture[str]
+    location: str, capsys: pytest.CaptureFixture[str]
 ) -> None:
-    """Anything else is refused, with nothing changed, by the store and by the command. Without a child there is nothing to undo."""
-    world, shell = Hand(), Shell(place, capsys)
+    """Anything else is refused, with nothing changed, by the store and by the command.
+
+    Without a child there is nothing to undo.
+    """
+    world, shell = Hand(), Shell(location, capsys)
 
     async def main() -> None:
-        async with sagas.open(place, world.all) as store:
+        async with sagas.open(location, world.all) as store:
             good = await store.start(world.top, "good", "works")
-            found = await world.asked(store)
+            started = await world.started_and_waiting(store)
             for wrong, why in WRONG:
                 with pytest.raises(
                     sagas.InvalidResult, match=f"saga 't', step 'kid': {why}.*Nothing was stored"
@@ -355,17 +374,20 @@ def test_a_child_step_is_completed_with_a_childs_result(
                     await store.complete("t", world.kid, wrong, by="ann")
             with pytest.raises(sagas.InvalidResult):
                 await store.complete_all(result("good/:kid"))
-            words = ("complete", "t", "kid", "--result")
+            arguments = ("complete", "t", "kid", "--result")
             for wrong in (None, result("good/:kid")):
-                assert await asyncio.to_thread(shell, *words, json.dumps(wrong), status=1) == ""
+                assert await asyncio.to_thread(shell, *arguments, json.dumps(wrong), status=1) == ""
             assert [one.waits for one in store.active_attempts("t")] == ["exhausted"]
-            told = result(None)
-            assert await asyncio.to_thread(shell, *words, json.dumps(told)) == "t: kid succeeded\n"
-            await store.complete("t", world.kid, told)  # the same again
+            right = result(None)
+            assert (
+                await asyncio.to_thread(shell, *arguments, json.dumps(right))
+                == "t: kid succeeded\n"
+            )
+            await store.complete("t", world.kid, right)  # the same again
             with pytest.raises(sagas.ConflictingReport):
                 await store.complete("t", world.kid, result(None, results={}))
             await store.abort("t")
-            assert (await found.wait(60)).states["kid"] == "undone"
+            assert (await started.wait(60)).states["kid"] == "undone"
             assert await store.get("t/:kid:undo") is None
             await store.complete("good", "sign")
             assert (await good.wait(60)).ok
@@ -374,20 +396,20 @@ def test_a_child_step_is_completed_with_a_childs_result(
     assert world.undone == ["gone t/:kid"]  # by the child itself
 
 
-def test_what_is_left_of_its_own_child_is_undone(place: str) -> None:
-    """Also behind a restart; what the child has undone is not undone again."""
+def test_the_rest_of_its_child_is_undone(location: str) -> None:
+    """This holds also after a restart; steps that the child has undone are not undone again."""
     world = Hand()
 
     async def main() -> None:
-        async with sagas.open(place, world.all) as store:
-            await world.asked(store)
+        async with sagas.open(location, world.all) as store:
+            await world.started_and_waiting(store)
             await store.retry("t", "kid")
             await until(lambda: store.get("t/:kid/2"))
             await until(
                 lambda: [one for one in store.active_attempts("t") if one.waits == "exhausted"]
             )
             await store.complete("t", "kid", result("t/:kid"))
-        async with sagas.open(place, world.all) as store:
+        async with sagas.open(location, world.all) as store:
             await store.abort("t")
             assert (await store.wait("t", 60)).states["kid"] == "undone"
             assert (await store.wait("t/:kid:undo", 60)).ok
@@ -396,30 +418,30 @@ def test_what_is_left_of_its_own_child_is_undone(place: str) -> None:
     assert world.undone == ["gone t/:kid", "gone t/:kid/2", "first t/:kid"]
 
 
-def test_a_wrong_result_of_before_waits_for_a_person(
-    place: str, monkeypatch: pytest.MonkeyPatch
+def test_a_wrong_stored_result_needs_an_operator(
+    location: str, monkeypatch: pytest.MonkeyPatch
 ) -> None:
-    """Nobody else's child is undone by it, and nothing hangs."""
+    """It undoes no other saga's child, and nothing hangs."""
     world = Hand()
-    monkeypatch.setattr(child_results, "check", lambda *words: None)
+    monkeypatch.setattr(child_results, "check", lambda *arguments: None)
 
     async def main() -> None:
-        async with sagas.open(place, world.all) as store:
-            found = await world.asked(store)
+        async with sagas.open(location, world.all) as store:
+            started = await world.started_and_waiting(store)
             await store.complete("t", "kid", result("nonsense"))
             await store.abort("t")
 
-            async def asked() -> list[sagas.Attention]:
+            async def entries() -> list[sagas.Attention]:
                 return await store.attention()
 
-            (one,) = await until(asked)
+            (one,) = await until(entries)
             assert (one.key, one.step, one.undo) == (
                 "t",
                 "kid",
                 True,
             ) and "no key of a child" in str(one.detail)
             await store.complete("t", "kid", undo=True)
-            assert (await found.wait(60)).states["kid"] == "undone"
+            assert (await started.wait(60)).states["kid"] == "undone"
 
     run(main())
     assert world.undone == ["gone t/:kid"]
@@ -453,8 +475,10 @@ class Account:
     number: str
 
 
-def test_what_an_undo_has_of_its_child(place: str) -> None:
-    """Labels, the tenant, and the concurrency of its steps, whose calls are counted with those that undo them."""
+def test_attributes_that_an_undo_has_of_its_child(location: str) -> None:
+    """It has labels, the tenant, and the concurrency of its steps, whose calls are counted with
+    those that undo them.
+    """
     calls, gate = list[str](), asyncio.Event()
     child, top = sagas.Saga("child", fair_by=lambda given: given["number"]), sagas.Saga("top")
 
@@ -478,8 +502,8 @@ def test_what_an_undo_has_of_its_child(place: str) -> None:
     top.step(last, name="fin", needs=[kid])
 
     async def main() -> None:
-        async with sagas.open(place, [top, child]) as store:
-            found = [
+        async with sagas.open(location, [top, child]) as store:
+            undone_sagas = [
                 await store.start(top, key, number, labels={"of": number})
                 for key, number in (("s", "7"), ("t", "7"), ("u", "8"))
             ]
@@ -498,13 +522,13 @@ def test_what_an_undo_has_of_its_child(place: str) -> None:
             assert tenants == {"s/:kid:undo": '"7"', "t/:kid:undo": '"7"', "u/:kid:undo": '"8"'}
             assert await store.count(saga="child-undo", labels={"of": "7"}) == 2
             gate.set()
-            for one in found:
+            for one in undone_sagas:
                 assert (await one.wait(60)).states["kid"] == "undone"
 
     run(main())
 
 
-def test_nobody_starts_what_undoes_a_child(url: str) -> None:
+def test_an_undo_saga_cannot_be_started(url: str) -> None:
     """Not even a client that declares a saga of its name."""
     world = Family()
 
@@ -535,7 +559,7 @@ def test_nobody_starts_what_undoes_a_child(url: str) -> None:
 
 
 def test_scopes() -> None:
-    """What undoes a child goes with the child; a saga that only has its name does not."""
+    """A token of the child covers it; a saga that only has its name is not covered."""
     scope = Scope(frozenset({"leaf"}))
     for key, sees in (
         ("t/:kid:undo", True),
@@ -574,7 +598,10 @@ store = sagas.open("unused.db", [top, leaf, hand, plain])
 
 
 def test_over_http(tmp_path: pathlib.Path) -> None:
-    """A token of the child sees what undoes it, and aborts none of it; one of another definition sees nothing. A webhook of the child hears of it."""
+    """A token of the child sees it, and cannot abort it; one of another definition sees nothing.
+
+    A webhook of the child gets its events.
+    """
     (tmp_path / "app.py").write_text(APP)
     receiver, undo = Receiver(), "t/:kid:undo"
     hooks = written(
@@ -583,7 +610,7 @@ def test_over_http(tmp_path: pathlib.Path) -> None:
     every = token(tmp_path, "every", "operator")
     leafy = token(tmp_path, "leafy", "operator", "--definition", "leaf")
     other = token(tmp_path, "other", "operator", "--definition", "plain")
-    words = (
+    options = (
         "--app",
         "app:store",
         "--token-file",
@@ -593,12 +620,12 @@ def test_over_http(tmp_path: pathlib.Path) -> None:
         "--local-webhooks",
     )
     path = f"/v1/sagas/{quote(undo, safe='')}"
-    with served(tmp_path, {"one.toml": ONE}, *words) as service, service.client(every) as client:
+    with served(tmp_path, {"one.toml": ONE}, *options) as service, service.client(every) as client:
         assert (
             start(client, "top", "t").status_code == start(client, "hand", "h").status_code == 201
         )
-        (told,) = receiver.wait(1)
-        assert told["data"] == {
+        (received_post,) = receiver.wait(1)
+        assert received_post["data"] == {
             "key": undo,
             "definition": "leaf-undo",
             "kind": "exhausted",
@@ -646,10 +673,18 @@ def test_over_http(tmp_path: pathlib.Path) -> None:
                 .json()["detail"]
                 .startswith(f"saga '{undo}' undoes a child")
             )
-            told = owner.post("/v1/bulk/abort", json=bulk).json()
-            assert (told["count"], told["keys"], told["undoing"]) == (0, [], 1)
-            told = client.post("/v1/bulk/abort", json={"filter": {}}).json()
-            assert (told["count"], told["keys"], told["undoing"]) == (2, ["t", "h"], 1)
+            received_post = owner.post("/v1/bulk/abort", json=bulk).json()
+            assert (received_post["count"], received_post["keys"], received_post["undoing"]) == (
+                0,
+                [],
+                1,
+            )
+            received_post = client.post("/v1/bulk/abort", json={"filter": {}}).json()
+            assert (received_post["count"], received_post["keys"], received_post["undoing"]) == (
+                2,
+                ["t", "h"],
+                1,
+            )
             assert error_of(stranger.post("/v1/bulk/abort", json=bulk)) == "Forbidden"
             with service.client() as page:
                 assert (
@@ -681,34 +716,35 @@ def test_over_http(tmp_path: pathlib.Path) -> None:
                     and "'h/:kid'" in answer.text
                     and "nonsense" not in answer.text
                 )
-            told = client.post(
+            received_post = client.post(
                 "/v1/bulk/complete",
                 json={"filter": filter, "dry_run": False, "count": 1, "result": None},
             ).json()
-            assert told.get("done") == 0, told
-            assert told["refused"][0]["problem"]["status"] == 422
+            assert received_post.get("done") == 0, received_post
+            assert received_post["refused"][0]["problem"]["status"] == 422
             assert (
                 client.post(complete, json={"result": result("h/:kid", results={})}).status_code
                 == 200
             )
             assert client.get("/v1/sagas/h/wait").json()["phase"] == "completed"
+            # as any compensation
             assert (
                 owner.post(f"{path}/steps/room/complete", json={"result": None}).status_code == 200
-            )  # as any compensation
+            )
             assert client.get("/v1/sagas/t/wait").json()["phase"] == "recovered"
 
 
-def test_archives_hold_parents_and_deadlines(place: str, tmp_path: pathlib.Path) -> None:
-    """Of each saga: null where there is none."""
+def test_archives_hold_parents_and_deadlines(location: str, tmp_path: pathlib.Path) -> None:
+    """Of each saga: null if there is none."""
     world = Family()
     world.gate.set()
 
     async def main() -> None:
-        async with sagas.open(place, world.all) as store:
+        async with sagas.open(location, world.all) as store:
             await (await store.start(world.top, "t", deadline=3600)).wait(60)
 
     run(main())
-    with admin.writing(place) as link:
+    with admin.writing(location) as link:
         shards = [shard for shard, in link.ask("SELECT shard FROM shards")]
         folders = [archive.write(link, shard, tmp_path / "archive") for shard in shards]
     lines = [
@@ -717,34 +753,36 @@ def test_archives_hold_parents_and_deadlines(place: str, tmp_path: pathlib.Path)
         if folder
         for line in (folder / "sagas.jsonl").read_text().splitlines()
     ]
-    told = {row["key"]: row for row in map(json.loads, lines)}
-    assert {key: row["parent"] for key, row in told.items()} == {
+    entries = {row["key"]: row for row in map(json.loads, lines)}
+    assert {key: row["parent"] for key, row in entries.items()} == {
         "t": None,
         "t/:kid": "t",
         "t/:kid:undo": "t",
     }
     assert (
-        told["t"]["deadline"] == told["t/:kid"]["deadline"] > told["t"]["started"]
-        and told["t/:kid:undo"]["deadline"] is None
+        entries["t"]["deadline"] == entries["t/:kid"]["deadline"] > entries["t"]["started"]
+        and entries["t/:kid:undo"]["deadline"] is None
     )
 
 
 def test_in_a_simulation() -> None:
-    """What a person left in the saga that undoes the child is not asked again; it may be answered."""
+    """Steps that an operator left in the saga that undoes the child are not undone again; the
+    operator may answer.
+    """
     child, top = sagas.Saga("child"), sagas.Saga("top")
     step = child.step(lambda task: 1, name="room", keep=9)
     step.compensation(on_exhausted="fail")(lambda task: None)
     kid = top.child(child, name="kid", input=lambda task: 1, on_exhausted="ask", keep=9)
     last = top.step(lambda task: None, name="fin", needs=[kid])
     for answers, state in (({}, "undo_failed"), ({kid: None}, "undone")):
-        found = sagas.testing.run(
+        trial = sagas.testing.run(
             top, fail={last: sagas.Fail("no")}, fail_undo={step: 1}, answers=answers
         )
-        assert found.states["kid"] == state
-    found = sagas.testing.run(top, fail={kid: 1, last: 1}, answers={kid: result(None)})
-    assert found.states["kid"] == "undone" and not found.children
+        assert trial.states["kid"] == state
+    trial = sagas.testing.run(top, fail={kid: 1, last: 1}, answers={kid: result(None)})
+    assert trial.states["kid"] == "undone" and not trial.children
     world = Hand()
-    found = sagas.testing.run(
+    trial = sagas.testing.run(
         world.top, "fails", answers={world.kid: result("test/:kid"), "sign": sagas.Fail("no")}
     )
-    assert found.states["kid"] == "undone" and world.undone == ["gone test/:kid", "first test/:kid"]
+    assert trial.states["kid"] == "undone" and world.undone == ["gone test/:kid", "first test/:kid"]

@@ -43,13 +43,13 @@ SHOP = pathlib.Path(__file__).with_name("unfolding_shop.py")
 
 
 def steps_of(text: str) -> list[tuple[str, list[str]]]:
-    """The names and needs of a definition's steps."""
-    found = re.findall(r'name = "(\S+)"\n# of .*\n(?:needs = \[(.*)\]\n)?', text)
-    return [(name, re.findall(r'"([^"]+)"', needs)) for name, needs in found]
+    """Return the names and needs of a definition's steps."""
+    matches = re.findall(r'name = "(\S+)"\n# of .*\n(?:needs = \[(.*)\]\n)?', text)
+    return [(name, re.findall(r'"([^"]+)"', needs)) for name, needs in matches]
 
 
 def test_the_groups_of_a_definition() -> None:
-    """Inclusions two deep, an inclusion for each item, and items; one alone is no group."""
+    """Inclusions two deep, an inclusion for each item, and items; a single one is not a group."""
     groups = Groups.read(shaped.trip.toml(GIVEN))
     titles = {name: group.title for name, group in groups.by_name.items()}
     assert titles == {
@@ -72,8 +72,8 @@ def test_the_groups_of_a_definition() -> None:
     assert Groups.read(shaped.plain.toml()).origins == []
 
 
-def test_what_is_put_between_is_no_item() -> None:
-    """A step that the package puts behind a fan-out is drawn with it, and is not counted."""
+def test_inserted_steps_are_not_items() -> None:
+    """A step that the package puts after a fan-out is drawn with it, and is not counted."""
     saga = sagas.Saga("wide")
     first = saga.step(name="first", for_each="n", undo=0)(lambda task: 1)
     saga.step(name="second", for_each="n", needs=[first], undo=0)(lambda task: 1)
@@ -90,12 +90,12 @@ def test_a_picture_has_no_circle(unfold: set[str], rooms: int) -> None:
     """Whatever is unfolded, each step is in one box, and the boxes have an order."""
     text = shaped.trip.toml(Trip(Package(Hotel("Rome", ["a"] * rooms, True), ["vw", "bmw"])))
     steps, groups = steps_of(text), Groups.read(text)
-    displays = [FAILED if place % 5 == 3 else DONE for place in range(len(steps))]
+    displays = [FAILED if index % 5 == 3 else DONE for index in range(len(steps))]
     shown = boxes_of(groups.blocks(len(steps), unfold), [name for name, _ in steps], displays)
     assert sorted(step for box in shown for step in box.steps) == [*range(len(steps))]
     needs, over = picture.needs_of(steps, shown), set[int]()
     while len(over) < len(shown):
-        free = {place for place, some in enumerate(needs) if over.issuperset(some)} - over
+        free = {index for index, some in enumerate(needs) if over.issuperset(some)} - over
         assert free
         over |= free
     assert len(layout.layers_of(needs)) == len(shown)
@@ -127,8 +127,8 @@ def test_drawings_for_graphviz(tmp_path: pathlib.Path, capsys: Any) -> None:
     assert '  "mail" -> "label";' in shaped.order.draw(given)
     whole = shaped.order.draw(given, unfold=["*"])
     assert '"ship-3"' in whole and '"ship"' not in whole
-    place = str(tmp_path / "store.db")
-    with sagas.open_sync(place, [shaped.order]) as store:
+    location = str(tmp_path / "store.db")
+    with sagas.open_sync(location, [shaped.order]) as store:
         assert store.start(shaped.order, "k", given).wait().phase == "recovered"
         assert r'label="ship ×4\n3 committed, kept\n1 failed\nundo 10"' in store.draw("k")
         some = store.draw("k", unfold=["ship"])
@@ -138,8 +138,8 @@ def test_drawings_for_graphviz(tmp_path: pathlib.Path, capsys: Any) -> None:
         assert store.start(shaped.order, "good", parcels(2)).wait().ok
         assert 'label="ship ×2\\nundo 10"' in store.draw("good")
 
-    def command(*words: str) -> str:
-        assert main([place, "draw", "k", *words]) == 0
+    def command(*arguments: str) -> str:
+        assert main([location, "draw", "k", *arguments]) == 0
         return str(capsys.readouterr().out)
 
     assert command() == plan.draw()
@@ -151,18 +151,18 @@ def test_drawings_for_graphviz(tmp_path: pathlib.Path, capsys: Any) -> None:
 
 def test_declared_steps() -> None:
     """Also of a saga whose steps come from its input: names, needs, and costs that come from it."""
-    found = {one.name: one for one in declared_steps.of(shaped.trip)}
-    assert found["p/hotel/room"].needs == ["p/hotel/book"] and found["p/hotel/room"].for_each
-    assert found["p/car/take"].needs == ["p/hotel/confirm"]
-    assert found["tour"].needs == ["p/car/take"] and not found["tour"].for_each
-    assert found["p/hotel/breakfast"].note == "for some inputs"
+    by_name = {one.name: one for one in declared_steps.of(shaped.trip)}
+    assert by_name["p/hotel/room"].needs == ["p/hotel/book"] and by_name["p/hotel/room"].for_each
+    assert by_name["p/car/take"].needs == ["p/hotel/confirm"]
+    assert by_name["tour"].needs == ["p/car/take"] and not by_name["tour"].for_each
+    assert by_name["p/hotel/breakfast"].note == "for some inputs"
     costs = {one.name: one.costs for one in declared_steps.of(shaped.order)}
     assert costs["ship"] == {"run": 0, "undo": 10, "skip": 0, "keep": "input"}
     assert costs["mail"]["skip"] == "input" and costs["reserve"]["keep"] == 0
 
 
 def test_a_definition_is_read_once(tmp_path: pathlib.Path, monkeypatch: pytest.MonkeyPatch) -> None:
-    """For the steps, the attempts, the plan and the picture of a page, however many ask for it."""
+    """For the steps, the attempts, the plan and the picture of a page, however many need it."""
     loads, texts = tomllib.loads, list[str]()
 
     def counted(text: str) -> dict[str, Any]:
@@ -179,8 +179,8 @@ def test_a_definition_is_read_once(tmp_path: pathlib.Path, monkeypatch: pytest.M
 
     view = asyncio.run(main())
     assert view and view.plan
-    told = saga_pages.template_values(view, lambda name, text: set(), time.time(), "*")
-    assert [*told["choices"]] == [step.name for step in view.steps] and told["attempts"].shown
+    page = saga_pages.template_values(view, lambda name, text: set(), time.time(), "*")
+    assert [*page["choices"]] == [step.name for step in view.steps] and page["attempts"].shown
     assert json_views.timeline(view, time.time())["attempts"]
     assert len(texts) <= 1
 
@@ -213,11 +213,11 @@ def service(shots: pathlib.Path) -> Iterator[Served]:
 
 
 def rows(text: str, table: str = "Steps") -> list[tuple[str, str]]:
-    """The first two cells of the rows of a table that are in sight."""
+    """Return the first two cells of the visible rows of a table."""
     part = text[text.index(f'aria-label="{table}"') :]
     part = part[: part.index("</table>")]
-    found = re.findall(r'<th scope="row"[^>]*>(.*?)</th><td>(.*?)</td>', part, re.S)
-    plain = [tuple(html.unescape(re.sub(r"<[^>]*>", "", one)) for one in row) for row in found]
+    matches = re.findall(r'<th scope="row"[^>]*>(.*?)</th><td>(.*?)</td>', part, re.S)
+    plain = [tuple(html.unescape(re.sub(r"<[^>]*>", "", one)) for one in row) for row in matches]
     return [(name, state) for name, state in plain]
 
 
@@ -238,11 +238,11 @@ def page(client: httpx.Client, path: str) -> str:
     ],
 )
 def test_a_fan_out_is_one_node(service: Served, count: int, wanted: list[tuple[str, str]]) -> None:
-    """In the picture, and in the tables of steps, attempts and events; one item alone is itself."""
+    """In the picture, and in the tables of steps, attempts and events; a single item is itself."""
     with service.client() as client:
         text = page(client, f"/ui/sagas/of-{count}")
-        found = rows(text)
-        assert found[:-1] == wanted and found[-1][0] == "mail"
+        shown = rows(text)
+        assert shown[:-1] == wanted and shown[-1][0] == "mail"
         drawing = text[
             text.index('class="picture"') : text.index("</svg>", text.index('class="picture"'))
         ]
@@ -280,15 +280,15 @@ def test_reads_do_not_wait_for_pages(service: Served) -> None:
 
 
 def test_items_are_unfolded_by_the_address(service: Served) -> None:
-    """What failed comes first; each has its index, and its key if there is one."""
+    """Failed ones come first; each has its index, and its key if there is one."""
     with service.client() as client:
         text = page(client, "/ui/sagas/of-50?unfold=ship")
-        found = rows(text)
-        assert found[0] == ("ship ×50", "2 failed, 48 done")
-        assert [state for _, state in found[1:3]] == ["failed", "failed"]
-        keys = sorted(name.partition(", ")[2] for name, _ in found[1:3])
+        shown = rows(text)
+        assert shown[0] == ("ship ×50", "2 failed, 48 done")
+        assert [state for _, state in shown[1:3]] == ["failed", "failed"]
+        keys = sorted(name.partition(", ")[2] for name, _ in shown[1:3])
         assert keys == ["key key 7/é", "key key 9/é"]
-        assert len(found) == FEW + 2
+        assert len(shown) == FEW + 2
         assert "35 more steps" in text and text.count('scope="row">ship-') >= 50
         assert "ship: 38 more" in text
         assert 'href="/ui/sagas/of-50#steps"' in text  # folds it
@@ -315,7 +315,7 @@ def test_included_sagas_are_groups(service: Served) -> None:
             ),
             "tour",
         ]
-        assert "?unfold=stay#steps" in text  # folds the rooms alone
+        assert "?unfold=stay#steps" in text  # folds only the rooms
         whole = page(client, "/ui/definitions/trip")
         assert "stay: 2 steps" in whole and "?unfold=stay#steps" in whole
         parts = page(client, "/ui/definitions/trip?unfold=stay")
@@ -333,8 +333,8 @@ def test_the_service_has_the_same_in_its_api(service: Served) -> None:
         assert "ship ×50" in folded and "<a " not in folded
         assert "ship: 38 more" in client.get("/v1/sagas/of-50/picture.svg?unfold=ship").text
         assert "ship ×50" not in client.get("/v1/sagas/of-50/picture.svg?unfold=*").text
-        found = client.get("/v1/definitions").json()["definitions"]
-        steps = {one["name"]: {step["name"]: step for step in one["steps"]} for one in found}
+        definitions = client.get("/v1/definitions").json()["definitions"]
+        steps = {one["name"]: {step["name"]: step for step in one["steps"]} for one in definitions}
         ship, room = steps["order"]["ship"], steps["trip"]["stay/room"]
         assert (ship["for_each"], ship["computed"], ship["keep"]) == (True, ["keep"], None)
         assert (room["needs"], room["for_each"], room["conditional"]) == (
@@ -345,7 +345,7 @@ def test_the_service_has_the_same_in_its_api(service: Served) -> None:
 
 
 def test_folded_and_unfolded_in_a_browser(service: Served, shots: pathlib.Path) -> None:
-    """A click unfolds a group and folds it, without a script too; the address says what is so."""
+    """A click unfolds a group and folds it, without a script too; the address has the state."""
     browser = Browser(service, shots)
     try:
         browser.size(1400)

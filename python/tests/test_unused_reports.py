@@ -1,4 +1,6 @@
-"""Successes that were reported before their steps began, and that their sagas did not use: none is lost."""
+"""Successes that were reported before their steps began, and that their sagas did not use: none is
+lost.
+"""
 
 from __future__ import annotations
 
@@ -20,9 +22,9 @@ RESULT = {"euros": 40}
 
 
 def order(
-    calls: list[Any], gate: asyncio.Event | None = None, faults: int = 0, **words: Any
+    calls: list[Any], gate: asyncio.Event | None = None, faults: int = 0, **options: Any
 ) -> sagas.Saga:
-    """A payment that is reported while the step that it needs runs."""
+    """Return a saga with a payment that is reported while the step that it needs runs."""
     saga, left = sagas.Saga("order"), [faults]
 
     @saga.step(keep=9)
@@ -32,7 +34,7 @@ def order(
         return 7
 
     reserve.compensation(lambda task: calls.append("release"))
-    pay = saga.step(name="pay", external=True, needs=[reserve], keep=9, **words)
+    pay = saga.step(name="pay", external=True, needs=[reserve], keep=9, **options)
 
     @pay.compensation(tries=3, backoff=QUICK)
     def refund(task: Task) -> None:
@@ -57,7 +59,7 @@ def order(
 
 
 async def aborted(store: Any, saga: sagas.Saga, gate: asyncio.Event, key: str = "k") -> Any:
-    """A saga that has ended without a report that was accepted."""
+    """Return a saga that has ended without a report that was accepted."""
     gate.clear()
     begun = await store.start(saga, key, {"n": 1})
     await until(lambda: [one for one in store.active_attempts(key) if one.step == "reserve"])
@@ -73,16 +75,18 @@ async def aborted(store: Any, saga: sagas.Saga, gate: asyncio.Event, key: str = 
     return end
 
 
-def test_an_operator_has_it_compensated(place: str, capsys: pytest.CaptureFixture[str]) -> None:
-    """It is in attention, with its result and who reported it; its compensation is called with it, once, though the call is repeated. The
-    same report again is one report still, and another one conflicts. A failure or an approval that was not used needs nobody.
+def test_an_operator_has_it_compensated(location: str, capsys: pytest.CaptureFixture[str]) -> None:
+    """It is in attention, with its result and its reporter.
+
+    Its compensation is called with it, once, though the call is repeated. The same report again is
+    still one, and another one conflicts. An unused failure or approval needs no operator.
     """
-    calls, gate, shell, events = list[Any](), asyncio.Event(), Shell(place, capsys), list[str]()
+    calls, gate, shell, events = list[Any](), asyncio.Event(), Shell(location, capsys), list[str]()
     saga = order(calls, gate, faults=2)
 
     async def main() -> None:
         heard = lambda one: events.append(one.name)
-        async with sagas.open(place, [saga], on_event=heard) as store:
+        async with sagas.open(location, [saga], on_event=heard) as store:
             await aborted(store, saga, gate)
             (one,) = await store.attention()
             assert (one.key, one.why, one.step, one.undo, one.by) == (
@@ -95,8 +99,8 @@ def test_an_operator_has_it_compensated(place: str, capsys: pytest.CaptureFixtur
             assert (
                 json.loads(one.detail or "") == RESULT and events.count("saga_unused_report") == 1
             )
-            told = await asyncio.to_thread(shell, "attention")
-            assert "unused report" in told and '{"euros":40} by ada' in told
+            output = await asyncio.to_thread(shell, "attention")
+            assert "unused report" in output and '{"euros":40} by ada' in output
             assert (await asyncio.to_thread(shell.json, "stats"))["unused_report"] == 1
             assert "unused   report of pay" in await asyncio.to_thread(shell, "show", "k")
             for step, why in (
@@ -123,7 +127,7 @@ def test_an_operator_has_it_compensated(place: str, capsys: pytest.CaptureFixtur
                 await store.complete("k", "pay", {"euros": 41})
             with pytest.raises(sagas.StepNotWaiting, match="need to be resolved"):
                 await store.resolve("k", "by hand")
-            assert all(said.startswith("yes") for said in (await store.audit()).values())
+            assert all(verdict.startswith("yes") for verdict in (await store.audit()).values())
         notes = [
             one for one in await asyncio.to_thread(shell.json, "log", "k") if one["event"] == "note"
         ]
@@ -133,13 +137,16 @@ def test_an_operator_has_it_compensated(place: str, capsys: pytest.CaptureFixtur
     assert "child    k/:pay:undo (completed)" in shell("show", "k")
 
 
-def test_an_operator_resolves_it(place: str, capsys: pytest.CaptureFixture[str]) -> None:
-    """By the store and by the command; no compensation is called from then on. Retention keeps the saga until then."""
-    calls, gate, shell = list[Any](), asyncio.Event(), Shell(place, capsys)
+def test_an_operator_resolves_it(location: str, capsys: pytest.CaptureFixture[str]) -> None:
+    """By the store and by the command; no compensation is called from then on.
+
+    Retention keeps the saga until then.
+    """
+    calls, gate, shell = list[Any](), asyncio.Event(), Shell(location, capsys)
     saga = order(calls, gate)
 
     async def main() -> None:
-        async with sagas.open(place, [saga]) as store:
+        async with sagas.open(location, [saga]) as store:
             for key in ("k", "l", "m"):
                 await aborted(store, saga, gate, key)
             assert len(await store.list(phase="recovered")) == 3
@@ -156,8 +163,10 @@ def test_an_operator_resolves_it(place: str, capsys: pytest.CaptureFixture[str])
     run(main())
 
 
-def test_unasked_also_over_a_kill(place: str) -> None:
-    """`early_unused="compensate"`: the program dies when the saga has ended, and the next one, or another node, has it called. Once."""
+def test_compensation_without_an_operator_over_a_kill(location: str) -> None:
+    """`early_unused="compensate"`: the program dies when the saga has ended, and the next one, or
+    another node, calls it. Once.
+    """
     if (child := os.fork()) == 0:
         try:
             gate = asyncio.Event()
@@ -168,7 +177,9 @@ def test_unasked_also_over_a_kill(place: str) -> None:
                     os.kill(os.getpid(), signal.SIGKILL)
 
             async def first() -> None:
-                async with sagas.open(place, [saga], node="one", lease=1, on_event=heard) as store:
+                async with sagas.open(
+                    location, [saga], node="one", lease=1, on_event=heard
+                ) as store:
                     await aborted(store, saga, gate)
 
             asyncio.run(first())
@@ -180,7 +191,7 @@ def test_unasked_also_over_a_kill(place: str) -> None:
 
     async def second() -> None:
         for _ in range(2):
-            async with sagas.open(place, [saga], node="two", lease=1) as store:
+            async with sagas.open(location, [saga], node="two", lease=1) as store:
                 await until(lambda: store.get("k/:pay:undo"))
                 assert (await store.wait("k/:pay:undo", 60)).ok
                 await until_none(store)
@@ -190,7 +201,7 @@ def test_unasked_also_over_a_kill(place: str) -> None:
 
 
 async def until_none(store: Any) -> None:
-    """Nothing needs a person."""
+    """Wait until nothing needs an operator."""
 
     async def is_empty() -> bool:
         return not await store.attention()
@@ -198,16 +209,17 @@ async def until_none(store: Any) -> None:
     await until(is_empty)
 
 
-def test_over_a_kill_between_the_start_and_the_acknowledgement(place: str) -> None:
-    """The saga that compensates is started, and its program dies before it says so: the report is in attention still, and to have it
-    compensated again calls nothing again."""
+def test_over_a_kill_between_the_start_and_the_acknowledgement(location: str) -> None:
+    """The saga that compensates is started, and its program dies before its reply: the report is
+    still in attention, and a repeated request calls nothing again.
+    """
     calls, gate = list[Any](), asyncio.Event()
     saga = order(calls, gate)
     if (child := os.fork()) == 0:
         try:
 
             async def first() -> None:
-                async with sagas.open(place, [saga], node="one", lease=1) as store:
+                async with sagas.open(location, [saga], node="one", lease=1) as store:
                     await aborted(store, saga, gate)
                     inside = store._access.coordinator
 
@@ -223,7 +235,7 @@ def test_over_a_kill_between_the_start_and_the_acknowledgement(place: str) -> No
     assert os.waitstatus_to_exitcode(os.waitpid(child, 0)[1]) == -signal.SIGKILL
 
     async def second() -> None:
-        async with sagas.open(place, [saga], node="two", lease=1) as store:
+        async with sagas.open(location, [saga], node="two", lease=1) as store:
             await until(lambda: store.get("k/:pay:undo"))
             assert (await store.wait("k/:pay:undo", 60)).ok
             done = [*calls]
@@ -234,8 +246,11 @@ def test_over_a_kill_between_the_start_and_the_acknowledgement(place: str) -> No
     run(second())
 
 
-def test_with_items_a_codec_and_blobs(place: str, tmp_path: Any) -> None:
-    """A step of an item, of which the result and the input are large and encoded: the compensation gets both. A program without the codec shows no result."""
+def test_with_items_a_codec_and_blobs(location: str, tmp_path: Any) -> None:
+    """A step of an item, whose result and input are large and encoded: the compensation gets both.
+
+    A program without the codec shows no result.
+    """
     calls, gate, large = list[Any](), asyncio.Event(), "x" * 5000
 
     class Codec:
@@ -260,12 +275,12 @@ def test_with_items_a_codec_and_blobs(place: str, tmp_path: Any) -> None:
     )
 
     async def main() -> None:
-        words: dict[str, Any] = {
+        options: dict[str, Any] = {
             "codec": Codec(),
             "blobs": FolderBlobStore(tmp_path / "blobs"),
             "blob_threshold": 1024,
         }
-        async with sagas.open(place, [saga], **words) as store:
+        async with sagas.open(location, [saga], **options) as store:
             begun = await store.start(saga, "k", {"items": ["a", large]})
             await until(lambda: store.active_attempts("k"))
             await store.complete("k", "pay-1", large)
@@ -285,8 +300,10 @@ def test_with_items_a_codec_and_blobs(place: str, tmp_path: Any) -> None:
     run(main())
 
 
-def test_a_worker_compensates_an_item_of_an_included_saga(place: str) -> None:
-    """The task has the item, its key, the input, what the included saga is given, and the results, as any compensation has."""
+def test_a_worker_compensates_an_item_of_an_included_saga(location: str) -> None:
+    """The task has the item, its key, the input, the arguments of the included saga, and the
+    results, as any compensation has.
+    """
     inner, outer = sagas.Saga("inner"), sagas.Saga("outer")
     sign = inner.approval(name="sign")(lambda task: None)
     pay = inner.step(name="pay", for_each="items", external=True, needs=[sign], keep=9)
@@ -296,7 +313,7 @@ def test_a_worker_compensates_an_item_of_an_included_saga(place: str) -> None:
     outer.include(inner, name="part", needs=[first], given=lambda task: task.result_of(first))
 
     async def main() -> None:
-        store = sagas.open(place, [outer])
+        store = sagas.open(location, [outer])
         store.leased = True
         async with store:
             begun = await store.start(outer, "k", {"items": {"a": 1, "b": 2}})
@@ -317,16 +334,22 @@ def test_a_worker_compensates_an_item_of_an_included_saga(place: str) -> None:
                 RESULT,
             )
             assert (task.input, json.loads(leased.given)) == ({"items": {"a": 1, "b": 2}}, "done")
-            told = task.plain
-            assert (told["item"], told["item_key"], told["shape"]["saga"]) == (2, "b", "inner")
+            fields = task.plain
+            assert (fields["item"], fields["item_key"], fields["shape"]["saga"]) == (
+                2,
+                "b",
+                "inner",
+            )
             await store.workers.report(leased.attempt_id, leased.lease)
             assert (await store.wait("k/:part-pay-1:undo", 60)).ok
 
     run(main())
 
 
-def test_what_a_compensation_that_fails_comes_to(place: str) -> None:
-    """It waits for an operator, as any other; and nothing is said to be compensated that has none."""
+def test_a_compensation_of_an_unused_report_fails(location: str) -> None:
+    """It needs an operator, as any other; and a step without a compensation is not listed as
+    compensated.
+    """
     gate = asyncio.Event()
     saga = sagas.Saga("plain")
 
@@ -339,7 +362,7 @@ def test_what_a_compensation_that_fails_comes_to(place: str) -> None:
     saga.step(name="ship", external=True, needs=[hold])
 
     async def main() -> None:
-        async with sagas.open(place, [saga]) as store:
+        async with sagas.open(location, [saga]) as store:
             begun = await store.start(saga, "k")
             await until(lambda: store.active_attempts("k"))
             await store.complete("k", "pay", 1)
@@ -357,8 +380,8 @@ def test_what_a_compensation_that_fails_comes_to(place: str) -> None:
             )
 
             async def asks() -> bool:
-                found = {(one.key, one.step, one.why.value) for one in await store.attention()}
-                return found == {
+                entries = {(one.key, one.step, one.why.value) for one in await store.attention()}
+                return entries == {
                     ("k", "ship", "unused_report"),
                     ("k/:pay:undo", "pay", "exhausted"),
                 }
@@ -371,7 +394,9 @@ def test_what_a_compensation_that_fails_comes_to(place: str) -> None:
 
 
 def test_from_elsewhere(url: str, capsys: pytest.CaptureFixture[str]) -> None:
-    """A client and the command ask for it, and a node that has the definition does it; a node without it leaves that to the others."""
+    """A client and the command request it, and a node that has the definition does it; a node
+    without it leaves that to the others.
+    """
     calls, gate, shell = list[Any](), asyncio.Event(), Shell(url, capsys)
     saga = order(calls, gate)
 
@@ -379,8 +404,8 @@ def test_from_elsewhere(url: str, capsys: pytest.CaptureFixture[str]) -> None:
         async with sagas.open(url, [saga], node="one") as store:
             for key in ("k", "l"):
                 await aborted(store, saga, gate, key)
-        said = await asyncio.to_thread(shell, "compensate", "l", "pay", "--timeout", "0")
-        assert "requested" in said
+        output = await asyncio.to_thread(shell, "compensate", "l", "pay", "--timeout", "0")
+        assert "requested" in output
         async with sagas.open(url, [saga], node="two") as store, sagas.Client(url) as client:
             assert {one.key for one in await client.attention()} >= {"k"}
             await client.compensate("k", "pay", by="cleo")
@@ -397,7 +422,9 @@ def test_from_elsewhere(url: str, capsys: pytest.CaptureFixture[str]) -> None:
 
 
 def test_of_a_node_without_the_definition(url: str) -> None:
-    """Asked of such a node, or while only it has the shard, the nodes that have the definition do it."""
+    """The request goes to such a node, or comes while only it has the shard: the nodes that have
+    the definition execute it.
+    """
     calls, gate, other = list[Any](), asyncio.Event(), sagas.Saga("other")
     saga = order(calls, gate)
     other.step(name="only")(lambda task: None)
@@ -407,29 +434,29 @@ def test_of_a_node_without_the_definition(url: str) -> None:
             for key in ("k", "l"):
                 await aborted(store, saga, gate, key)
         async with sagas.open(url, [other], node="two") as store, sagas.Client(url) as client:
-            asked = [
+            requests_made = [
                 asyncio.ensure_future(of.compensate(key, "pay", by="cleo"))
                 for of, key in ((store, "k"), (client, "l"))
             ]
             await until(lambda: requests(store, 2))
             async with sagas.open(url, [saga], node="three") as third:
-                await asyncio.gather(*asked)
+                await asyncio.gather(*requests_made)
                 for key in ("k", "l"):
                     assert (await third.wait(f"{key}/:pay:undo", 60)).ok
             await until_none(store)
         assert sorted(call[1] for call in calls if call != "release") == ["k", "l"]
 
     async def requests(store: Any, count: int) -> bool:
-        ((found,),) = await store._access.coordinator.store.read(
+        ((pending,),) = await store._access.coordinator.store.read(
             "SELECT count(*) FROM operator_commands WHERE answer IS NULL AND command = 'compensate'"
         )
-        return bool(found == count)
+        return bool(pending == count)
 
     run(main())
 
 
-def test_what_is_no_option() -> None:
-    """Each error says which step, and what to do."""
+def test_invalid_options() -> None:
+    """Each error has the step, and what to do."""
     saga = sagas.Saga("s")
     with pytest.raises(sagas.DefinitionError, match="early_unused='no': must be ask or compensate"):
         saga.step(name="a", external=True, early_unused="no")  # type: ignore[call-overload]

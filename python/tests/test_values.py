@@ -60,7 +60,7 @@ class Flight:
 
 
 class Model:
-    """As a pydantic model: `model_dump` and `model_validate`."""
+    """A model like pydantic's: `model_dump` and `model_validate`."""
 
     def __init__(self, word: str) -> None:
         self.word = word
@@ -69,12 +69,12 @@ class Model:
         return {"word": self.word, "mode": mode}
 
     @classmethod
-    def model_validate(cls, told: dict[str, str]) -> Model:
-        return cls(told["word"])
+    def model_validate(cls, fields: dict[str, str]) -> Model:
+        return cls(fields["word"])
 
 
 class OldModel:
-    """As a model of pydantic 1."""
+    """A model like pydantic 1's."""
 
     __fields__ = {"word": str}
 
@@ -85,19 +85,19 @@ class OldModel:
         return json.dumps({"word": self.word})
 
     @classmethod
-    def parse_obj(cls, told: dict[str, str]) -> OldModel:
-        return cls(told["word"])
+    def parse_obj(cls, fields: dict[str, str]) -> OldModel:
+        return cls(fields["word"])
 
 
 class Pair(NamedTuple):
-    """Crosses as a list."""
+    """A type that is stored as a list."""
 
     seat: Seat
     row: int
 
 
 class Route(enum.Enum):
-    """Values that JSON has otherwise."""
+    """Values that JSON has in another form."""
 
     SHORT = (1, (2, 3))
     LONG = datetime.date(2026, 1, 2)
@@ -117,7 +117,7 @@ class Box(Generic[T]):
 
 @dataclasses.dataclass
 class Boxes(Box[list[T]], Generic[K, T]):
-    """The same variable is another type in the class that it inherits from."""
+    """A class whose variable is another type in the class that it inherits from."""
 
     last: Optional[T] = None
     names: dict[K, Box[T]] = dataclasses.field(default_factory=dict)
@@ -130,7 +130,7 @@ class SeatBox(Box[Seat]):
 
 @dataclasses.dataclass
 class Columns(Generic[typing.Unpack[Ts]]):
-    """Its variable stands for several types."""
+    """A class whose variable stands for several types."""
 
     rows: list[tuple[typing.Unpack[Ts]]]
 
@@ -160,7 +160,7 @@ def test_canonical() -> None:
 
 
 class Broken:
-    """What fails when it is asked for its JSON."""
+    """A value that fails when its JSON is requested."""
 
     def model_dump(self, mode: str) -> Any:
         return {"mode": mode}["none"]
@@ -182,12 +182,12 @@ class Broken:
         [object.__new__(Seat)],
     ],
 )
-def test_what_is_not_json(value: Any) -> None:
+def test_values_that_are_not_json(value: Any) -> None:
     with pytest.raises(sagas.NotSerializable):
         serialization.write(value)
 
 
-def test_what_holds_itself() -> None:
+def test_invalid_concurrency_of_waits() -> None:
     value: list[Any] = []
     value.append(value)
     with pytest.raises(sagas.NotSerializable):
@@ -252,14 +252,16 @@ def test_dataclasses() -> None:
     ],
 )
 def test_types(value: Any, hint: Any) -> None:
-    """The check at a start takes the value, too."""
+    """The check at a start accepts the value, too."""
     assert there_and_back(value, hint) == value
     if check := type_checks.check(hint):
         check(serialization.read(serialization.write(value)))
 
 
 def test_a_decimal_is_the_number_that_is_written() -> None:
-    """Of a number of JSON, too; what is no number is refused, and a union keeps its own floats."""
+    """This holds for a number of JSON, too; other texts are refused, and a union keeps its own
+    floats.
+    """
     decoder = decoders.decoder(decimal.Decimal)
     assert decoder
     assert [decoder(one) for one in ("19.90", 19.99, 7)] == [
@@ -285,13 +287,13 @@ class Voucher:
 
 @pytest.mark.parametrize("hint", [Union[Card, Voucher], Union[Voucher, Card]])
 def test_a_union_of_classes(hint: Any) -> None:
-    """The one that has all fields is meant; of a field that no class has any more, nobody knows."""
+    """The class that has all fields is used; a field that no class has any more is dropped."""
     assert there_and_back(Voucher("7", 10), hint) == Voucher("7", 10)
     assert serialization.read('{"number":"7","gone":1}', decoders.decoder(hint)).number == "7"
 
 
-def test_another_input_of_a_union_is_another_start(place: str) -> None:
-    """Also where another class of the union would read it."""
+def test_another_input_of_a_union_is_another_start(location: str) -> None:
+    """This holds also if another class of the union would read it."""
 
     def pay(task: sagas.Task[Union[Card, Voucher]]) -> int:
         assert isinstance(task.input, Voucher)
@@ -300,7 +302,7 @@ def test_another_input_of_a_union_is_another_start(place: str) -> None:
     kind = simple(pay)
 
     async def main() -> None:
-        async with sagas.open(place, [kind]) as store:
+        async with sagas.open(location, [kind]) as store:
             assert (await (await store.start(kind, "k", Voucher("7", 10))).wait(60)).results == {
                 "a": 10
             }
@@ -311,7 +313,7 @@ def test_another_input_of_a_union_is_another_start(place: str) -> None:
 
 
 def test_a_key_that_is_not_of_its_hint() -> None:
-    """It stays the text that it is: what is kept may be older than the hint."""
+    """It stays the text that it is: the stored value may be older than the hint."""
     decoder = decoders.decoder(dict[int, datetime.date])
     assert decoder and decoder({"7": "2026-01-02", "seven": "2026-01-03"}) == {
         7: datetime.date(2026, 1, 2),
@@ -329,8 +331,8 @@ def test_models() -> None:
     )
 
 
-def test_what_is_told_of_a_wrong_value() -> None:
-    """Keys of a dict that cannot be sorted, and what is no object."""
+def test_the_error_of_an_invalid_value() -> None:
+    """Keys of a dict that cannot be sorted, and a value that is not an object."""
     with pytest.raises(sagas.NotSerializable, match="keys of a dict"):
         serialization.write({1: 2, "a": 3})
     with pytest.raises(TypeError, match="Seat requires an object"):
@@ -338,7 +340,9 @@ def test_what_is_told_of_a_wrong_value() -> None:
 
 
 def test_sets_are_written_in_one_order() -> None:
-    """As lists: numbers and texts as they are compared, all others by their JSON; the text is the same each time."""
+    """They are lists: numbers and texts in their order, all others by their JSON; the text is the
+    same each time.
+    """
     assert (
         serialization.write({10, 9, 1.5}) == "[1.5,9,10]"
         and serialization.write(frozenset({"b", "a"})) == '["a","b"]'
@@ -362,8 +366,8 @@ def test_sets_are_written_in_one_order() -> None:
         (object(), "input: object is not JSON"),
     ],
 )
-def test_where_it_is_no_json(value: Any, text: str) -> None:
-    """The way to it, as it would be written in Python."""
+def test_the_path_of_a_value_that_is_not_json(value: Any, text: str) -> None:
+    """The path to it, as it would be written in Python."""
     with pytest.raises(sagas.NotSerializable, match=f"^{text}"):
         serialization.write(value, "input")
 
@@ -388,8 +392,8 @@ def test_hints_of_functions() -> None:
     assert decoders.hints(plain) == (None, None) == decoders.hints(nowhere)
 
 
-def test_hints_of_what_is_no_plain_function() -> None:
-    """Of a partial function with values before and behind its task, and of an object."""
+def test_hints_of_callable_objects() -> None:
+    """Of a partial function with values before and after its task, and of an object."""
 
     def function(row: list[int], task: sagas.Task[Seat], *, size: Size) -> Colour:
         ...  # type: ignore[empty-body]

@@ -1,4 +1,4 @@
-"""Tables of each version, who may use them, and what `sagas store` says of nodes."""
+"""Tables of each version, who may use them, and the output of `sagas store` about nodes."""
 
 from __future__ import annotations
 
@@ -24,38 +24,38 @@ from sagas.storage.postgresql import connections
 
 
 def test_a_program_that_is_older_than_the_tables(
-    place: str, capsys: pytest.CaptureFixture[str]
+    location: str, capsys: pytest.CaptureFixture[str]
 ) -> None:
     """It refuses by name and changes nothing; so does the command."""
     saga = simple(lambda task: 7)
 
     async def main() -> None:
-        async with sagas.open(place, [saga]) as store:
+        async with sagas.open(location, [saga]) as store:
             assert (await ended(store, saga)).ok
-        if place.startswith("postgresql:"):
-            with psycopg.connect(place.replace("app@", "owner@")) as link:
+        if location.startswith("postgresql:"):
+            with psycopg.connect(location.replace("app@", "owner@")) as link:
                 link.execute("UPDATE sagas.store SET version = 99")
             with pytest.raises(sagas.StoreSchemaTooNew, match="99"):
-                async with sagas.Client(place):
+                async with sagas.Client(location):
                     pass
         else:
-            db = sqlite3.connect(place)
+            db = sqlite3.connect(location)
             db.execute("PRAGMA user_version = 99")
             db.close()
         with pytest.raises(sagas.StoreSchemaTooNew, match="99"):
-            async with sagas.open(place, [saga]):
+            async with sagas.open(location, [saga]):
                 pass
 
     run(main())
     assert (
-        store_command.main([place, "list"]) == 4
+        store_command.main([location, "list"]) == 4
         and "tables of version 99" in capsys.readouterr().err
     )
-    assert store_command.main([place, "migrate"]) == 4
+    assert store_command.main([location, "migrate"]) == 4
 
 
 def test_two_programs_migrate_at_once(url: str) -> None:
-    """An advisory lock: the tables are made once."""
+    """They take an advisory lock: the tables are made once."""
     saga = simple(lambda task: 7)
 
     async def one(number: int) -> None:
@@ -68,8 +68,8 @@ def test_two_programs_migrate_at_once(url: str) -> None:
     run(main())
 
 
-def asked(url: str) -> bool:
-    """Whether an approval is waited for."""
+def is_approval_pending(url: str) -> bool:
+    """Return whether an approval is waited for."""
     with psycopg.connect(url) as link:
         return (
             link.execute("SELECT 1 FROM sagas.suspensions WHERE reason = 'approval'").fetchone()
@@ -78,7 +78,9 @@ def asked(url: str) -> bool:
 
 
 def test_least_rights(postgresql: Server, url: str, capsys: pytest.CaptureFixture[str]) -> None:
-    """`init --role` gives a role what a node, a client and the command need; it can make no tables, and before it has no rights it hears so."""
+    """`init --role` grants a role the rights of a node, a client and the command; it can make no
+    tables, and before the grant it gets an error.
+    """
     saga = simple(lambda task: 7, fleet_concurrency=2, rate_limit=(100, 1))
     inside = sagas.Saga("inside")
 
@@ -105,12 +107,12 @@ def test_least_rights(postgresql: Server, url: str, capsys: pytest.CaptureFixtur
         async with sagas.open(theirs, [saga, inside]) as store, sagas.Client(theirs) as client:
             assert (await ended(store, saga)).ok
             await store.start(inside, "i")
-            await until(lambda: asked(url))
+            await until(lambda: is_approval_pending(url))
             await client.complete("i", "b", "yes")
             assert (await store.wait("i")).results == {"a": 1, "b": "yes"}
             assert (await (await client.start(saga, "c")).wait()).ok
             assert await client.abort("c") is False
-            assert all(said.startswith("yes") for said in (await store.audit()).values())
+            assert all(verdict.startswith("yes") for verdict in (await store.audit()).values())
 
     run(refused())
     with pytest.raises(
@@ -164,27 +166,29 @@ def test_least_rights(postgresql: Server, url: str, capsys: pytest.CaptureFixtur
         ("postgresql://a:geheim/c", "not a number"),
     ],
 )
-def test_what_is_no_store(name: str, why: str, capsys: pytest.CaptureFixture[str]) -> None:
-    """A URL that is none is refused by node, client and command, with what is wrong, and without its password."""
+def test_invalid_urls(name: str, why: str, capsys: pytest.CaptureFixture[str]) -> None:
+    """An invalid URL is refused by node, client and command, with the reason, and without its
+    password.
+    """
 
     async def main() -> None:
         async with sagas.open(name, [simple(lambda task: 1)]):
             pass
 
-    with pytest.raises(sagas.InvalidStore, match=why) as told:
+    with pytest.raises(sagas.InvalidStore, match=why) as error:
         run(main())
     with pytest.raises(sagas.InvalidStore) as client:
         sagas.SyncClient(name)
     assert store_command.main([name, "list"]) == 4 and store_command.main([name, "nodes"]) in (2, 4)
-    for said in (str(told.value), str(client.value), capsys.readouterr().err):
-        assert "postgresql://user@host/database" in said and "geheim" not in said
+    for text in (str(error.value), str(client.value), capsys.readouterr().err):
+        assert "postgresql://user@host/database" in text and "geheim" not in text
 
 
 @pytest.mark.parametrize(
     "password", ["ge?heim", "ge#heim", "ge:heim", "ge[heim]", 'ge"he im', "ge%40heim", "ge%2Fheim"]
 )
 def test_a_password_that_can_be_read_is_in_no_name(password: str) -> None:
-    """Some characters may stand there as they are; an @ behind a question mark is a parameter's."""
+    """Some characters may be in it unescaped; an @ after a question mark is a parameter's."""
     for more in ("", "?application_name=a@b"):
         url = f"postgresql://a:{password}@b:5432,c/d{more}"
         assert connections.named(url) == "postgresql://a@b:5432,c/d" and connections.read(url)[
@@ -195,7 +199,7 @@ def test_a_password_that_can_be_read_is_in_no_name(password: str) -> None:
 def test_a_password_is_in_nothing_that_the_command_prints(
     url: str, capsys: pytest.CaptureFixture[str]
 ) -> None:
-    """Also where it says what to run next, and where it cannot write."""
+    """Also in the suggested next command, and in an error of a write."""
     saga = sagas.Saga("fails")
 
     @saga.step
@@ -216,21 +220,21 @@ def test_a_password_is_in_nothing_that_the_command_prints(
 
     run(main())
     theirs = url.replace("owner@", "owner:geheim@")
-    for words in ("stats", "stuck", "list"):
-        assert store_command.main([theirs, words]) == 0
+    for name in ("stats", "stuck", "list"):
+        assert store_command.main([theirs, name]) == 0
     with psycopg.connect(url, autocommit=True) as link:
         link.execute("ALTER TABLE sagas.operator_commands RENAME TO others")
     assert store_command.main([theirs, "abort", "none"]) in (1, 4)
     with psycopg.connect(url, autocommit=True) as link:
         link.execute("UPDATE sagas.sagas SET phase = NULL")
     assert store_command.main([theirs, "abort", "k"]) == 4
-    said = capsys.readouterr()
-    assert "list --phase" in said.out and "cannot write postgresql://owner@" in said.err
-    assert "geheim" not in said.out + said.err
+    printed = capsys.readouterr()
+    assert "list --phase" in printed.out and "cannot write postgresql://owner@" in printed.err
+    assert "geheim" not in printed.out + printed.err
 
 
-def test_a_server_that_is_not_there(monkeypatch: pytest.MonkeyPatch) -> None:
-    """The client says why it cannot connect, as the node does, once it has tried for a while."""
+def test_an_unreachable_server(monkeypatch: pytest.MonkeyPatch) -> None:
+    """The client reports why it cannot connect, as the node does, once it has tried for a while."""
     monkeypatch.setattr(connections, "CONNECT", 0.1)
     with socket.socket() as one:
         one.bind(("127.0.0.1", 0))
@@ -240,11 +244,11 @@ def test_a_server_that_is_not_there(monkeypatch: pytest.MonkeyPatch) -> None:
 
 
 @contextlib.contextmanager
-def lets_in(server: Server, words: str) -> Iterator[None]:
-    """The server asks these words of `pg_hba.conf` before its own."""
+def lets_in(server: Server, entries: str) -> Iterator[None]:
+    """Put these entries of `pg_hba.conf` before the server's own."""
     file = server.folder / "data" / "pg_hba.conf"
     before = file.read_text()
-    file.write_text(f"{words}\n{before}")
+    file.write_text(f"{entries}\n{before}")
     reload(server)
     try:
         yield
@@ -254,7 +258,7 @@ def lets_in(server: Server, words: str) -> Iterator[None]:
 
 
 def reload(server: Server) -> None:
-    """Has the server read its files again, and waits until it has."""
+    """Let the server read its files again, and wait until it has."""
     loaded = ""
     for turn in range(200):
         with psycopg.connect(server.url("postgres"), autocommit=True) as link:
@@ -269,11 +273,11 @@ def reload(server: Server) -> None:
 
 
 def test_a_client_that_is_never_let_in(postgresql: Server, url: str) -> None:
-    """What the server says for good is told at once."""
+    """A permanent error of the server is reported at once."""
     with psycopg.connect(url, autocommit=True) as link:
         link.execute("CREATE ROLE keyed LOGIN PASSWORD 'right'")
         link.execute("CREATE ROLE idle")
-    asked = [
+    is_approval_pending = [
         (url.replace("owner", "keyed:wrong"), "password authentication failed"),
         (url.replace("owner", "keyed"), "no password supplied"),
         (f"{url}_none", 'database ".*" does not exist'),
@@ -281,11 +285,13 @@ def test_a_client_that_is_never_let_in(postgresql: Server, url: str) -> None:
         (url.replace("owner", "idle"), "not permitted to log in"),
     ]
     with lets_in(postgresql, "host all keyed 127.0.0.1/32 scram-sha-256"):
-        for name, text in asked:
+        for name, text in is_approval_pending:
             begun = time.monotonic()
-            with pytest.raises(sagas.StoreUnavailable, match=text) as told, sagas.SyncClient(name):
+            with pytest.raises(sagas.StoreUnavailable, match=text) as error, sagas.SyncClient(name):
                 pass
-            assert time.monotonic() - begun < connections.CONNECT and "wrong" not in str(told.value)
+            assert time.monotonic() - begun < connections.CONNECT and "wrong" not in str(
+                error.value
+            )
         with pytest.raises(sagas.InvalidStore, match="no tables yet"), sagas.SyncClient(
             url.replace("owner", "keyed:right")
         ):
@@ -293,7 +299,7 @@ def test_a_client_that_is_never_let_in(postgresql: Server, url: str) -> None:
 
 
 def test_a_client_tries_until_the_server_is_there(postgresql: Server, url: str) -> None:
-    """While it does not answer, or is starting, nothing is final."""
+    """While it does not answer, or is starting, no error is final."""
     assert store_command.main([url, "init"]) == 0
     postgresql.stop("fast")
     starting = threading.Timer(0.5, postgresql.start)
@@ -307,29 +313,34 @@ def test_a_client_tries_until_the_server_is_there(postgresql: Server, url: str) 
 
 @pytest.mark.parametrize("setting", ["off", "local"])
 def test_commits_wait_for_the_disk(url: str, setting: str) -> None:
-    """Whatever the database says of commits, those of the store are on the disk before anybody is told."""
+    """Whatever the database's setting, the commits of the store are on the disk before any
+    acknowledgement.
+    """
     with psycopg.connect(url, autocommit=True) as link:
-        link.execute(f"ALTER DATABASE {url.rpartition('/')[2]} SET synchronous_commit = {setting}")  # type: ignore[arg-type]
+        name = url.rpartition("/")[2]
+        link.execute(f"ALTER DATABASE {name} SET synchronous_commit = {setting}".encode())
 
-    async def said() -> list[str]:
+    async def settings_of_commits() -> list[str]:
         async with connections.pool(url, 1) as some, some.connection() as pooled:
             own = await connections.connect(url)
-            told = [
+            shown = [
                 await (await link.execute("SHOW synchronous_commit")).fetchone()
                 for link in (pooled, own)
             ]
             await own.close()
         with connections.connect_now(url) as now:
-            told.append(now.execute("SHOW synchronous_commit").fetchone())
-        return [str(row[0]) for row in told if row]
+            shown.append(now.execute("SHOW synchronous_commit").fetchone())
+        return [str(row[0]) for row in shown if row]
 
-    assert run(said()) == ["on"] * 3
+    assert run(settings_of_commits()) == ["on"] * 3
 
 
 def test_nodes_are_shown(
     url: str, tmp_path: pathlib.Path, capsys: pytest.CaptureFixture[str]
 ) -> None:
-    """Each with its lease, logs and open sagas; and the logs that none drives, by the names of their sagas."""
+    """Each with its lease, logs and open sagas; and the logs that none drives, by the names of
+    their sagas.
+    """
     gate = asyncio.Event()
 
     async def wait(task: Task) -> None:
@@ -342,27 +353,30 @@ def test_nodes_are_shown(
         async with sagas.open(url, [old], node="first", shutdown_timeout=0.0) as store:
             await store.start(old, "k")
             assert await asyncio.to_thread(store_command.main, [url, "nodes", "--json"]) == 0
-            told = json.loads(capsys.readouterr().out)
-            (shown,) = told["nodes"]
+            listed = json.loads(capsys.readouterr().out)
+            (shown,) = listed["nodes"]
             assert (shown["name"], shown["shards"], shown["open"], shown["definitions"]) == (
                 "first",
                 1,
                 1,
                 store._registry.digest,
             )
-            assert 0 < shown["lease"] <= 10 and told["shards_without_node"] == []
+            assert 0 < shown["lease"] <= 10 and listed["shards_without_node"] == []
         async with sagas.open(url, [new], node="second"):
             assert await asyncio.to_thread(store_command.main, [url, "nodes"]) == 0
-            said = capsys.readouterr().out
-            assert "second" in said and "No node executes:" in said and "simple (version 1)" in said
+            output = capsys.readouterr().out
+            assert (
+                "second" in output
+                and "No node executes:" in output
+                and "simple (version 1)" in output
+            )
         async with sagas.open(url, [old], node="first") as store:
             gate.set()
             assert (await store.wait("k")).ok
         async with sagas.open(url, [new], node="second"):
             assert await asyncio.to_thread(store_command.main, [url, "nodes"]) == 0
-            assert (
-                "No node executes:" not in capsys.readouterr().out
-            )  # that log has no open saga any more
+            # that log has no open saga any more
+            assert "No node executes:" not in capsys.readouterr().out
 
     run(main())
     assert store_command.main([str(tmp_path / "x.db"), "nodes"]) == 2

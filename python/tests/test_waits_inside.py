@@ -1,5 +1,4 @@
-"""Functions of steps that wait for sagas: what can end is waited for, and what cannot is refused by
-name."""
+"""Functions of steps that wait for sagas: a wait that cannot end is refused by name."""
 
 from __future__ import annotations
 
@@ -17,33 +16,33 @@ import sagas.testing
 FOR_EVER = sagas.WouldWaitForever
 
 
-def chain(first: Callable[[Task], Any], **words: Any) -> sagas.Saga:
-    """One step of that function, by the name `parent`."""
+def chain(first: Callable[[Task], Any], **options: Any) -> sagas.Saga:
+    """Return a saga of one step with that function, by the name `parent`."""
     saga = sagas.Saga("parent")
-    saga.step(name="p", backoff=QUICK, **words)(first)
+    saga.step(name="p", backoff=QUICK, **options)(first)
     return saga
 
 
-async def heard(place: str, act: Callable[[Any, Task], Any], key: str, **words: Any) -> str:
-    """What a step's function is told that does this with its store."""
-    told: list[str] = []
+async def heard(location: str, act: Callable[[Any, Task], Any], key: str, **options: Any) -> str:
+    """Return the error that a step's function gets if it does this with its store."""
+    errors: list[str] = []
     stores: list[Any] = []
 
     async def p(task: Task) -> None:
         try:
             await act(stores[0], task)
         except FOR_EVER as error:
-            told.append(str(error))
+            errors.append(str(error))
 
-    saga = chain(p, **words)
-    async with sagas.open(place, [saga]) as store:
+    saga = chain(p, **options)
+    async with sagas.open(location, [saga]) as store:
         stores.append(store)
         assert (await (await store.start(saga, key)).wait(timeout=60)).ok
-    return told[0]
+    return errors[0]
 
 
-@pytest.mark.parametrize("words", [{}, {"timeout": 50}, {"concurrency": 2}])
-def test_its_own_saga(place: str, words: dict[str, Any]) -> None:
+@pytest.mark.parametrize("options", [{}, {"timeout": 50}, {"concurrency": 2}])
+def test_its_own_saga(location: str, options: dict[str, Any]) -> None:
     """However the function is called."""
 
     async def main() -> None:
@@ -59,21 +58,24 @@ def test_its_own_saga(place: str, words: dict[str, Any]) -> None:
         async def settled(store: sagas.Store, task: Task) -> None:
             await store.wait_idle()
 
-        told = [await heard(place, act, f"k{n}", **words) for n, act in enumerate((wait, later))]
-        assert told == [
+        errors = [
+            await heard(location, act, f"k{n}", **options) for n, act in enumerate((wait, later))
+        ]
+        assert errors == [
             f"step 'p' of saga 'k{n}' waits for its own saga, which ends only after it. "
             "Wait for it outside of the saga's steps"
             for n in range(2)
         ]
-        said = await heard(place, settled, "k2", **words)
-        assert "waits until no saga is open, but its own is" in said
+        error = await heard(location, settled, "k2", **options)
+        assert "waits until no saga is open, but its own is" in error
 
     run(main())
 
 
-def test_what_can_end_is_waited_for(place: str) -> None:
-    """A wait for its own saga in a task of its own, or for so long; and for another saga of the
-    same key in another store."""
+def test_waits_that_can_end(location: str) -> None:
+    """A wait for its own saga in a separate task, or with a time limit; and for another saga of the
+    same key in another store.
+    """
     ends: list[sagas.SagaResult] = []
     stores: list[sagas.Store] = []
     jobs: list[asyncio.Task[Any]] = []
@@ -90,7 +92,7 @@ def test_what_can_end_is_waited_for(place: str) -> None:
     saga = chain(p)
 
     async def main() -> None:
-        async with sagas.open(place, [saga]) as store:
+        async with sagas.open(location, [saga]) as store:
             stores.append(store)
             assert (await (await store.start(saga, "k")).wait(timeout=60)).ok
             await jobs[0]
@@ -99,34 +101,34 @@ def test_what_can_end_is_waited_for(place: str) -> None:
     run(main())
 
 
-def test_a_plain_function_and_its_own_saga(place: str) -> None:
-    """In its thread; one that it begins beside itself is let wait."""
-    told: list[str] = []
+def test_a_plain_function_and_its_own_saga(location: str) -> None:
+    """In its thread; a wait in another thread that it starts is allowed."""
+    errors: list[str] = []
     ends: list[sagas.SagaResult] = []
     stores: list[sagas.SyncStore] = []
     threads: list[threading.Thread] = []
 
     def p(task: Task) -> None:
-        beside = threading.Thread(target=lambda: ends.append(stores[0].wait(task.key)))
-        beside.start()
-        threads.append(beside)
+        parallel = threading.Thread(target=lambda: ends.append(stores[0].wait(task.key)))
+        parallel.start()
+        threads.append(parallel)
         with pytest.raises(FOR_EVER) as error:
             stores[0].wait(task.key)
-        told.append(str(error.value))
+        errors.append(str(error.value))
         with pytest.raises(TimeoutError):
             stores[0].wait(task.key, timeout=0.01)
 
     saga = chain(p)
-    with sagas.open_sync(place, [saga], shutdown_timeout=1) as store:
+    with sagas.open_sync(location, [saga], shutdown_timeout=1) as store:
         stores.append(store)
         assert store.start(saga, "k").wait(timeout=60).ok
         threads[0].join(60)
-    assert "waits for its own saga" in told[0] and ends[0].ok
+    assert "waits for its own saga" in errors[0] and ends[0].ok
 
 
-def test_sagas_that_wait_for_each_other(place: str) -> None:
-    """The one that closes the circle is told; the others go on."""
-    told: list[str] = []
+def test_sagas_that_wait_for_each_other(location: str) -> None:
+    """The one that closes the cycle gets the error; the others continue."""
+    errors: list[str] = []
     stores: list[sagas.Store] = []
 
     async def p(task: Task) -> None:
@@ -134,25 +136,26 @@ def test_sagas_that_wait_for_each_other(place: str) -> None:
         try:
             await stores[0].wait(other)
         except FOR_EVER as error:
-            told.append(str(error))
+            errors.append(str(error))
 
     saga = chain(p)
 
     async def main() -> None:
-        async with sagas.open(place, [saga]) as store:
+        async with sagas.open(location, [saga]) as store:
             stores.append(store)
             runs = [await store.start(saga, key) for key in "abc"]
             assert all([(await one.wait(timeout=60)).ok for one in runs])
 
     run(main())
-    assert len(told) == 1 and told[0].count("which waits for saga") == 2
+    assert len(errors) == 1 and errors[0].count("which waits for saga") == 2
 
 
 @pytest.mark.parametrize("plain", [False, True])
-def test_parents_that_take_all_places(place: str, plain: bool) -> None:
-    """Each waits for a child that has no place: one is told, and is called again once there are
-    places, so that all end."""
-    told: list[str] = []
+def test_parents_that_take_all_slots(location: str, plain: bool) -> None:
+    """Each waits for a child that has no slot: one gets the error, and is called again once there
+    are slots, so that all end.
+    """
+    errors: list[str] = []
     stores: list[Any] = []
     child = sagas.Saga("child")
 
@@ -167,21 +170,21 @@ def test_parents_that_take_all_places(place: str, plain: bool) -> None:
         try:
             await (await begin(task)).wait()
         except sagas.SlotsTaken as error:
-            told.append(str(error))
+            errors.append(str(error))
             raise
 
     def q(task: Task) -> None:
         try:
             begin(task).wait()
         except sagas.SlotsTaken as error:
-            told.append(str(error))
+            errors.append(str(error))
             raise
 
     parent = chain(q if plain else p)
 
     async def main() -> None:
         async with sagas.open(
-            place, [parent, child], concurrency=2, idle=0.1, shutdown_timeout=1
+            location, [parent, child], concurrency=2, idle=0.1, shutdown_timeout=1
         ) as store:
             stores.append(store)
             runs = [await store.start(parent, f"p{number}") for number in range(4)]
@@ -189,19 +192,20 @@ def test_parents_that_take_all_places(place: str, plain: bool) -> None:
 
     def plainly() -> None:
         with sagas.open_sync(
-            place, [parent, child], concurrency=2, idle=0.1, shutdown_timeout=1
+            location, [parent, child], concurrency=2, idle=0.1, shutdown_timeout=1
         ) as store:
             stores.append(store)
             runs = [store.start(parent, f"p{number}") for number in range(4)]
             assert all(one.wait(timeout=60).ok for one in runs)
 
     plainly() if plain else run(main())
-    assert told and "all 2 slots of the store's concurrency are taken" in told[0]
+    assert errors and "all 2 slots of the store's concurrency are taken" in errors[0]
 
 
-def test_parents_of_children_that_need_no_place(place: str) -> None:
-    """A child that waits for a worker, an approval or a time may end without a place: nobody is
-    told anything."""
+def test_parents_of_children_that_need_no_slot(location: str) -> None:
+    """A child that waits for a worker, an approval or a time may end without a slot: no function
+    gets an error.
+    """
     stores: list[sagas.Store] = []
     faults: list[BaseException] = []
     child = sagas.Saga("child")
@@ -218,7 +222,7 @@ def test_parents_of_children_that_need_no_place(place: str) -> None:
 
     async def main() -> None:
         async with sagas.open(
-            place, [parent, child], concurrency=2, idle=0.1, shutdown_timeout=1
+            location, [parent, child], concurrency=2, idle=0.1, shutdown_timeout=1
         ) as store:
             stores.append(store)
             await store.start(child, "p0-child")
@@ -232,8 +236,7 @@ def test_parents_of_children_that_need_no_place(place: str) -> None:
     run(main())
 
 
-# -- approvals that say so themselves
-# ----------------------------------------------------------------
+# -- approvals that decide themselves
 
 
 def asking(function: Callable[[Task], Any]) -> sagas.Saga:
@@ -243,7 +246,7 @@ def asking(function: Callable[[Task], Any]) -> sagas.Saga:
 
 
 def small(task: Task) -> Any:
-    """By its input."""
+    """Approve small inputs."""
     if task.input == "small":
         return sagas.Approved({"by": "rule"})
     return sagas.Rejected("too dear") if task.input == "dear" else None
@@ -255,27 +258,29 @@ async def small_async(task: Task) -> Any:
 
 
 def small_later(task: Task) -> Any:
-    """A plain function whose result is to be awaited: a decorator that is not async, say."""
+    """A plain function whose result is to be awaited: a decorator that is not async, for
+    example.
+    """
     return small_async(task)
 
 
 @pytest.mark.parametrize("function", [small, small_async, small_later])
-def test_an_approval_that_says_so_itself(place: str, function: Callable[[Task], Any]) -> None:
-    """It is over at once, done or failed for good; else somebody is asked, as before."""
+def test_an_approval_that_decides_itself(location: str, function: Callable[[Task], Any]) -> None:
+    """It is over at once, done or failed permanently; else an operator is asked, as before."""
     saga = asking(function)
 
     async def main() -> None:
-        async with sagas.open(place, [saga]) as store:
+        async with sagas.open(location, [saga]) as store:
             given = await (await store.start(saga, "small", "small")).wait(timeout=60)
             assert given.ok and given.results == {"ok": {"by": "rule"}}
             refused = await (await store.start(saga, "dear", "dear")).wait(timeout=60)
             assert refused.states == {"ok": "failed"} and refused.errors == {"ok": "too dear"}
-            asked = await store.start(saga, "asked")
+            started = await store.start(saga, "asked")
             await until(
                 lambda: [one for one in store.active_attempts("asked") if one.waits == "approval"]
             )
-            await asked.complete("ok", "yes")
-            assert (await asked.wait(timeout=60)).results == {"ok": "yes"}
+            await started.complete("ok", "yes")
+            assert (await started.wait(timeout=60)).results == {"ok": "yes"}
 
     run(main())
     assert sagas.testing.run(saga, "small").results == {"ok": {"by": "rule"}}
@@ -283,24 +288,24 @@ def test_an_approval_that_says_so_itself(place: str, function: Callable[[Task], 
     assert sagas.testing.run(saga, answers={"ok": 1}).results == {"ok": 1}
 
 
-def test_an_approval_that_finishes_itself(place: str) -> None:
-    """It would wait until it is asked: it is told what to return. In a thread, too."""
-    told: list[str] = []
+def test_an_approval_that_finishes_itself(location: str) -> None:
+    """It would wait until it is asked: the error says what to return. In a thread, too."""
+    errors: list[str] = []
     stores: list[Any] = []
 
     async def ask(task: Task) -> None:
         with pytest.raises(FOR_EVER) as error:
             await stores[0].complete(task.key, task.step)
-        told.append(str(error.value))
+        errors.append(str(error.value))
 
     def ask_plainly(task: Task) -> None:
         with pytest.raises(FOR_EVER) as error:
             stores[-1].complete(task.key, task.step)
-        told.append(str(error.value))
+        errors.append(str(error.value))
 
     async def main() -> None:
         saga = asking(ask)
-        async with sagas.open(place, [saga]) as store:
+        async with sagas.open(location, [saga]) as store:
             stores.append(store)
             run = await store.start(saga, "k")
             await run.complete("ok")
@@ -308,22 +313,22 @@ def test_an_approval_that_finishes_itself(place: str) -> None:
 
     run(main())
     saga = asking(ask_plainly)
-    with sagas.open_sync(place, [saga], shutdown_timeout=1) as store:
+    with sagas.open_sync(location, [saga], shutdown_timeout=1) as store:
         stores.append(store)
         one = store.start(saga, "plain")
         one.complete("ok")
         assert one.wait(timeout=60).ok
-    assert len(told) == 2 and all(
-        "Return sagas.Approved(result) or sagas.Rejected(why)" in text for text in told
+    assert len(errors) == 2 and all(
+        "Return sagas.Approved(result) or sagas.Rejected(why)" in text for text in errors
     )
 
 
-def test_an_answer_of_what_is_no_approval(place: str) -> None:
-    """It is a result that is no JSON: the step is done, and the result is not kept."""
+def test_an_answer_of_a_step_that_is_not_an_approval(location: str) -> None:
+    """It is a result that is not JSON: the step is done, and the result is not kept."""
     saga = simple(lambda task: sagas.Approved(1))
 
     async def main() -> None:
-        async with sagas.open(place, [saga]) as store:
+        async with sagas.open(location, [saga]) as store:
             end = await (await store.start(saga, "k")).wait(timeout=60)
             assert end.ok and "Approved is not JSON" in end.results["a"]["unstorable"]
 

@@ -1,4 +1,7 @@
-"""Attempts that workers do, of sagas that are being undone: what is taken back from workers, by whom, and what is not, because a worker may have done it."""
+"""Attempts of workers, of sagas that are being undone: which node withdraws which of them.
+
+An attempt that a worker may have done is not withdrawn.
+"""
 
 from __future__ import annotations
 
@@ -30,7 +33,7 @@ ROWS = (
 
 
 def trip(**pay: Any) -> sagas.Saga:
-    """Two steps that workers do, side by side."""
+    """Return a saga of two parallel steps that workers do."""
     saga = sagas.Saga("trip")
     saga.step(name="pay", external=True, undo=sagas.NEVER, **pay)
     saga.step(name="hold", external=True, undo=sagas.NEVER)
@@ -38,23 +41,23 @@ def trip(**pay: Any) -> sagas.Saga:
 
 
 def opened(
-    place: str,
+    location: str,
     saga: sagas.Saga,
     node: str | None = None,
     events: list[Event] | None = None,
     **more: Any,
 ) -> sagas.Store:
-    """A store that serves workers."""
+    """Open a store that serves workers."""
     names = {"node": node} if node else {}
     store = sagas.open(
-        place, [saga], on_event=None if events is None else events.append, **names, **more
+        location, [saga], on_event=None if events is None else events.append, **names, **more
     )
     store.leased = True
     return store
 
 
-def asked(url: str, text: str) -> list[tuple[Any, ...]]:
-    """The rows that a statement gives."""
+def rows_of(url: str, text: str) -> list[tuple[Any, ...]]:
+    """Return the rows of a statement."""
     with psycopg.connect(url, autocommit=True) as link:
         cursor = link.execute(text)  # type: ignore[arg-type]
         return cursor.fetchall() if cursor.description else []
@@ -64,7 +67,9 @@ def asked(url: str, text: str) -> list[tuple[Any, ...]]:
 async def two(
     postgresql: Server, url: str, saga: sagas.Saga, relay: Relay, lease: float
 ) -> AsyncIterator[tuple[sagas.Store, sagas.Store, list[Event]]]:
-    """A node that reaches its server through a relay, another one, and what happens at the first."""
+    """Return a node that reaches its server through a relay, another one, and the events of the
+    first.
+    """
     events: list[Event] = []
     far = postgresql.url(url.rpartition("/")[2], port=relay.port)
     async with opened(url, saga, "other", lease=lease) as other, opened(
@@ -74,25 +79,27 @@ async def two(
 
 
 def has_offered(store: sagas.Store) -> bool:
-    """Whether a node has taken the saga over, and its offers are in the store."""
+    """Return whether a node has taken the saga over, and its offers are in the store."""
     inside = store._coordinator
     return any(saga.busy for saga in inside.sagas.by_key.values()) and not inside.external._offering
 
 
 def test_a_node_that_lost_its_shard_takes_nothing_back(postgresql: Server, url: str) -> None:
-    """An abort is kept, and its answer comes past the node's lease, as another node has offered the task again: a worker still gets it."""
+    """An abort is stored, and its reply comes after the node's lease, as another node has offered
+    the task again: a worker still gets it.
+    """
     saga = trip()
 
     async def main(relay: Relay) -> None:
         async with two(postgresql, url, saga, relay, lease=2.0) as (slow, other, events):
             running = await slow.start(saga, "k")
-            await until(lambda: asked(url, ROWS))
+            await until(lambda: rows_of(url, ROWS))
             relay.unanswered = b'"event":"abort"'
             aborting = asyncio.create_task(running.abort())
             await until(relay.owes.is_set)
             await until(
                 lambda: b"abort"
-                in asked(url, "SELECT string_agg(text, '') FROM sagas.event_log")[0][0].encode()
+                in rows_of(url, "SELECT string_agg(text, '') FROM sagas.event_log")[0][0].encode()
             )
             relay.hold()
             await until(lambda: has_offered(other))
@@ -100,9 +107,9 @@ def test_a_node_that_lost_its_shard_takes_nothing_back(postgresql: Server, url: 
             relay.go_on()
             await until(lambda: [event for event in events if event.name == "shard_lost"])
             await asyncio.gather(aborting, return_exceptions=True)
-            await asyncio.sleep(1)  # time for what the node does of the abort
-            for words in (PAY, HOLD):
-                (task,) = await other.workers.claim(words, wait=60, lease=600)
+            await asyncio.sleep(1)  # time for the node's reaction to the abort
+            for tasks in (PAY, HOLD):
+                (task,) = await other.workers.claim(tasks, wait=60, lease=600)
                 assert await other.workers.report(task.attempt_id, task.lease, 5)
             end = await other.wait("k", 60)
             assert end.aborted and end.states["pay"] == "committed"
@@ -111,10 +118,12 @@ def test_a_node_that_lost_its_shard_takes_nothing_back(postgresql: Server, url: 
         run(main(relay))
 
 
-def test_an_answer_to_a_withdrawal_counts_under_its_epoch_alone(
+def test_the_reply_to_a_withdrawal_counts_only_under_its_epoch(
     postgresql: Server, url: str
 ) -> None:
-    """It comes late, when the shard was loaded again, because its engine died, and the attempt was offered again. A worker that got it is not denied."""
+    """It comes late, when the shard was loaded again, because its engine died, and the attempt was
+    offered again. A worker that claimed it keeps it.
+    """
     saga = sagas.Saga("trip")
     saga.step(name="pay", external=True, undo=sagas.NEVER)
 
@@ -122,28 +131,27 @@ def test_an_answer_to_a_withdrawal_counts_under_its_epoch_alone(
         async with two(postgresql, url, saga, relay, lease=30.0) as (slow, other, events):
             for key in ("warm", "k"):  # the first one prepares the statements
                 running = await slow.start(saga, key)
-                (row,) = await until(lambda: [row for row in asked(url, ROWS) if row[1] is None])
+                (row,) = await until(lambda: [row for row in rows_of(url, ROWS) if row[1] is None])
                 if key == "warm":
                     assert await running.abort() and (await running.wait(60)).aborted
             relay.unanswered = row[0].encode()
             assert await running.abort()
             await until(relay.owes.is_set)
-            await until(lambda: (row[0], "withdrawn", None) in asked(url, ROWS))
+            await until(lambda: (row[0], "withdrawn", None) in rows_of(url, ROWS))
             relay.still = b"SET outcome = 'withdrawn'"  # a second one would come before the worker
             claiming = asyncio.create_task(other.workers.claim(PAY, wait=60, lease=600))
             for runner in slow._coordinator.shards.runners.values():
                 if runner.engine:
                     runner.engine.process.kill()
             await until(lambda: [event for event in events if event.name == "engine_died"])
-            await asyncio.wait(
-                [claiming], timeout=2
-            )  # time for a node that goes on without the answer
+            # time for a node that continues without the reply
+            await asyncio.wait([claiming], timeout=2)
             relay.answer()
             relay.go_on()
             ending = asyncio.create_task(slow.wait("k", 60))
             await asyncio.wait([claiming, ending], return_when=asyncio.FIRST_COMPLETED)
             if claiming.done():
-                await asyncio.wait([ending], timeout=1)  # time for what the node does of the answer
+                await asyncio.wait([ending], timeout=1)  # time for the node's reaction to the reply
                 (task,) = claiming.result()
                 assert await other.workers.report(task.attempt_id, task.lease, 5)
             claiming.cancel()
@@ -157,8 +165,11 @@ def test_an_answer_to_a_withdrawal_counts_under_its_epoch_alone(
 
 @pytest.mark.parametrize("cause", ["abort", "sibling"])
 @pytest.mark.parametrize("waits", ["backoff", "person"])
-def test_what_is_unknown_is_not_given_up(url: str, cause: str, waits: str) -> None:
-    """Its worker got it from a node that does not drive the saga; it may be done, so that it is done again, or a person says what it did."""
+def test_an_unknown_attempt_is_not_given_up(url: str, cause: str, waits: str) -> None:
+    """Its worker got it from a node that does not drive the saga.
+
+    It may be done, so that it is called again, or an operator reports its outcome.
+    """
     saga = trip(tries=2, backoff=HOUR, max_unknown=9 if waits == "backoff" else 0)
 
     async def main() -> None:
@@ -193,7 +204,7 @@ async def _is_unknown(store: sagas.Store) -> bool:
 
 
 @pytest.mark.parametrize(
-    ("words", "last"),
+    ("kinds_of_change", "last"),
     [
         (("offers", "suspended"), "suspended"),
         (("suspended", "suspended"), "suspended"),
@@ -203,8 +214,10 @@ async def _is_unknown(store: sagas.Store) -> bool:
         (("settled", "offers"), "settled"),
     ],
 )
-def test_a_row_has_one_last_word_in_a_commit(words: tuple[str, ...], last: str) -> None:
-    """The server changes a row once, in an order of the parts that it does not promise; and a saga that is to be undone changes no row of which another part has said something."""
+def test_a_commit_changes_a_row_once(kinds_of_change: tuple[str, ...], last: str) -> None:
+    """The server changes a row once per statement, in an order of the parts that is not defined;
+    and a saga that is to be undone changes no row that another part has changed.
+    """
     attempt, shard, saga = "ab-3-pay-run-1", 5, 5 * SHARD_CAPACITY + 3
     rows: dict[str, Any] = {
         "offers": (attempt, shard, saga, 0, "run", 1, "trip/pay/run", None, None, 1.0, None),
@@ -212,8 +225,8 @@ def test_a_row_has_one_last_word_in_a_commit(words: tuple[str, ...], last: str) 
         "withdrawn": Withdrawal(attempt, shard),
         "settled": (attempt, shard, None),
     }
-    batches = [Batch(shard, 1.0, epoch=1) for _ in words]
-    for batch, word in zip(batches, words):
+    batches = [Batch(shard, 1.0, epoch=1) for _ in kinds_of_change]
+    for batch, word in zip(batches, kinds_of_change):
         getattr(batch.more, word).append(rows[word])
     batches[0].more.cancelled.append(("aborted", saga))
     parts = Commit(batches, lambda log: 0, {}).parts
@@ -225,7 +238,9 @@ def test_a_row_has_one_last_word_in_a_commit(words: tuple[str, ...], last: str) 
 def test_the_order_of_a_commit_s_parts_is_nothing(
     url: str, reverse: bool, monkeypatch: pytest.MonkeyPatch
 ) -> None:
-    """A person says that a step failed: its row is settled, and the others are told of the end, whichever part the server does first."""
+    """An operator reports that a step failed: its row is finished, and the others are notified of
+    the end, whichever part the server does first.
+    """
     saga = trip()
     monkeypatch.setattr(
         commit_statement, "sorted", lambda parts: sorted(parts, reverse=reverse), raising=False
@@ -236,10 +251,10 @@ def test_the_order_of_a_commit_s_parts_is_nothing(
         async with opened(url, saga, "one") as store:
             running = await store.start(saga, "k")
             (task,) = await store.workers.claim(HOLD, wait=60, lease=600)
-            await until(lambda: asked(url, ROWS))
+            await until(lambda: rows_of(url, ROWS))
             await store.fail("k", "pay", "the bank is closed")
             text = "SELECT outcome, cancelled FROM sagas.external_attempts ORDER BY step"
-            assert asked(url, text) == [("settled", None), (None, "failed")]
+            assert rows_of(url, text) == [("settled", None), (None, "failed")]
             assert (
                 await store.workers.heartbeat(task.attempt_id, task.lease)
             ).cancelled == "failed"
@@ -250,36 +265,36 @@ def test_the_order_of_a_commit_s_parts_is_nothing(
 
 
 @pytest.mark.parametrize("change", ["DELETE FROM {}", "UPDATE {} SET outcome = 'withdrawn'"])
-def test_what_no_worker_could_get_is_offered_again(
-    place: str, change: str, caplog: pytest.LogCaptureFixture, monkeypatch: pytest.MonkeyPatch
+def test_a_damaged_offer_is_repeated(
+    location: str, change: str, caplog: pytest.LogCaptureFixture, monkeypatch: pytest.MonkeyPatch
 ) -> None:
-    """Its row was damaged: that is found, and told as a warning."""
+    """Its row was damaged: that is found, and logged as a warning."""
     saga, events = trip(), list[Event]()
     monkeypatch.setattr(offer_check, "PAUSE", 0.2)
 
     async def main() -> None:
-        async with opened(place, saga, events=events) as store:
+        async with opened(location, saga, events=events) as store:
             running = await store.start(saga, "k")
             await until(lambda: _ready(store))
-            changed(place, change)
-            for words in (PAY, HOLD):
-                (task,) = await store.workers.claim(words, wait=60, lease=600)
+            changed(location, change)
+            for tasks in (PAY, HOLD):
+                (task,) = await store.workers.claim(tasks, wait=60, lease=600)
                 assert await store.workers.report(task.attempt_id, task.lease, 5)
             assert (await running.wait(60)).ok
 
     with caplog.at_level(logging.WARNING, logger="sagas"):
         run(main())
-    told = [event for event in events if event.name == "step_offered_again"]
-    assert {event.step for event in told} == {"pay", "hold"}
+    offered = [event for event in events if event.name == "step_offered_again"]
+    assert {event.step for event in offered} == {"pay", "hold"}
     assert "step_offered_again key=k saga=trip step=pay attempt=1" in caplog.text
 
 
-def changed(place: str, change: str) -> None:
-    """Changes the table by hand."""
-    if "://" in place:
-        asked(place, change.format("sagas.external_attempts"))
+def changed(location: str, change: str) -> None:
+    """Change the table by hand."""
+    if "://" in location:
+        rows_of(location, change.format("sagas.external_attempts"))
         return
-    with contextlib.closing(sqlite3.connect(place, isolation_level=None, timeout=60)) as link:
+    with contextlib.closing(sqlite3.connect(location, isolation_level=None, timeout=60)) as link:
         link.execute(change.format("external_attempts"))
 
 
@@ -288,7 +303,10 @@ async def _ready(store: sagas.Store) -> bool:
 
 
 def test_nothing_of_a_drain_is_done_before_its_commit(postgresql: Server, url: str) -> None:
-    """A person says that a step failed. Until that is kept, a function that runs beside it is not told of it, and nothing that waits is given up."""
+    """An operator reports that a step failed.
+
+    Until that is stored, a parallel function is not notified, and no waiting attempt is given up.
+    """
     saga, tasks, gate = sagas.Saga("trip"), list[sagas.Task[Any]](), asyncio.Event()
     saga.approval(name="review")(lambda task: None)
     saga.step(name="pay", external=True, undo=sagas.NEVER)

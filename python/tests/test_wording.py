@@ -1,4 +1,4 @@
-"""Values in words: of a large one only the beginning is written, as the whole text has it."""
+"""Values in words: of a large one only the beginning is written, the same as in the whole text."""
 
 from __future__ import annotations
 
@@ -40,13 +40,13 @@ VALUES: list[Any] = [
 
 
 def whole(value: Any, most: int) -> str:
-    """What `pretty` shows, by the whole text."""
+    """Return the output of `pretty`, by the whole text."""
     text = json.dumps(value, indent=2, ensure_ascii=False)
     return text if len(text) <= most else text[:most] + "\n… (shortened; see the saga's log)"
 
 
 def line(value: Any, most: int) -> str:
-    """What `short` shows, by the whole text."""
+    """Return the output of `short`, by the whole text."""
     if isinstance(value, dict) and isinstance(value.get("error"), str):
         value = value["error"]
     text = wording.one_line(value)
@@ -69,7 +69,7 @@ def test_a_value_is_cut_where_its_text_is(value: Any) -> None:
 
 
 class Counted(list[int]):
-    """A list that counts how many of its members somebody wrote."""
+    """A list that counts how many of its members were written."""
 
     written = 0
 
@@ -88,7 +88,7 @@ def test_no_more_is_written_than_is_shown() -> None:
 
 
 def test_a_deep_value_is_shown() -> None:
-    """However deep it is: what is not shown is not looked at."""
+    """However deep it is: parts that are not shown are not read."""
     deep: Any = 0
     for _ in range(5000):
         deep = [deep]

@@ -1,4 +1,4 @@
-"""Wrong coordinators, each found by name: the judge of the kill tests has teeth."""
+"""Mutants of the coordinator, each found by name by the verifier of the kill tests."""
 
 from __future__ import annotations
 
@@ -15,20 +15,20 @@ NAMES = sorted(module.name for module in pkgutil.iter_modules(wrong.__path__))
 
 
 def test_there_are_enough() -> None:
-    """At least eight."""
+    """At least eight are needed."""
     assert len(NAMES) >= 8
 
 
 @pytest.mark.parametrize("name", NAMES)
-def test_a_wrong_coordinator_is_found(name: str) -> None:
-    """Under the kind of strike at which it shows, within a few stores."""
+def test_a_mutant_of_the_coordinator_is_detected(name: str) -> None:
+    """The kind of strike that reveals it finds it within a few stores."""
     module = importlib.import_module(f"wrong.{name}")
-    found: set[str] = set()
+    faults: set[str] = set()
     for seed in range(4):
         one = play(module.STRIKES, seed, 30, most=15, wrong=name, quiet=5)
-        found |= one.verdict.names
+        faults |= one.verdict.names
         if one.folder is not None:
             shutil.rmtree(pathlib.Path(one.folder))
-        if module.FINDS in found:
+        if module.FINDS in faults:
             return
-    pytest.fail(f"{name} was not found by {module.FINDS}, but by {sorted(found)}")
+    pytest.fail(f"{name} was not found by {module.FINDS}, but by {sorted(faults)}")

@@ -1,7 +1,8 @@
-"""A witness outside of the program under test: each thing it is told is a line in a file, synced before it answers.
+"""A witness outside of the program under test.
 
-It stands for the services that steps call. The program under test can be killed, and its disk can be full, without
-the witness losing a line.
+Each note that it gets is a line in a file, synced before it replies. It stands for the services
+that steps call. The program under test can be killed, and its disk can be full, without the witness
+losing a line.
 """
 
 from __future__ import annotations
@@ -26,7 +27,7 @@ class _Handler(socketserver.StreamRequestHandler):
         with contextlib.suppress(OSError):  # the program was killed
             for line in self.rfile:
                 if not line.endswith(b"\n"):
-                    return  # within a line: it was told nothing
+                    return  # within a line: the witness got no note
                 self.server.keep(line)
                 self.wfile.write(b"\n")
 
@@ -52,7 +53,7 @@ class _Server(socketserver.ThreadingUnixStreamServer):
 
 @contextlib.contextmanager
 def witness_at(address: pathlib.Path, notes: pathlib.Path) -> Iterator[None]:
-    """A witness at a socket, in a thread of this process, until the block ends."""
+    """Run a witness at a socket, in a thread of this process, until the block ends."""
     server = _Server(str(address), notes)
     thread = threading.Thread(target=server.serve_forever, args=(0.05,), daemon=True)
     thread.start()
@@ -65,7 +66,7 @@ def witness_at(address: pathlib.Path, notes: pathlib.Path) -> Iterator[None]:
 
 
 class Witness:
-    """The program's line to its witness. Threads share it; each note waits for its answer."""
+    """The program's connection to its witness. Threads share it; each note waits for its reply."""
 
     def __init__(self, address: str) -> None:
         self.socket = socket.socket(socket.AF_UNIX, socket.SOCK_STREAM)
@@ -73,7 +74,7 @@ class Witness:
         self.lock = threading.Lock()
 
     def note(self, **what: Any) -> None:
-        """Tells the witness, and waits until it has kept it."""
+        """Report a note to the witness, and wait until the witness has stored it."""
         with self.lock:
             self.socket.sendall((json.dumps(what) + "\n").encode())
             if not self.socket.recv(1):
@@ -81,5 +82,5 @@ class Witness:
 
 
 def notes_of(path: pathlib.Path) -> list[Json]:
-    """The lines that a witness has kept."""
+    """Return the lines that a witness has kept."""
     return [json.loads(line) for line in path.read_bytes().splitlines()] if path.exists() else []

@@ -1,10 +1,15 @@
-"""The program that the kill tests kill: five sagas, each of whose calls is told to a witness outside, and over PostgreSQL a sixth whose steps are inside, and a seventh whose steps workers do: each node has one, who gets tasks of the sagas of all nodes.
+"""The program that the kill tests kill: five sagas, each of whose calls is reported to a witness.
 
-    python3 tests/world.py STORE SOCKET COUNT [--concurrency N] [--small] [--wrong NAME] [--eye URL] [--node NAME] [--lease SECONDS]
+    python3 tests/world.py STORE SOCKET COUNT [--concurrency N] [--small] [--wrong NAME]
+        [--reader URL] [--node NAME] [--lease SECONDS]
 
-Whether an attempt fails is drawn from the key, the step and the attempt alone, so that it is the same whenever that attempt
-is made again. With `--small` a log takes few sagas, and two children share many logs. What the program is told (a saga is started, aborted, over) it tells the witness, with what a look into
-the database's file shows at that moment.
+Over PostgreSQL there are a sixth saga whose steps are inside, and a seventh whose steps workers do:
+each node has one worker, which gets tasks of the sagas of all nodes.
+
+Whether an attempt fails is drawn from the key, the step and the attempt only, so that it is the
+same whenever that attempt is made again. With `--small` a log takes few sagas, and two children
+share many logs. The program reports each reply (a saga is started, aborted, over) to the witness,
+with the content of the database's file at that moment.
 """
 
 from __future__ import annotations
@@ -35,49 +40,49 @@ states.Check.is_on = True
 QUICK = sagas.Backoff(initial=0.01, maximum=0.05)
 ROW = "INSERT INTO public.book(token, note, kind) VALUES(%s, %s, %s)"
 SILENT = {("approve", "run"), ("approve", "undo"), ("pause", "undo")}
-"""What has no effect that the witness sees."""
+"""Steps without an effect that the witness sees."""
 
 
 def chance(seed: str) -> float:
-    """A number from 0 to 1, the same for the same text."""
+    """Return a number from 0 to 1, the same for the same text."""
     return random.Random(seed).random()
 
 
 def expected(key: str, step: str) -> Any:
-    """The result that a step of a saga gives."""
+    """Return the result of a step of a saga."""
     return None if chance(f"{key}/{step}/none") < 0.3 else {"of": [key, step]}
 
 
-class Eye:
-    """A look into the store from beside it."""
+class OutsideReader:
+    """A reader of the store outside of the program."""
 
     def __init__(self, store: str) -> None:
         self.store = store
         self._idle: list[psycopg.Connection[tuple[Any, ...]]] = []
-        """connections that nobody looks through at this moment"""
+        """connections that are not in use at this moment"""
 
-    def _ask(self, text: str, *words: Any) -> list[tuple[Any, ...]]:
+    def _ask(self, text: str, *parameters: Any) -> list[tuple[Any, ...]]:
         if self.store.startswith("postgresql:"):
-            return self._ask_server(text.replace("%", "%%").replace("?", "%s"), words)
+            return self._ask_server(text.replace("%", "%%").replace("?", "%s"), parameters)
         db = sqlite3.connect(f"file:{self.store}?mode=ro", uri=True, timeout=10)
         try:
-            return db.execute(text, words).fetchall()
+            return db.execute(text, parameters).fetchall()
         finally:
             db.close()
 
-    def _ask_server(self, text: str, words: tuple[Any, ...]) -> list[tuple[Any, ...]]:
-        """Again and again while the server is down: what it does not say cannot be judged."""
+    def _ask_server(self, text: str, parameters: tuple[Any, ...]) -> list[tuple[Any, ...]]:
+        """Repeat a query while the server is down: what it does not answer cannot be judged."""
         until = time.monotonic() + 120
         while True:
             try:
-                return self._look(text, words)
+                return self._look(text, parameters)
             except psycopg.OperationalError:
                 if time.monotonic() > until:
                     raise
                 time.sleep(0.05)
 
-    def _look(self, text: str, words: tuple[Any, ...]) -> list[tuple[Any, ...]]:
-        """Once, through a connection that is used again where that went well."""
+    def _look(self, text: str, parameters: tuple[Any, ...]) -> list[tuple[Any, ...]]:
+        """Execute a query once, through a connection that is used again if the query succeeds."""
         try:
             link = self._idle.pop()
         except IndexError:
@@ -88,7 +93,7 @@ class Eye:
                 autocommit=True,
             )
         try:
-            rows = link.execute(text, words or None).fetchall()
+            rows = link.execute(text, parameters or None).fetchall()
         except BaseException:
             link.close()
             raise
@@ -96,20 +101,20 @@ class Eye:
         return rows
 
     def phase(self, key: str) -> tuple[bool, str | None]:
-        """Whether a key is there, and its phase."""
+        """Return whether a key exists, and its phase."""
         rows = self._ask("SELECT phase FROM sagas WHERE key = ?", key)
         return (True, rows[0][0]) if rows else (False, None)
 
     def begins(self, name: str, saga: int, step: int, kind: str) -> int:
-        """How often the lines of a log begin a step's action or compensation."""
+        """Return how often the lines of a log start a step's action or compensation."""
         line = f'{{"event":"start_{kind}","saga":{saga},"step":{step}}}\n'
         rows = self._ask(
             "SELECT text FROM event_log JOIN shards USING (shard) WHERE name = ?", name
         )
         return sum(text.count(line) for (text,) in rows)
 
-    def asked(self) -> list[str]:
-        """The keys of the sagas whose approval is waited for."""
+    def awaiting_approval(self) -> list[str]:
+        """Return the keys of the sagas that wait for an approval."""
         return [
             key
             for (key,) in self._ask(
@@ -118,16 +123,16 @@ class Eye:
         ]
 
     def finished(self, key: str, value: Any) -> bool:
-        """Whether a result is there."""
-        words = (
+        """Return whether a result exists."""
+        query = (
             "SELECT value FROM attempts JOIN sagas USING (id) WHERE key = ? AND event = 'commit'"
         )
         return json.dumps(value, separators=(",", ":"), sort_keys=True) in {
-            text for (text,) in self._ask(words, key)
+            text for (text,) in self._ask(query, key)
         }
 
     def aborts(self, key: str) -> bool:
-        """Whether the lines abort the saga of a key."""
+        """Return whether the lines abort the saga of a key."""
         rows = self._ask(
             "SELECT id % 1000, text FROM sagas JOIN event_log ON shard = id / 1000 WHERE key = ?",
             key,
@@ -136,10 +141,10 @@ class Eye:
 
 
 class World:
-    """The sagas, over a witness and an eye."""
+    """The sagas, over a witness and a reader of the store."""
 
-    def __init__(self, witness: Witness, eye: Eye, inside: bool = False) -> None:
-        self.witness, self.eye = witness, eye
+    def __init__(self, witness: Witness, reader: OutsideReader, inside: bool = False) -> None:
+        self.witness, self.reader = witness, reader
         self.sagas = [
             self.chain(),
             self.trip(),
@@ -150,41 +155,44 @@ class World:
         ]
 
     def act(self, task: Any, failing: float, unknown: float = 0.0) -> Any:
-        """A call: begins, fails or has its effect, and perhaps does not hear of it."""
-        said = self.begins(task)
+        """Make a call: it starts, fails or has its effect, and its outcome may be unknown."""
+        call = self.begins(task)
         if chance(self.named(task)) < failing:
             self.fail(task, failing)
-        self.witness.note(what="effect", **said, **self.handed(task))
-        if self.is_hazy(said, unknown):
+        self.witness.note(what="effect", **call, **self.handed(task))
+        if self.is_hazy(call, unknown):
             raise ConnectionError("nobody knows")
         return expected(task.key, task.step)
 
     async def write(self, task: Any, failing: float) -> Any:
-        """As `act`, of a step inside: its effect is a row, and half of its failures are for the server to find in the commit."""
+        """As `act`, of a step inside: its effect is a row.
+
+        The server refuses half of its failures in the commit.
+        """
         await task.connection.execute(ROW, self.row(task, failing))
         return expected(task.key, task.step)
 
     def write_in_thread(self, task: Any, failing: float) -> Any:
-        """The same of a plain function."""
+        """As `write`, of a plain function."""
         task.connection.execute(ROW, self.row(task, failing))
         return expected(task.key, task.step)
 
     def row(self, task: Any, failing: float) -> tuple[str, str, str]:
-        """What it writes, if it does not fail before."""
-        said = self.begins(task)
+        """Return the row that it writes, if it does not fail before."""
+        call = self.begins(task)
         fails = chance(self.named(task)) < failing
         if fails and chance(f"{self.named(task)}/where") < 0.5:
             self.fail(task, failing)
         return (
             task.attempt_id,
-            json.dumps({"what": "effect", **said, **self.handed(task)}),
+            json.dumps({"what": "effect", **call, **self.handed(task)}),
             "bad" if fails else "good",
         )
 
     def begins(self, task: Any) -> dict[str, Any]:
-        """It is called."""
+        """Report the start of a call."""
         kind = "undo" if task.is_compensation else "run"
-        said = {
+        call = {
             "key": task.key,
             "step": task.step,
             "kind": kind,
@@ -192,42 +200,45 @@ class World:
             "token": task.attempt_id,
         }
         name, number, _ = task.attempt_id.split("-", 2)
-        begins = self.eye.begins(name, int(number), self.steps(task).index(task.step), kind)
+        begins = self.reader.begins(name, int(number), self.steps(task).index(task.step), kind)
         self.witness.note(
             what="begin",
             input=task.input,
             begun=begins,
             idempotency_key=task.idempotency_key,
-            **said,
+            **call,
         )
-        return said
+        return call
 
     def steps(self, task: Any) -> list[str]:
-        """The names of the saga's steps, in order: of one whose steps come from its input, as that gives them."""
-        at, names = (task.saga, task.input["i"]), self.__dict__.setdefault(
-            "names", {}
-        )  # also where no world was made
+        """Return the names of the saga's steps in order.
+
+        If they come from its input, the input gives them.
+        """
+        # also if no world was made
+        at, names = (task.saga, task.input["i"]), self.__dict__.setdefault("names", {})
         if at not in names:
             saga = next(saga for saga in self.sagas if saga.name == task.saga)
             names[at] = re.findall(r'^name = "(.*)"$', saga.toml(task.input), re.M)[1:]
-        found: list[str] = names[at]
-        return found
+        step_names: list[str] = names[at]
+        return step_names
 
     def named(self, task: Any) -> str:
-        """What is drawn by."""
+        """Return the text that the draws of an attempt come from."""
         return f"{task.key}/{task.step}/{'undo' if task.is_compensation else 'run'}/{task.attempt}"
 
     def fail(self, task: Any, failing: float) -> None:
-        """It fails, some for good."""
-        raise sagas.Fail("for good") if chance(self.named(task)) < failing / 4 else ValueError(
-            "fails"
+        """Fail a call, sometimes permanently."""
+        raise (
+            sagas.Fail("for good")
+            if chance(self.named(task)) < failing / 4
+            else ValueError("fails")
         )
 
     def handed(self, task: Any) -> dict[str, Any]:
-        """What it was given."""
-        prefix = task.step.removesuffix(
-            task.declared_step.rpartition("/")[2]
-        )  # of an included saga's
+        """Return the arguments of a call."""
+        # of an included saga
+        prefix = task.step.removesuffix(task.declared_step.rpartition("/")[2])
         more: dict[str, Any] = {
             "results": {
                 (prefix if "/" in task.declared_step else "") + name: value
@@ -238,12 +249,12 @@ class World:
             more |= {"of": task.original_idempotency_key, "result": task.result}
         return more
 
-    def is_hazy(self, said: dict[str, Any], unknown: float) -> bool:
-        """Whether the caller does not hear of the effect, this time."""
+    def is_hazy(self, call: dict[str, Any], unknown: float) -> bool:
+        """Return whether the outcome of this call is unknown to the caller, this time."""
         return random.random() < unknown
 
     def chain(self) -> sagas.Saga:
-        """Three steps in a row, with threads, misses and times."""
+        """Three steps in a row, with threads, failures and times."""
         chain = sagas.Saga("chain")
 
         @chain.step(keep=9, undo=1)
@@ -270,7 +281,7 @@ class World:
         return chain
 
     def trip(self) -> sagas.Saga:
-        """A diamond with prices: some of it is worth keeping."""
+        """A diamond with costs: some of it is worth keeping."""
         trip = sagas.Saga("trip")
 
         @trip.step
@@ -340,7 +351,10 @@ class World:
         return late
 
     def order(self) -> sagas.Saga:
-        """Its steps and costs come from its input: most sagas have a definition of their own. Two sagas are included, one of them for each item."""
+        """A saga whose steps and costs come from its input: most have their own definition.
+
+        Two sagas are included, one of them for each item.
+        """
         order, box = sagas.Saga("order"), self.box()
 
         @order.step(keep=9, undo=1)
@@ -403,7 +417,7 @@ class World:
         return box
 
     def desk(self) -> sagas.Saga:
-        """Three steps inside the database, in a row, the second of plain functions."""
+        """Three steps inside the database, in a row; the second has plain functions."""
         desk = sagas.Saga("desk")
 
         @desk.step(transaction=True, tries=2, backoff=QUICK, keep=9, undo=1)
@@ -429,7 +443,10 @@ class World:
         return desk
 
     def far(self) -> sagas.Saga:
-        """Two steps side by side that workers do, and one behind them. An unknown outcome waits for a while, in which the saga may be aborted."""
+        """Two parallel steps that workers do, and a third after them.
+
+        An unknown outcome waits for a while, during which the saga may be aborted.
+        """
         far = sagas.Saga("far")
         pause = sagas.Backoff(initial=0.4, maximum=0.4)
         pay = far.step(name="pay", external=True, tries=2, backoff=pause, keep=9, undo=1)
@@ -445,25 +462,24 @@ FAR = {
     ("hold", "run"): (0.3, 0.0),
     ("send", "run"): (0.2, 0.0),
 }
-"""How often a worker's call fails, and how often it does not hear of it."""
+"""The chance that a worker's call fails, and the chance that its outcome is unknown."""
 LEASE = 1.0
 
 
 async def work(world: World, store: sagas.Store) -> None:
-    """A worker that asks this node for tasks, whichever node drives their sagas."""
-    words = [("far", step, kind) for step, kind in FAR]
+    """Work on the tasks of this node, whichever node drives their sagas."""
+    tasks = [("far", step, kind) for step, kind in FAR]
     while True:
-        with contextlib.suppress(
-            sagas.SagasError
-        ):  # the store is away, or the lease is lost: another one does it again
-            for leased in await store.workers.claim(words, limit=2, wait=0.2, lease=LEASE):
+        # the store is unavailable, or the lease is lost: another worker does it again
+        with contextlib.suppress(sagas.SagasError):
+            for leased in await store.workers.claim(tasks, limit=2, wait=0.2, lease=LEASE):
                 report = await asyncio.to_thread(done, world, leased.task)
                 await store.workers.report(leased.attempt_id, leased.lease, **report)
         await asyncio.sleep(0.01)
 
 
 def done(world: World, task: Any) -> dict[str, Any]:
-    """What a worker says of a task."""
+    """Return a worker's report of a task."""
     try:
         return {
             "result": world.act(task, *FAR[task.step, "undo" if task.is_compensation else "run"])
@@ -475,29 +491,33 @@ def done(world: World, task: Any) -> dict[str, Any]:
 
 
 async def abort_unknown(world: World, store: sagas.Store, run: sagas.Run) -> None:
-    """Aborts a saga as soon as one of its outcomes is unknown, if one is."""
+    """Abort a saga as soon as one of its outcomes is unknown, if one is."""
     while True:
         with contextlib.suppress(sagas.StoreUnavailable):
             if any(attempt.key == run.key for attempt in await store.unknown()):
                 if await run.abort():
-                    world.witness.note(what="aborted", key=run.key, there=world.eye.aborts(run.key))
+                    world.witness.note(
+                        what="aborted", key=run.key, there=world.reader.aborts(run.key)
+                    )
                 return
         await asyncio.sleep(0.02)
 
 
 async def approve_all(world: World, store: sagas.Store) -> None:
-    """Somebody who says yes to whatever is asked."""
+    """Approve every request."""
     while True:
-        for key in world.eye.asked():
+        for key in world.reader.awaiting_approval():
             value = expected(key, "approve")
             with contextlib.suppress(sagas.SagasError):
                 await store.complete(key, "approve", value)
-                world.witness.note(what="finished", key=key, there=world.eye.finished(key, value))
+                world.witness.note(
+                    what="finished", key=key, there=world.reader.finished(key, value)
+                )
         await asyncio.sleep(0.05)
 
 
 async def started(store: sagas.Store, saga: sagas.Saga, key: str, given: Any) -> sagas.Run:
-    """Starts a saga, again and again while the store is away."""
+    """Start a saga; repeat that while the store is unavailable."""
     while True:
         try:
             return await store.start(saga, key=key, input=given)
@@ -506,15 +526,15 @@ async def started(store: sagas.Store, saga: sagas.Saga, key: str, given: Any) ->
 
 
 async def one(world: World, store: sagas.Store, number: int) -> None:
-    """A saga from its start to its end, each thing told to the witness once the program was told it."""
-    key, note, eye = f"k{number}", world.witness.note, world.eye
+    """Run a saga to its end, and report each reply to the witness once the program has it."""
+    key, note, reader = f"k{number}", world.witness.note, world.reader
     run = await started(store, world.sagas[number % len(world.sagas)], key, {"i": number})
-    note(what="started", key=key, there=eye.phase(key)[0])
+    note(what="started", key=key, there=reader.phase(key)[0])
     if number % 17 == 0:
         await asyncio.sleep(0.01)
         with contextlib.suppress(sagas.StoreUnavailable):
             if await run.abort():
-                note(what="aborted", key=key, there=eye.aborts(key))
+                note(what="aborted", key=key, there=reader.aborts(key))
     aborting = (
         asyncio.create_task(abort_unknown(world, store, run))
         if number % 2 and number % len(world.sagas) == 6
@@ -525,18 +545,22 @@ async def one(world: World, store: sagas.Store, number: int) -> None:
     finally:
         if aborting:
             aborting.cancel()
-    told = {
+    end_note = {
         "phase": end.phase,
         "states": end.states,
         "results": end.results,
         "cost": end.cost,
         "aborted": end.aborted,
     }
-    note(what="over", key=key, there=eye.phase(key)[1], **told)
+    note(what="over", key=key, there=reader.phase(key)[1], **end_note)
 
 
 async def every(world: World, store: sagas.Store, count: int) -> None:
-    """All of them at once; of those with steps inside each by itself, before the others or behind them, so that they are alone as well."""
+    """Run all sagas at once.
+
+    Those with steps inside run before the others or after them, one by one, so that they are alone
+    as well.
+    """
     inside = [number for number in range(count) if number % len(world.sagas) == 5]
     others = [number for number in range(count) if number not in inside]
     is_first = random.random() < 0.5
@@ -549,7 +573,7 @@ async def every(world: World, store: sagas.Store, count: int) -> None:
 
 
 async def opened(stack: contextlib.AsyncExitStack, make: Callable[[], sagas.Store]) -> sagas.Store:
-    """Opens a store, again and again while its server is down."""
+    """Open a store; repeat that while its server is down."""
     while True:
         try:
             return await stack.enter_async_context(make())
@@ -559,37 +583,39 @@ async def opened(stack: contextlib.AsyncExitStack, make: Callable[[], sagas.Stor
             await asyncio.sleep(0.05)
 
 
-async def main(words: argparse.Namespace) -> None:
-    """Starts what is not there, waits for all, and closes; SIGTERM closes it earlier."""
+async def main(options: argparse.Namespace) -> None:
+    """Start the sagas that do not exist, wait for all, and close. SIGTERM closes it earlier."""
     world = World(
-        Witness(words.socket), Eye(words.eye or words.store), inside=words.node is not None
+        Witness(options.socket),
+        OutsideReader(options.reader or options.store),
+        inside=options.node is not None,
     )
-    if words.wrong:
-        package = "wrong_stores" if words.node else "wrong"
-        importlib.import_module(f"{package}.{words.wrong}").apply()
-    if words.small:
+    if options.wrong:
+        package = "wrong_stores" if options.node else "wrong"
+        importlib.import_module(f"{package}.{options.wrong}").apply()
+    if options.small:
         setattr(sagas.definition.shelf, "SHARD_CAPACITY", 10)
-    children = 2 if words.small else 16
+    children = 2 if options.small else 16
     async with contextlib.AsyncExitStack() as stack:
 
         def make() -> sagas.Store:
             store = sagas.open(
-                words.store,
+                options.store,
                 world.sagas,
-                concurrency=words.concurrency,
+                concurrency=options.concurrency,
                 engine_processes=children,
-                node=words.node,
-                lease=words.lease,
+                node=options.node,
+                lease=options.lease,
             )
-            store.leased = words.node is not None
+            store.leased = options.node is not None
             return store
 
         store = await opened(stack, make)
         others = [
             asyncio.create_task(approve_all(world, store)),
-            *([asyncio.create_task(work(world, store))] if words.node else []),
+            *([asyncio.create_task(work(world, store))] if options.node else []),
         ]
-        starting = asyncio.create_task(every(world, store, words.count))
+        starting = asyncio.create_task(every(world, store, options.count))
         asyncio.get_running_loop().add_signal_handler(signal.SIGTERM, starting.cancel)
         print("open", flush=True)
         try:
@@ -599,13 +625,15 @@ async def main(words: argparse.Namespace) -> None:
             print("closing", flush=True)
         for other in others:
             other.cancel()
-    asyncio.get_running_loop().remove_signal_handler(
-        signal.SIGTERM
-    )  # a loop that closes would complain of one that comes now
+    # a loop that closes would complain of one that comes now
+    asyncio.get_running_loop().remove_signal_handler(signal.SIGTERM)
 
 
 def is_unexpected(record: logging.LogRecord) -> bool:
-    """Not what the functions here raise on purpose: a traceback is to be one of the package's own."""
+    """Return whether a record is not of an error that the functions here raise deliberately.
+
+    A traceback would be the package's own.
+    """
     return getattr(record, "sagas", {}).get("name") not in ("step_retrying", "step_failed")
 
 
@@ -617,7 +645,7 @@ if __name__ == "__main__":
     parser.add_argument("--concurrency", type=int, default=16)
     parser.add_argument("--small", action="store_true")
     parser.add_argument("--wrong")
-    parser.add_argument("--eye")
+    parser.add_argument("--reader")
     parser.add_argument("--node")
     parser.add_argument("--lease", type=float, default=10.0)
     logging.basicConfig(level=logging.WARNING, format="%(asctime)s %(name)s %(message)s")

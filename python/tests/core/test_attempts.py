@@ -1,4 +1,5 @@
-"""What becomes of an attempt: each decision of the machine, without a clock, a loop or a database."""
+"""The states of an attempt: each decision of the state machine, without a clock, loop or database.
+"""
 
 from __future__ import annotations
 
@@ -39,16 +40,16 @@ MACHINE = AttemptMachine()
 
 
 class Where:
-    """A queue of workers that nobody has."""
+    """A queue of workers that does not exist."""
 
     timeout = 60.0
 
-    def declare(self, *words: Any) -> None:
+    def declare(self, *arguments: Any) -> None:
         ...
 
 
 def due(task: sagas.Task[Any]) -> Any:
-    """When the wait `later` is over, as its input says."""
+    """Return the time at which the wait `later` is over, as its input says."""
     if task.input == "raises":
         raise ValueError("no idea")
     if task.input == "fails":
@@ -59,7 +60,7 @@ def due(task: sagas.Task[Any]) -> Any:
 
 
 def trip() -> sagas.Saga:
-    """A saga with a step of each kind."""
+    """Return a saga with a step of each kind."""
     saga = sagas.Saga("trip")
 
     @saga.step(undo=0, tries=3, backoff=WAIT)
@@ -87,7 +88,8 @@ def trip() -> sagas.Saga:
         ...
 
     saga.step(name="outside", undo=0, tries=2, external=True, backoff=WAIT)
-    saga.step(name="sent", undo=0, queue=Where(), backoff=WAIT)(lambda task: None)  # type: ignore[arg-type]
+    queue: Any = Where()
+    saga.step(name="sent", undo=0, queue=queue, backoff=WAIT)(lambda task: None)
     return saga
 
 
@@ -96,7 +98,7 @@ KIND = DefinitionRegistry([trip()]).kinds[0]
 
 @pytest.fixture(autouse=True)
 def checked() -> Iterator[None]:
-    """Each transition is looked up."""
+    """Check each transition."""
     before, states.Check.is_on = states.Check.is_on, True
     yield
     states.Check.is_on = before
@@ -105,7 +107,7 @@ def checked() -> Iterator[None]:
 def attempt_of(
     step: str, number: int = 1, kind: str = "run", text: str = "null", fresh: bool = True
 ) -> Attempt:
-    """An attempt that was claimed, alone in its saga."""
+    """Return an attempt that was claimed, alone in its saga."""
     instance = SagaInstance("k", text, KIND, 0)
     instance.token = "test-0"
     attempt = Attempt(instance, KIND.names.index(step), kind, number, fresh)
@@ -114,14 +116,14 @@ def attempt_of(
 
 
 def running(step: str, number: int = 1, kind: str = "run") -> Attempt:
-    """One whose function is called."""
+    """Return an attempt whose function is being called."""
     attempt = attempt_of(step, number, kind)
     attempt.start()
     return attempt
 
 
 def error_of(attempt: Attempt) -> str:
-    """What a finished one is said to have raised."""
+    """Return the error of a finished attempt."""
     assert attempt.outcome
     return attempt.outcome.value
 
@@ -146,7 +148,7 @@ def test_a_retry_waits_for_its_back_off() -> None:
     assert MACHINE.timer(attempt, NOW + 15) is CALL
 
 
-def test_a_back_off_that_is_over_or_not_known_is_none() -> None:
+def test_no_pause_after_an_elapsed_or_unknown_back_off() -> None:
     late, new = attempt_of("simple", 2), attempt_of("simple", 2)
     late.instance.rare.missed_at[late.word] = NOW - 10
     assert MACHINE.begin(late, NOW) is CALL and MACHINE.begin(new, NOW) is CALL
@@ -160,7 +162,7 @@ def test_a_clock_that_jumped_back_makes_no_back_off_longer() -> None:
     assert MACHINE.timer(attempt, NOW - 5000) is CALL  # it is counted here, whatever the clock says
 
 
-def test_behind_a_permanent_failure_nothing_is_called() -> None:
+def test_no_call_after_a_permanent_failure() -> None:
     attempt = attempt_of("simple", 2)
     attempt.instance.rare.final.add(attempt.word)
     assert MACHINE.begin(attempt, NOW) is REPORT and attempt.at == NOW
@@ -181,13 +183,13 @@ def test_behind_a_permanent_failure_nothing_is_called() -> None:
             True,
             "run",
             False,
-        ),  # the last attempt: to give it up would be a failure that was none
+        ),  # the last attempt: to give it up would count as a failure
         (3, True, True, "run", True),
         (1, False, False, "run", False),  # it may have been called
         (1, True, True, "undo", False),
     ],
 )
-def test_what_is_left_out_of_a_saga_that_drains(
+def test_attempts_that_a_draining_saga_drops(
     number: int, aborted: bool, fresh: bool, kind: str, leaves: bool
 ) -> None:
     attempt = attempt_of("plain", number, kind, fresh=fresh)
@@ -202,7 +204,7 @@ def test_an_external_step_is_offered(leased: bool) -> None:
     assert will_be_asked(attempt) and not is_asked(attempt)
     assert AttemptMachine(leased).begin(attempt, NOW) is OFFER
     assert attempt.reason is Suspension.EXTERNAL and attempt.until is None and is_asked(attempt)
-    assert attempt.fresh is leased  # else whoever does it may have begun
+    assert attempt.fresh is leased  # else a worker may have started it
 
 
 # -- waits
@@ -243,7 +245,9 @@ def test_the_next_attempt_of_a_wait_does_not_wait_again() -> None:
 
 
 def answered(attempt: Attempt) -> Decision:
-    """What becomes of one that begins with a question to its definition, whose functions are called."""
+    """Return the next state of an attempt whose definition is asked first, with its functions
+    called.
+    """
     decision = MACHINE.begin(attempt, NOW)
     assert decision.do is Do.ASK and decision.question and attempt.state is AttemptState.CLAIMED
     assert decision.question.words == "until="
@@ -251,14 +255,14 @@ def answered(attempt: Attempt) -> Decision:
     return MACHINE.go_on(attempt, NOW)
 
 
-def test_a_wait_until_a_time_that_the_program_says() -> None:
+def test_a_wait_until_a_time_of_the_program() -> None:
     attempt = attempt_of("later")
     assert answered(attempt).row == SuspensionRow(Suspension.TIMER, NOW + 50)
     assert not attempt.rare.returned
 
 
 @pytest.mark.parametrize(
-    ("text", "kind", "told"),
+    ("text", "kind", "message"),
     [
         ('"raises"', OutcomeKind.FAILED, "ValueError: no idea"),
         ('"fails"', OutcomeKind.FAILED_PERMANENTLY, "Fail: never"),
@@ -268,15 +272,15 @@ def test_a_wait_until_a_time_that_the_program_says() -> None:
     ],
 )
 def test_a_wait_that_cannot_say_its_time_has_failed(
-    text: str, kind: OutcomeKind, told: str
+    text: str, kind: OutcomeKind, message: str
 ) -> None:
     attempt = attempt_of("later", text=text)
     assert answered(attempt) is REPORT
-    assert attempt.outcome and attempt.outcome.kind is kind and told in error_of(attempt)
+    assert attempt.outcome and attempt.outcome.kind is kind and message in error_of(attempt)
 
 
-def test_a_wait_of_a_saga_that_drains_while_its_definition_is_asked() -> None:
-    """What its function returned is not used: it is given up."""
+def test_a_saga_drains_while_the_time_of_a_wait_is_computed() -> None:
+    """The result of its function is not used: the attempt is given up."""
     attempt = attempt_of("later", 1)
     decision = MACHINE.begin(attempt, NOW)
     assert decision.question
@@ -286,7 +290,7 @@ def test_a_wait_of_a_saga_that_drains_while_its_definition_is_asked() -> None:
 
 
 def test_a_wait_of_a_saga_that_drains_is_given_up_before_it_waits() -> None:
-    attempt = attempt_of("pause", fresh=False)  # an earlier program had begun it
+    attempt = attempt_of("pause", fresh=False)  # an earlier program had started it
     attempt.instance.draining = True
     assert MACHINE.begin(attempt, NOW) is REPORT and attempt.has_row
     last = attempt_of("pause", 2)
@@ -341,20 +345,19 @@ def test_an_unknown_outcome_may_be_bounded_by_time() -> None:
     )
 
 
-def test_a_wait_that_was_given_up_leaves_its_place_to_others() -> None:
+def test_an_abandoned_wait_frees_its_slot() -> None:
     attempt = running("simple")
     attempt.rare.gave_way = True
     attempt.rare.count = 6
     MACHINE.ended(attempt, outcomes.unknown("all places are taken"), NOW)
-    assert (
-        attempt.until == NOW + 100 and not attempt.rare.gave_way
-    )  # its back-off is longer than the 60 s
+    # its back-off is longer than the 60 s
+    assert attempt.until == NOW + 100 and not attempt.rare.gave_way
 
 
-def test_what_cannot_be_decoded_is_parked() -> None:
+def test_undecodable_values_park_an_attempt() -> None:
     attempt = running("plain")
-    told = Outcome(OutcomeKind.CANNOT_DECODE, "input lacks x")
-    decision = MACHINE.ended(attempt, told, NOW)
+    outcome = Outcome(OutcomeKind.CANNOT_DECODE, "input lacks x")
+    decision = MACHINE.ended(attempt, outcome, NOW)
     assert decision == Decision(
         Do.SUSPEND,
         SuspensionRow(Suspension.CANNOT_DECODE, None, "input lacks x"),
@@ -368,12 +371,12 @@ def test_what_cannot_be_decoded_is_parked() -> None:
     )
     wait = running("pause")
     wait.instance.rare.due[wait.word] = 0.0
-    assert MACHINE.ended(wait, told, NOW).row == SuspensionRow(
+    assert MACHINE.ended(wait, outcome, NOW).row == SuspensionRow(
         Suspension.CANNOT_DECODE, 0.0, "input lacks x"
     )
 
 
-def test_an_approval_is_asked_for_and_given_up_in_time() -> None:
+def test_an_approval_is_requested_and_times_out() -> None:
     attempt = running("sign")
     decision = MACHINE.ended(attempt, outcomes.succeeded(None), NOW)
     assert (
@@ -389,20 +392,20 @@ def test_an_approval_is_asked_for_and_given_up_in_time() -> None:
 
 
 @pytest.mark.parametrize(
-    ("said", "kind"),
+    ("answer", "kind"),
     [
         (sagas.Approved(5), OutcomeKind.SUCCEEDED),
         (sagas.Rejected("no"), OutcomeKind.FAILED_PERMANENTLY),
     ],
 )
-def test_an_approval_may_be_decided_by_its_function(said: Any, kind: OutcomeKind) -> None:
+def test_an_approval_may_be_decided_by_its_function(answer: Any, kind: OutcomeKind) -> None:
     attempt = running("sign")
-    outcome = outcomes.succeeded(outcomes.Answer(said))
+    outcome = outcomes.succeeded(outcomes.Answer(answer))
     assert outcome.kind is OutcomeKind.ANSWERED and MACHINE.ended(attempt, outcome, NOW) is REPORT
     assert attempt.outcome and attempt.outcome.kind is kind
 
 
-def test_a_compensation_of_an_approval_asks_nobody() -> None:
+def test_a_compensation_of_an_approval_needs_no_operator() -> None:
     assert MACHINE.ended(running("sign", kind="undo"), outcomes.succeeded(None), NOW) is REPORT
 
 
@@ -414,7 +417,7 @@ def test_an_approval_in_a_saga_that_drains_is_given_up() -> None:
     ) is REPORT and "being undone" in error_of(attempt)
 
 
-def test_what_external_workers_may_have_is_withdrawn_first() -> None:
+def test_external_attempts_are_withdrawn_first() -> None:
     attempt = attempt_of("outside")
     leased = AttemptMachine(leased=True)
     assert leased.begin(attempt, NOW) is OFFER
@@ -428,7 +431,7 @@ def test_what_external_workers_may_have_is_withdrawn_first() -> None:
     assert leased.withdrawn(attempt, NOW) is NOTHING
 
 
-def test_what_was_offered_with_its_begin_is_not_given_up_unseen() -> None:
+def test_an_offered_attempt_is_withdrawn_first() -> None:
     attempt = attempt_of("outside")
     attempt.instance.draining = attempt.instance.aborted = True
     attempt.rare.offered = 0
@@ -449,13 +452,13 @@ def test_a_row_that_is_stored_when_the_attempt_went_on_leads_to_nothing() -> Non
 # -- a shard that was recovered
 
 
-def test_what_was_finished_is_reported_again() -> None:
+def test_a_finished_attempt_is_reported_again() -> None:
     attempt = running("plain")
     MACHINE.finish(attempt, outcomes.failure("no", final=True), NOW)
     assert MACHINE.resume(attempt, NOW) is REPORT_AGAIN and MACHINE.report(attempt) is REPORT
 
 
-def test_what_runs_or_waits_here_goes_on() -> None:
+def test_running_and_waiting_attempts_continue() -> None:
     asleep = attempt_of("plain")
     asleep.suspend(Suspension.BACKOFF, NOW + 1)
     queued = attempt_of("plain")
@@ -489,7 +492,7 @@ def test_a_row_that_was_on_its_way_is_put_again() -> None:
         ("outside", Suspension.EXTERNAL, None, OFFER),
     ],
 )
-def test_what_an_earlier_program_had_begun_goes_on_by_its_row(
+def test_an_earlier_attempt_continues_by_its_row(
     step: str, reason: Suspension, until: float | None, decision: Decision
 ) -> None:
     made = attempt_of(step)
@@ -506,14 +509,14 @@ def test_what_an_earlier_program_had_begun_goes_on_by_its_row(
         )
 
 
-def test_what_an_earlier_program_had_begun_without_a_row_begins_again() -> None:
+def test_an_earlier_attempt_without_a_row_starts_again() -> None:
     assert MACHINE.resume(attempt_of("plain", fresh=False), NOW) is CALL
     assert MACHINE.resume(attempt_of("outside", fresh=False), NOW) is OFFER
 
 
-def test_resumes_one_with_a_child() -> None:
-    """Its child may be there, also where it was given up before its row was stored: it is followed,
-    and not given up again.
+def test_an_attempt_with_a_child_is_resumed() -> None:
+    """Its child may exist, also if the attempt was given up before its row was stored: it is
+    followed, and not given up again.
     """
     attempt = attempt_of("plain", fresh=True)
     attempt.reason, attempt.has_row = Suspension.CHILD, True
@@ -526,7 +529,7 @@ def test_resumes_one_with_a_child() -> None:
 # -- a saga that drains
 
 
-def test_a_saga_that_drains_gives_up_what_waits_and_was_not_called() -> None:
+def test_a_draining_saga_gives_up_waiting_attempts() -> None:
     instance = attempt_of("plain").instance
     made: dict[str, Attempt] = {}
     for step, number in (
@@ -546,21 +549,21 @@ def test_a_saga_that_drains_gives_up_what_waits_and_was_not_called() -> None:
     made["sign"].start()
     MACHINE.begin(made["pause"], NOW)
     made["later"].queue()
-    assert MACHINE.drain(instance, NOW) == []  # it was planned meanwhile
+    assert MACHINE.drain(instance, NOW) == []  # it was planned in the meantime
     instance.draining = True
-    found = dict(MACHINE.drain(instance, NOW))
-    assert found == {
+    decisions = dict(MACHINE.drain(instance, NOW))
+    assert decisions == {
         made["simple"]: REPORT,
         made["plain"]: CALL,
         made["timed"]: CALL,
         made["pause"]: REPORT,
         made["later"]: REPORT,
     }
-    assert made["sign"].state is AttemptState.RUNNING  # its function goes on
+    assert made["sign"].state is AttemptState.RUNNING  # its function continues
 
 
 def test_an_attempt_is_named_by_the_shard_that_its_saga_comes_into() -> None:
-    """A commit may be refused: what it offered is not what is offered from another shard."""
+    """A commit may be refused: what it offered is then not offered from another shard."""
     attempt: Any = attempt_of("outside")
     instance: Any = attempt.instance
     instance.token, instance.committed = None, False
@@ -599,7 +602,7 @@ CHOICES = {
 
 
 def decide(what: str, attempt: Attempt, outcome: Outcome, now: float) -> Decision:
-    """One thing that may happen to an attempt, as the runtime does it."""
+    """Apply one event to an attempt, as the runtime does."""
     if what == "ended":
         return MACHINE.ended(attempt, outcome, now)
     if what == "report":
@@ -626,7 +629,9 @@ def decide(what: str, attempt: Attempt, outcome: Outcome, now: float) -> Decisio
 def test_whatever_happens_each_decision_fits_the_state(
     step: str, number: int, data: st.DataObject
 ) -> None:
-    """No transition is missing from the table, what is finished stays so, and nothing is called that waits for its row."""
+    """No transition is missing from the table, finished attempts stay finished, and no attempt is
+    called that waits for its row.
+    """
     attempt, now = attempt_of(step, number), NOW
     attempt.instance.rare.missed_at[attempt.word] = NOW
     for _ in range(12):
@@ -649,9 +654,11 @@ def test_whatever_happens_each_decision_fits_the_state(
         assert attempt.outcome is first
 
 
-def test_what_was_reported_early() -> None:
-    """It is the attempt's outcome, also of one whose saga drains; a compensation takes none, nor
-    one whose step failed for good."""
+def test_early_reports() -> None:
+    """It is the attempt's outcome, also if its saga drains.
+
+    A compensation takes none, and neither does an attempt whose step failed permanently.
+    """
     for step in ("sign", "outside"):
         for aborted in (False, True):
             attempt = attempt_of(step)
@@ -672,13 +679,13 @@ def test_what_was_reported_early() -> None:
 
 
 def test_which_reports_are_taken_early() -> None:
-    """Of approvals and of what is done elsewhere, while the saga goes on."""
+    """Those of approvals and of external steps, while the saga continues."""
     for step, kind in (("simple", "run"), ("pause", "run"), ("sent", "run"), ("outside", "undo")):
         instance = attempt_of(step).instance
         assert early_reports.refusal(instance, KIND.names.index(step), kind)
     for step in ("sign", "outside"):
         instance = attempt_of(step).instance
-        place = KIND.names.index(step)
-        assert early_reports.refusal(instance, place, "run") is None
+        number = KIND.names.index(step)
+        assert early_reports.refusal(instance, number, "run") is None
         instance.draining = True
-        assert "is being undone" in str(early_reports.refusal(instance, place, "run"))
+        assert "is being undone" in str(early_reports.refusal(instance, number, "run"))

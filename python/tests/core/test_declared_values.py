@@ -1,4 +1,6 @@
-"""What the functions of a definition say of an attempt, where they are right and where they are not; and lines of errors."""
+"""The values that functions of a definition return for an attempt, right and wrong; and lines of
+errors.
+"""
 
 from __future__ import annotations
 
@@ -26,7 +28,7 @@ class Order:
 
 
 def by(order: Order) -> Any:
-    """The key of an order's limit."""
+    """Return the key of an order's limit."""
     if order.account == "raises":
         raise LookupError("no account")
     if order.account == "fails":
@@ -35,7 +37,7 @@ def by(order: Order) -> Any:
 
 
 def shop() -> sagas.Saga:
-    """A step that is limited by its account."""
+    """Return a saga with a step that is limited by its account."""
     saga = sagas.Saga("shop", fair_by=lambda given: given["account"])
 
     @saga.step(concurrency=1, concurrency_by=by)
@@ -53,24 +55,24 @@ KIND = DefinitionRegistry([shop()]).kinds[0]
 
 
 def attempt_of(given: Any, kind: str = "run") -> Attempt:
-    """One that was claimed."""
+    """Return an attempt that was claimed."""
     instance = SagaInstance("k", json.dumps(given), KIND, 0)
     instance.token = "test-0"
     return Attempt(instance, 0, kind, 1, fresh=True)
 
 
 def limited(attempt: Attempt) -> tuple[str, Decision]:
-    """Which functions were called for the limits of its step, and what is decided then."""
-    decision, words = AttemptMachine().limit(attempt, 5.0), ""
+    """Return the functions that were called for the limits of its step, and the decision."""
+    decision, names = AttemptMachine().limit(attempt, 5.0), ""
     if decision.do is Do.ASK:
         assert decision.question and attempt.state is AttemptState.CLAIMED
-        words = decision.question.words
+        names = decision.question.words
         attempt.rare.returned |= decision.question.answers()
         decision = AttemptMachine().limit(attempt, 5.0)
-    return words, decision
+    return names, decision
 
 
-def test_the_key_of_a_limit_is_asked_for_once() -> None:
+def test_the_key_of_a_limit_is_computed_once() -> None:
     """A compensation has none; whoever cannot say it is not called."""
     attempt = attempt_of({"account": "a"})
     assert (
@@ -94,8 +96,8 @@ def test_the_key_of_a_limit_is_asked_for_once() -> None:
     assert decision.do is Do.SUSPEND and attempt.reason is Suspension.CANNOT_DECODE
 
 
-def test_whose_a_saga_is() -> None:
-    """Where its definition cannot say that, it is nobody's."""
+def test_the_tenant_of_a_saga() -> None:
+    """If its definition cannot return a tenant, the saga has none."""
     for given, tenant in (({"account": "a"}, '"a"'), ({}, "null")):
         attempt = attempt_of(given)
         assert attempt.instance.tenant is None
@@ -106,14 +108,14 @@ def test_whose_a_saga_is() -> None:
 
 
 class Odd(Exception):
-    """One that has no text."""
+    """An error without a text."""
 
     def __str__(self) -> str:
         raise ValueError
 
 
 def noted() -> Exception:
-    """One with a note."""
+    """Return an error with a note."""
     error = ValueError("n")
     error.add_note("a note")
     return error

@@ -1,4 +1,4 @@
-"""What becomes of an attempt that failed: another one, the same one again, a person, or none."""
+"""The state of an attempt that failed: another one, the same one again, attention, or none."""
 
 from __future__ import annotations
 
@@ -21,12 +21,12 @@ NO, NEVER = outcomes.failure("no"), outcomes.failure("never", final=True)
 SOON = outcomes.failure("soon", retry_after=3.0)
 
 
-def attempt_of(kind: str = "run", number: int = 1, **words: Any) -> Attempt:
-    """One that runs, of two tries."""
+def attempt_of(kind: str = "run", number: int = 1, **options: Any) -> Attempt:
+    """Return a running attempt, of two tries."""
     saga = sagas.Saga("s")
-    forward = words if kind == "run" else {}
+    forward = options if kind == "run" else {}
     step = saga.step(name="a", tries=2, backoff=WAIT, **forward)(lambda task: None)
-    backward = {} if kind == "run" else words
+    backward = {} if kind == "run" else options
     step.compensation(tries=2, **backward)(lambda task: None)
     instance = SagaInstance("k", "null", DefinitionRegistry([saga]).kinds[0], 0)
     instance.token = "test-0"
@@ -37,13 +37,13 @@ def attempt_of(kind: str = "run", number: int = 1, **words: Any) -> Attempt:
 
 
 def again(attempt: Attempt) -> None:
-    """It is called again."""
+    """Call the attempt again."""
     attempt.queue()
     attempt.start()
 
 
 @pytest.mark.parametrize(
-    ("kind", "number", "words", "outcome", "comes"),
+    ("kind", "number", "options", "outcome", "comes"),
     [
         ("run", 2, {}, NO, None),
         ("run", 1, {"on_exhausted": "ask"}, NO, None),
@@ -62,10 +62,10 @@ def again(attempt: Attempt) -> None:
         ("undo", 1, {"on_exhausted": "fail", "max_attempts": 9}, NEVER, None),
     ],
 )
-def test_what_a_failure_leads_to(
-    kind: str, number: int, words: dict[str, Any], outcome: outcomes.Outcome, comes: Any
+def test_the_decision_after_a_failure(
+    kind: str, number: int, options: dict[str, Any], outcome: outcomes.Outcome, comes: Any
 ) -> None:
-    attempt = attempt_of(kind, number, **words)
+    attempt = attempt_of(kind, number, **options)
     decision = MACHINE.ended(attempt, outcome, NOW)
     if comes is None:
         assert decision is REPORT and attempt.outcome is outcome
@@ -77,9 +77,10 @@ def test_what_a_failure_leads_to(
     assert decision.event == (name, decision.row.error) and attempt.failures == 1
 
 
-def test_so_many_attempts_as_are_wanted() -> None:
-    """The pauses grow up to the longest; then a person is asked, and may begin anew: from the first
-    attempt on.
+def test_attempts_up_to_the_limit() -> None:
+    """The pauses grow up to the longest one.
+
+    Then the attempt needs an operator, who may retry it: attempts count from the first one again.
     """
     attempt, now = attempt_of(number=2, max_attempts=5, on_exhausted="ask"), NOW
     for pauses in ((20.0, 40.0, 60.0), (10.0, 20.0, 40.0, 60.0)):
@@ -101,8 +102,11 @@ def test_so_many_attempts_as_are_wanted() -> None:
         again(attempt)
 
 
-def test_an_unknown_one_stays_unknown_where_it_is_retried() -> None:
-    """Nothing is known of it by that: it may have had its effect. Its time begins anew."""
+def test_a_retried_unknown_attempt_stays_unknown() -> None:
+    """A retry does not make the outcome known: the attempt may have had its effect.
+
+    Its time restarts.
+    """
     attempt = attempt_of(number=2, max_unknown=0)
     MACHINE.ended(attempt, outcomes.unknown("lost"), NOW)
     assert attempt.since == NOW
@@ -115,26 +119,29 @@ def test_an_unknown_one_stays_unknown_where_it_is_retried() -> None:
     assert attempt.count == 0 and attempt.outcome and attempt.outcome.kind is OutcomeKind.UNKNOWN
 
 
-@pytest.mark.parametrize("words", [{"on_exhausted": "ask"}, {"on_exhausted": "retry"}])
-def test_a_saga_that_drains_waits_for_no_failure(words: dict[str, Any]) -> None:
-    """What failed has failed, unless a person was asked and the saga is not aborted; a compensation goes on waiting."""
-    attempt, undo = attempt_of(number=2, **words), attempt_of("undo", 2, **words)
+@pytest.mark.parametrize("options", [{"on_exhausted": "ask"}, {"on_exhausted": "retry"}])
+def test_a_saga_that_drains_waits_for_no_failure(options: dict[str, Any]) -> None:
+    """An attempt that failed has failed, unless an operator was asked and the saga is not aborted.
+
+    A compensation continues to wait.
+    """
+    attempt, undo = attempt_of(number=2, **options), attempt_of("undo", 2, **options)
     for one in (attempt, undo):
         MACHINE.ended(one, NO, NOW)
         one.instance.draining = True
-    if words["on_exhausted"] == "ask":
+    if options["on_exhausted"] == "ask":
         assert MACHINE.drain(attempt.instance, NOW) == [] and exhaustion.may_retry(attempt)
         attempt.instance.aborted = True
     assert MACHINE.drain(attempt.instance, NOW) == [(attempt, REPORT)] and attempt.outcome is NO
     assert MACHINE.drain(undo.instance, NOW) == []
-    late = attempt_of(number=2, **words)
+    late = attempt_of(number=2, **options)
     late.instance.draining = True
     assert MACHINE.ended(late, NO, NOW) is REPORT
 
 
 @pytest.mark.parametrize("number", [1, 2])
 def test_the_pause_that_a_function_wants(number: int) -> None:
-    """Behind an attempt of the definition, and behind the last one."""
+    """It counts after an attempt of the definition, and after the last one."""
     attempt = attempt_of(number=number, max_attempts=9)
     decision = MACHINE.ended(attempt, SOON, NOW)
     if number == 2:
@@ -149,8 +156,8 @@ def test_the_pause_that_a_function_wants(number: int) -> None:
 
 
 @pytest.mark.parametrize("reason", [Suspension.RETRY, Suspension.EXHAUSTED, Suspension.UNKNOWN])
-def test_a_restart_goes_on_waiting(reason: Suspension) -> None:
-    """Nothing is called because of it."""
+def test_a_restart_continues_a_wait(reason: Suspension) -> None:
+    """No function is called because of a restart."""
     asks = reason is Suspension.EXHAUSTED
     attempt = Attempt(attempt_of(number=2).instance, 0, "run", 2, False)
     until = attempt.until = None if asks else NOW + 30

@@ -1,4 +1,4 @@
-"""When a commit waits, by measured times alone."""
+"""The delay of a commit, by measured times only."""
 
 from __future__ import annotations
 
@@ -8,7 +8,7 @@ from sagas.core.group_commit import FEW, MOST, GroupCommitPolicy, half
 
 
 def taught(each: float) -> GroupCommitPolicy:
-    """One that has seen that a call comes to a commit in so many seconds."""
+    """Return a delay that has measured this many seconds from a call to its commit."""
     policy = GroupCommitPolicy()
     for _ in range(100):
         policy.committed(1, 0.0)
@@ -17,7 +17,7 @@ def taught(each: float) -> GroupCommitPolicy:
 
 
 def test_it_waits_for_nothing_that_it_has_not_seen() -> None:
-    """Before the first commit nobody knows how soon a call comes."""
+    """Before the first commit the interval of calls is unknown."""
     policy = GroupCommitPolicy()
     policy.came(1.0)
     assert not policy.holds(10, 1, 1.0, 2.0) and policy.until is None
@@ -37,12 +37,16 @@ def test_it_waits_for_nothing_that_it_has_not_seen() -> None:
 def test_it_waits_for_more_than_it_has_if_that_comes_soon(
     coming: int, rows: int, latency: float, waits: bool
 ) -> None:
-    """Of few rows up to four times as long as a commit takes, of many half of it."""
+    """With few rows it waits up to four times the duration of a commit, with many rows
+    half of it.
+    """
     assert taught(0.001).holds(coming, rows, latency, 7.0) is waits
 
 
 def test_it_waits_no_longer_than_it_says() -> None:
-    """Until twice the time in which the calls come, and at most `MOST`; then it is written."""
+    """It waits at most twice the interval of the calls, and at most `MOST`; then the batch is
+    written.
+    """
     policy = taught(0.0001)
     assert policy.holds(9, 8, 0.01, 7.0) and policy.until == pytest.approx(7.0018, abs=1e-5)
     assert policy.holds(9, 8, 0.01, 7.001)
@@ -52,12 +56,12 @@ def test_it_waits_no_longer_than_it_says() -> None:
 
 
 def test_it_is_written_once_nothing_comes_any_more() -> None:
-    """Whatever it said before."""
+    """The batch is written, whatever the earlier decision was."""
     policy = taught(0.001)
     assert policy.holds(9, 8, 0.01, 7.0)
     assert not policy.holds(0, 8, 0.01, 7.0001) and policy.until is None
 
 
-def test_many_calls_are_told_of_in_two_halves() -> None:
-    """Few stay together."""
+def test_many_calls_are_reported_in_two_halves() -> None:
+    """Few calls stay together."""
     assert [half(ready) for ready in (0, 1, 7, 8, 16, 17, 1000)] == [0, 1, 7, 4, 8, 9, 500]

@@ -1,4 +1,6 @@
-"""One shard without an engine, a loop or a database: what it asks, and what comes of scripted answers."""
+"""One shard without an engine, a loop or a database: its questions, and its effects after scripted
+replies.
+"""
 
 from __future__ import annotations
 
@@ -26,7 +28,7 @@ TRACE = "00-0af7651916cd43dd8448eb211c80319c-b7ad6b7169203331-01"
 
 
 def two() -> DefinitionRegistry:
-    """A saga of two steps in a row; the first can be undone."""
+    """Return a saga of two steps in a row; the first can be undone."""
     saga = sagas.Saga("two")
 
     @saga.step(tries=2)
@@ -41,39 +43,39 @@ def two() -> DefinitionRegistry:
     return DefinitionRegistry([saga])
 
 
-SHELF = two()
+DEFINITIONS = two()
 
 
 def driver() -> ShardDriver:
-    """A new shard with an engine."""
-    found = ShardDriver.created(
-        ShardIdentity(NUMBER, "name", ShardDefinitions(SHELF.kinds)), "line"
+    """Return a new shard with an engine."""
+    shard = ShardDriver.created(
+        ShardIdentity(NUMBER, "name", ShardDefinitions(DEFINITIONS.kinds)), "line"
     )
-    found.to(ShardState.STARTING)
-    found.to(ShardState.ACTIVE)
-    return found
+    shard.to(ShardState.STARTING)
+    shard.to(ShardState.ACTIVE)
+    return shard
 
 
 def instance(key: str) -> SagaInstance:
-    """A saga that is to be opened."""
-    return SagaInstance(key, '{"n":1}', SHELF.kinds[0], 0)
+    """Return a saga that is to be opened."""
+    return SagaInstance(key, '{"n":1}', DEFINITIONS.kinds[0], 0)
 
 
 def opened(number: int) -> str:
-    """The reply to an open."""
+    """Return the reply to an open."""
     return f'{{"event":{{"def":0,"event":"open","saga":{number}}}}}'
 
 
 def event(word: str, phase: str = "going", number: int = 0) -> str:
-    """The reply to a report."""
+    """Return the reply to a report."""
     return f'{{"event":{{"event":"{word}","saga":{number},"step":0}},"phase":"{phase}"}}'
 
 
-def tasks(*found: tuple[int, int, str, int], settled: bool = False) -> str:
-    """The reply to a claim: saga, step, action and number of each."""
+def tasks(*rows: tuple[int, int, str, int], settled: bool = False) -> str:
+    """Return the reply to a claim: saga, step, action and number of each."""
     each = ",".join(
         f'{{"attempt":{count},"name":"x","saga":{saga},"step":{step},"task":"{word}"}}'
-        for saga, step, word, count in found
+        for saga, step, word, count in rows
     )
     return (
         f'{{{chr(34)}settled{chr(34)}:true,"tasks":[{each}]}}'
@@ -83,21 +85,21 @@ def tasks(*found: tuple[int, int, str, int], settled: bool = False) -> str:
 
 
 def come(shard: ShardDriver, *replies: str, text: str = "line\n") -> Effects:
-    """The effects of an answer."""
-    found = shard.replies(replies, text, NOW)
-    assert isinstance(found, Effects)
-    return found
+    """Return the effects of a reply."""
+    effects = shard.replies(replies, text, NOW)
+    assert isinstance(effects, Effects)
+    return effects
 
 
 def kept(shard: ShardDriver, effects: Effects) -> Effects:
-    """The same, once its batch is durable."""
+    """Return the effects of a reply once its batch is durable."""
     shard.writes(effects)
     shard.committed(effects)
     return effects
 
 
 def begun(shard: ShardDriver, key: str = "k") -> Attempt:
-    """The first attempt of a saga that is opened."""
+    """Return the first attempt of a saga that is opened."""
     shard.open(instance(key))
     shard.requests(8)
     (attempt,) = kept(
@@ -107,7 +109,9 @@ def begun(shard: ShardDriver, key: str = "k") -> Attempt:
 
 
 def test_a_saga_from_its_start_to_its_end() -> None:
-    """It is asked for, and nothing of it is so before its commit; its end is in the batch of its last report."""
+    """The shard asks for it, and nothing of it counts before its commit; its end is in the batch of
+    its last report.
+    """
     shard, saga = driver(), instance("k")
     shard.open(saga)
     assert shard.requests(8) == ['{"def":0,"do":"open","saga":0}', '{"do":"next","most":2}']
@@ -153,7 +157,7 @@ def test_a_saga_from_its_start_to_its_end() -> None:
 
 
 def test_no_more_tasks_are_claimed_than_there_are_slots() -> None:
-    """Without one none is asked for; a question has a bounded lot of reports and opens."""
+    """Without a free slot it claims none; a question has a bounded number of reports and opens."""
     shard = driver()
     for number in range(MOST_REPORTS + 10):
         shard.open(instance(f"k{number}"))
@@ -173,7 +177,10 @@ def test_no_more_tasks_are_claimed_than_there_are_slots() -> None:
 
 
 def test_a_shard_that_is_full_takes_no_more() -> None:
-    """Others take those that it was asked for. An empty one has room for any saga: an engine that says otherwise is not the one of this package."""
+    """Other shards take the sagas that it was asked for.
+
+    An empty shard has room for any saga: an engine that reports otherwise is of another package.
+    """
     shard, lives = driver(), [instance(f"k{number}") for number in range(3)]
     for saga in lives:
         shard.open(saga)
@@ -192,11 +199,15 @@ def test_a_shard_that_is_full_takes_no_more() -> None:
         empty.replies(['{"refused":"log-full"}'], "", NOW)
 
 
-def test_a_saga_whose_deadline_has_passed_is_aborted_as_it_is_opened() -> None:
-    """No task of it is claimed: it is planned, and over in the batch that opens it. Where there is no room, it is opened elsewhere."""
+def test_a_saga_past_its_deadline_is_aborted_when_opened() -> None:
+    """No task of it is claimed: it is planned, and over in the batch that opens it.
+
+    If the shard is full, it is opened elsewhere.
+    """
     shard, soon = driver(), instance("soon")
     late, later = (
-        SagaInstance(key, '{"n":1}', SHELF.kinds[0], 0, StartOptions(deadline=NOW)) for key in "ab"
+        SagaInstance(key, '{"n":1}', DEFINITIONS.kinds[0], 0, StartOptions(deadline=NOW))
+        for key in "ab"
     )
     for saga in (soon, late, later):
         shard.open(saga)
@@ -228,7 +239,9 @@ def test_a_saga_whose_deadline_has_passed_is_aborted_as_it_is_opened() -> None:
 
 
 def test_an_engine_that_knows_something_else() -> None:
-    """Another number of replies, a report of what is not on its way, an open with another number: the shard is recovered."""
+    """The reply has another number of lines, a report of an attempt that is not in progress, or an
+    open with another number: the shard is recovered.
+    """
     shard = driver()
     attempt = begun(shard)
     attempt.finish(outcomes.Outcome(outcomes.SUCCEEDED, "1"), NOW)
@@ -245,7 +258,9 @@ def test_an_engine_that_knows_something_else() -> None:
 
 
 def test_a_refused_commit_makes_it_stale() -> None:
-    """What was asked meanwhile is not answered any more; a stale shard is asked nothing."""
+    """Questions that were asked in the meantime get no reply any more; a stale shard asks
+    nothing.
+    """
     shard = driver()
     attempt = begun(shard)
     attempt.finish(outcomes.Outcome(outcomes.SUCCEEDED, "1"), NOW)
@@ -264,8 +279,8 @@ def test_a_refused_commit_makes_it_stale() -> None:
 
 
 def shown(phase: str, answer: object, states: list[str]) -> str:
-    """A reply to `show`."""
-    told = {
+    """Return a reply to `show`."""
+    reply = {
         "aborted": False,
         "kept": [],
         "name": "trip",
@@ -274,13 +289,16 @@ def shown(phase: str, answer: object, states: list[str]) -> str:
         "states": states,
     }
     return json.dumps(
-        told | ({"answer": answer} if answer else {}), separators=(",", ":"), sort_keys=True
+        reply | ({"answer": answer} if answer else {}), separators=(",", ":"), sort_keys=True
     )
 
 
-def test_a_saga_that_fails_drains_and_its_end_is_asked() -> None:
-    """Once it is over, how it ended goes into the batch of the answer that ends it. It is asked along with what is expected to end it; where
-    that does not, behind the reply that does."""
+def test_a_failing_saga_drains_and_its_result_is_requested() -> None:
+    """Once it is over, its result goes into the batch of the reply that ends it.
+
+    The question is sent along with the report that should end it; if another report ends it, after
+    that reply.
+    """
     shard = driver()
     attempt = begun(shard)
     saga = attempt.instance
@@ -294,7 +312,8 @@ def test_a_saga_that_fails_drains_and_its_end_is_asked() -> None:
     assert effects.rare.draining == [saga] and saga.draining and "no" in saga.rare.errors[0]
     shard.requests(8)
     plan = {"answer": {"kind": "plan", "cost": 3}, "phase": "ended", "saga": 0, "task": "plan"}
-    (show,) = shard.replies([json.dumps({"settled": True, "tasks": [plan]})], "plan\n", NOW)  # type: ignore[misc]
+    claim = json.dumps({"settled": True, "tasks": [plan]})
+    (show,) = shard.replies([claim], "plan\n", NOW)  # type: ignore[misc]
     assert show == '{"do":"show","saga":0}'
     effects = kept(
         shard, come(shard, shown("ended", plan["answer"], ["fixed", "waiting"]), text="")
@@ -304,10 +323,10 @@ def test_a_saga_that_fails_drains_and_its_end_is_asked() -> None:
         and effects.ended == [saga]
         and effects.batch.text == "plan\n"
     )
-    ((phase, told, recovered, undo_failed, at, id),) = effects.batch.ended
-    assert (
-        told
-        == '{"aborted":false,"answer":{"cost":3,"kind":"plan"},"kept":[],"states":["fixed","waiting"]}'
+    ((phase, outcome, recovered, undo_failed, at, id),) = effects.batch.ended
+    assert outcome == (
+        '{"aborted":false,"answer":{"cost":3,"kind":"plan"},"kept":[],'
+        '"states":["fixed","waiting"]}'
     )
     assert (phase, recovered, undo_failed, at, id) == (
         "ended",
@@ -319,7 +338,7 @@ def test_a_saga_that_fails_drains_and_its_end_is_asked() -> None:
 
 
 def test_an_abort_is_answered() -> None:
-    """With the command that it is of, in the batch."""
+    """The reply comes with the command of the abort, in the batch."""
     shard = driver()
     saga = begun(shard).instance
     for reply, done in (('{"refused":"over"}', False), (event("abort", "draining"), True)):
@@ -341,7 +360,7 @@ def test_an_abort_is_answered() -> None:
 
 
 def test_a_suspension_is_kept_by_itself() -> None:
-    """Its batch has the row alone, behind what was answered."""
+    """Its batch has only the row, after the replies before it."""
     shard = driver()
     attempt = begun(shard)
     effects = shard.suspended(attempt, SuspensionRow(Suspension.UNKNOWN, 60.0, "lost"), NOW)
@@ -356,7 +375,7 @@ def test_a_suspension_is_kept_by_itself() -> None:
 
 
 def test_a_state_that_may_not_follow(monkeypatch: pytest.MonkeyPatch) -> None:
-    """By the table."""
+    """The table forbids it."""
     monkeypatch.setattr(Check, "is_on", True)
     shard = driver()
     shard.to(ShardState.CLOSED)
@@ -365,7 +384,7 @@ def test_a_state_that_may_not_follow(monkeypatch: pytest.MonkeyPatch) -> None:
 
 
 def rows(*, results: list[Any] = [], held: list[Any] = [], open: bool = True) -> Loaded:
-    """What the store has of a shard with one saga."""
+    """Return the rows of the store for a shard with one saga."""
     there = [(7000, "k", 0, '{"n":1}', 9.0, TRACE, None)] if open else []
     return Loaded("x\n", 1, 1, there, results, held, epoch=3, line="other")
 
@@ -373,53 +392,63 @@ def rows(*, results: list[Any] = [], held: list[Any] = [], open: bool = True) ->
 def recovered(
     shard: ShardDriver, loaded: Loaded, busy: list[tuple[int, str, int]]
 ) -> recovery.Recovery:
-    """A shard that was taken up from them."""
+    """Return a shard that was recovered from them."""
     shard.fail()
     shard.to(ShardState.LOADING)
     shard.loaded(loaded)
     known = {saga.key: saga for saga in shard.sagas.values()}
-    asked, new = recovery.unopened(shard, loaded, known)
-    assert not asked and not new and recovery.requests(loaded) == ['{"do":"busy"}']
-    told = [{"saga": 0, "step": step, "task": word, "attempt": count} for step, word, count in busy]
-    return recovery.recover(loaded, [json.dumps({"busy": told})], NOW, shard, known)
+    starting, new = recovery.unopened(shard, loaded, known)
+    assert not starting and not new and recovery.requests(loaded) == ['{"do":"busy"}']
+    busy_tasks = [
+        {"saga": 0, "step": step, "task": word, "attempt": count} for step, word, count in busy
+    ]
+    return recovery.recover(loaded, [json.dumps({"busy": busy_tasks})], NOW, shard, known)
 
 
-def test_what_runs_stays_and_what_had_not_begun_is_forgotten() -> None:
-    """An attempt that the engine knows as begun is the same one; another, of which the store knows nothing, is none."""
+def test_recovery_keeps_running_attempts_and_drops_new_ones() -> None:
+    """An attempt that the engine knows as started stays the same one; another one, which the store
+    does not know, is dropped.
+    """
     shard = driver()
     attempt = begun(shard)
     attempt.start()
-    found = recovered(shard, rows(), [(0, "run", 1)])
+    recovery_result = recovered(shard, rows(), [(0, "run", 1)])
     assert (
-        found.resumed == [attempt] and attempt.state is AttemptState.RUNNING and not found.forgotten
+        recovery_result.resumed == [attempt]
+        and attempt.state is AttemptState.RUNNING
+        and not recovery_result.forgotten
     )
     assert (
         shard.state is ShardState.ACTIVE
         and shard.known == (3, "other")
         and shard.epoch == 3
-        and found.restored == [attempt.instance]
+        and recovery_result.restored == [attempt.instance]
     )
-    found = recovered(shard, rows(), [])
-    assert found.resumed == [] and found.forgotten == [attempt] and attempt.instance.busy == {}
+    recovery_result = recovered(shard, rows(), [])
+    assert (
+        recovery_result.resumed == []
+        and recovery_result.forgotten == [attempt]
+        and attempt.instance.busy == {}
+    )
 
 
 def test_a_finished_attempt_is_reported_again_or_replaced() -> None:
-    """It stays finished. Where its transaction is not there, a new one takes its place."""
+    """It stays finished. If its transaction is missing, a new attempt replaces it."""
     shard = driver()
     attempt = begun(shard)
     attempt.finish(outcomes.Outcome(outcomes.SUCCEEDED, "1"), NOW)
     shard.report(attempt)
-    found = recovered(shard, rows(), [(0, "run", 1)])
+    recovery_result = recovered(shard, rows(), [(0, "run", 1)])
     assert (
-        found.resumed == [attempt]
+        recovery_result.resumed == [attempt]
         and attempt.state is AttemptState.FINISHED
         and [*shard.unkept()] == []
     )
     attempt.recorded = True
-    found = recovered(shard, rows(), [(0, "run", 1)])
-    (other,) = found.resumed
+    recovery_result = recovered(shard, rows(), [(0, "run", 1)])
+    (other,) = recovery_result.resumed
     assert (
-        found.forgotten == [attempt]
+        recovery_result.forgotten == [attempt]
         and other is not attempt
         and other.state is AttemptState.CLAIMED
         and not other.fresh
@@ -430,8 +459,12 @@ def test_a_finished_attempt_is_reported_again_or_replaced() -> None:
     ("epoch", "line", "is_ours"),
     [(1, "line", True), (2, "line", True), (3, "line", False), (2, "other", False)],
 )
-def test_what_was_given_up_is_decided_again(epoch: int, line: str, is_ours: bool) -> None:
-    """And what waits is made anew from its row, where another node may have had the shard, or another server took over: it may have been called there."""
+def test_an_attempt_that_was_given_up_is_decided_again(
+    epoch: int, line: str, is_ours: bool
+) -> None:
+    """A waiting attempt is made again from its row if another node may have had the shard, or
+    another server took over: it may have been called there.
+    """
     shard = driver()
     attempt = begun(shard)
     attempt.finish(outcomes.failure("not called", called=False), NOW)
@@ -445,17 +478,19 @@ def test_what_was_given_up_is_decided_again(epoch: int, line: str, is_ours: bool
     )
     shard.known = (1, "line")
     given_up.suspend(Suspension.BACKOFF, NOW + 1)
-    found = recovered(shard, loaded, [(0, "run", 1)])
-    (other,) = found.resumed
+    recovery_result = recovered(shard, loaded, [(0, "run", 1)])
+    (other,) = recovery_result.resumed
     assert (
         (other is given_up) is is_ours
-        and (given_up in found.forgotten) is not is_ours
+        and (given_up in recovery_result.forgotten) is not is_ours
         and other.fresh is is_ours
     )
 
 
 def test_rows_of_an_earlier_program() -> None:
-    """A result whose report is not there is reported; a suspension goes on; a saga that is over is gone."""
+    """A result without its report is reported; a suspension continues; a saga that is
+    over is gone.
+    """
     row = (7000, 0, "run", 1)
     begun_before = recovered(
         begun_shard := driver(), rows(results=[(*row, "ok", '"r"', 9.0)]), [(0, "run", 1)]
@@ -482,8 +517,10 @@ def test_rows_of_an_earlier_program() -> None:
     assert [one.key for one in gone.gone] == ["k"] and not gone.restored and not begun_shard.sagas
 
 
-def test_aborts_are_asked_again_or_answered() -> None:
-    """Of a saga that is open once more; of one that is gone it did nothing."""
+def test_aborts_are_repeated_or_answered() -> None:
+    """An abort of a saga that is open again is repeated; the abort of a saga that is gone did
+    nothing.
+    """
     shard = driver()
     saga = begun(shard).instance
     abort = Abort(saga)
@@ -494,12 +531,12 @@ def test_aborts_are_asked_again_or_answered() -> None:
         and shard.aborts == [abort]
         and shard.aborting == []
     )
-    found = recovered(shard, rows(open=False), [])
-    assert found.aborted == [abort] and abort.done is False and shard.aborts == []
+    recovery_result = recovered(shard, rows(open=False), [])
+    assert recovery_result.aborted == [abort] and abort.done is False and shard.aborts == []
 
 
 def aborted_by_the_log(shard: ShardDriver) -> recovery.Recovery:
-    """A shard that was taken up after its engine ended, and of which the log has an abort."""
+    """Return a shard that was recovered after its engine ended, with an abort in its log."""
     loaded = rows()
     loaded.text = event("abort", "draining")
     shard.fail()
@@ -507,14 +544,14 @@ def aborted_by_the_log(shard: ShardDriver) -> recovery.Recovery:
     shard.loaded(loaded)
     reply = shown("draining", None, ["running", "waiting"]).replace("false", "true", 1)
     known = {saga.key: saga for saga in shard.sagas.values()}
-    told = json.dumps({"busy": [{"saga": 0, "step": 0, "task": "run", "attempt": 1}]})
-    return recovery.recover(loaded, [told, reply], NOW, shard, known)
+    busy_reply = json.dumps({"busy": [{"saga": 0, "step": 0, "task": "run", "attempt": 1}]})
+    return recovery.recover(loaded, [busy_reply, reply], NOW, shard, known)
 
 
 @pytest.mark.parametrize("is_answered", [False, True])
 def test_a_saga_is_aborted_by_one_abort(is_answered: bool) -> None:
-    """Of two that were asked when the engine ended, by the first: by neither if another one was
-    answered before.
+    """Two aborts were requested when the engine ended: the first one counts, or neither if another
+    one had its reply before.
     """
     shard = driver()
     saga = begun(shard).instance
@@ -528,27 +565,27 @@ def test_a_saga_is_aborted_by_one_abort(is_answered: bool) -> None:
     for abort in aborts:
         shard.abort(abort)
     shard.requests(0)
-    found = aborted_by_the_log(shard)
-    assert found.aborted == aborts
+    recovery_result = aborted_by_the_log(shard)
+    assert recovery_result.aborted == aborts
     assert [abort.done for abort in aborts] == [not is_answered, False]
 
 
 def test_a_saga_that_comes_from_the_store_has_its_options() -> None:
     """Another program started it: deadline and trace context are in the store."""
     shard = driver()
-    found = recovered(shard, rows(), [])
-    (saga,) = found.restored
+    recovery_result = recovered(shard, rows(), [])
+    (saga,) = recovery_result.restored
     assert (saga.options.deadline, saga.options.traceparent) == (9.0, TRACE)
     attempt = Attempt(saga, 0, "run", 1, fresh=True)
     assert attempt.traceparent == attempt.task().traceparent == TRACE
 
 
 def test_labels_go_with_the_row_of_their_saga() -> None:
-    """A saga that is displaced takes them into the next shard; others have no row of them."""
+    """A saga that is displaced takes them into the next shard; other sagas have no row of them."""
     saga = SagaInstance(
         "k",
         "1",
-        SHELF.kinds[0],
+        DEFINITIONS.kinds[0],
         0,
         StartOptions({"customer": "7", "region": "north"}, 5.0, traceparent=TRACE),
     )
@@ -569,8 +606,10 @@ def test_labels_go_with_the_row_of_their_saga() -> None:
     assert come(shard, opened(1)).batch.rare is None
 
 
-def test_a_plan_and_what_it_begins_come_by_one_question() -> None:
-    """Of each saga that is expected to be planned, a task more is asked for, also beyond the slots: a plan comes before what it undoes."""
+def test_a_plan_comes_with_its_compensations() -> None:
+    """For each saga that is expected to be planned, one more task is claimed, also beyond the
+    slots: a plan comes before the compensations.
+    """
     shard = driver()
     one, two = begun(shard, "one"), begun(shard, "two")
     for attempt in (one, two):

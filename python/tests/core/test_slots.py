@@ -1,4 +1,4 @@
-"""Slots: who is called when, with a step's own limit, without a loop."""
+"""Slots: the order of calls, with a step's own limit, without a loop."""
 
 from __future__ import annotations
 
@@ -33,7 +33,7 @@ KIND = DefinitionRegistry([SAGA]).kinds[0]
 
 
 class Shard:
-    """It waits for slots, and counts how often it was told of them."""
+    """A shard that waits for slots, and counts its notifications."""
 
     pokes = 0
 
@@ -66,7 +66,7 @@ class Store:
 
 @pytest.fixture(autouse=True)
 def checked() -> Iterator[None]:
-    """Each transition is looked up."""
+    """Check each transition."""
     before, states.Check.is_on = states.Check.is_on, True
     yield
     states.Check.is_on = before
@@ -84,7 +84,7 @@ def test_attempts_come_in_turn() -> None:
     assert len(store.called) == 3 and store.slots.running == 0 and store.slots.free() == 2
 
 
-def test_who_is_over_its_steps_limit_keeps_nobody_back() -> None:
+def test_an_attempt_over_its_limit_delays_no_other() -> None:
     store = Store(3)
     first, second, third = (store.enter("narrow") for _ in range(3))
     assert store.called == [first] and (second.state, second.reason) == (
@@ -93,13 +93,15 @@ def test_who_is_over_its_steps_limit_keeps_nobody_back() -> None:
     )
     other = store.enter("wide")
     assert store.called == [first, other]
-    second.forget()  # it was given up meanwhile
+    second.forget()  # it was given up in the meantime
     store.slots.leave(first)
     assert store.called == [first, other, third]
 
 
-def test_a_limit_that_nobody_needs_is_not_kept() -> None:
-    """Also if who waited was given up meanwhile: limits of keys come and go."""
+def test_an_unused_limit_is_dropped() -> None:
+    """The same holds if the waiting attempt was given up in the meantime: limits of keys come and
+    go.
+    """
     store = Store(3)
     first, second = (store.enter("narrow") for _ in range(2))
     second.forget()
@@ -114,7 +116,7 @@ def test_slots_are_taken_for_many_at_once() -> None:
     assert store.slots.running == 0
 
 
-def test_shards_that_want_slots_are_told_of_them() -> None:
+def test_waiting_shards_are_notified_of_slots() -> None:
     store, shard, other = Store(2), Shard(), Shard()
     store.slots.reserve(2)
     store.slots.starve(shard)
@@ -137,7 +139,9 @@ def test_a_store_that_is_closed_begins_nothing() -> None:
 
 
 def test_slots_are_shared_among_tenants() -> None:
-    """Whoever comes and goes: the next one is of a waiting tenant with the fewest slots, and each tenant's go in their order."""
+    """The next one is always of a waiting tenant with the fewest slots, and each tenant's attempts
+    run in their order.
+    """
     draw = random.Random(62)
     saga = sagas.Saga("fair", fair_by=lambda given: given)
     saga.step(name="a", undo=0)(wide.run.function)

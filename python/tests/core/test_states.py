@@ -1,4 +1,4 @@
-"""The states, what may follow what, and the words for each."""
+"""The states, their transitions, and the words for each."""
 
 from __future__ import annotations
 
@@ -41,14 +41,14 @@ WRITERS: dict[AttemptState, Callable[[Attempt], object]] = {
 
 @pytest.fixture(autouse=True)
 def checked() -> Iterator[None]:
-    """Each transition is looked up."""
+    """Check each transition."""
     before, states.Check.is_on = states.Check.is_on, True
     yield
     states.Check.is_on = before
 
 
 def attempt_in(state: AttemptState) -> Attempt:
-    """An attempt that stands there."""
+    """Return an attempt in that state."""
     saga = sagas.Saga("one")
 
     @saga.step(undo=0)
@@ -76,7 +76,7 @@ def test_a_table_has_each_state_and_each_is_reached(machine: type[enum.Enum]) ->
 
 
 @pytest.mark.parametrize(("before", "after"), itertools.product(AttemptState, AttemptState))
-def test_an_attempt_goes_only_where_its_table_lets_it(
+def test_an_attempt_follows_the_table_of_transitions(
     before: AttemptState, after: AttemptState
 ) -> None:
     attempt = attempt_in(before)
@@ -142,5 +142,5 @@ def test_the_events_of_a_step_keep_to_its_table() -> None:
     assert set(states.EVENT_STATES.values()) == set(StepState)
 
 
-def test_each_suspension_has_its_words() -> None:
+def test_each_suspension_has_its_text() -> None:
     assert set(Suspension) <= set(states.WAITS_FOR)

@@ -1,6 +1,6 @@
-"""The core as a whole: random definitions, outcomes, refused commits, deaths of the engine at each point, recovery.
+"""The core as a whole: random definitions, outcomes, refused commits, engine deaths, recovery.
 
-No event loop, database or network has a part in it; `core_world.py` says what judges it.
+No event loop, database or network takes part; `core_world.py` describes how the result is judged.
 """
 
 from __future__ import annotations
@@ -44,12 +44,12 @@ MANNERS = st.sampled_from(
 
 
 def cost(value: int | str) -> sagas.Cost:
-    """A cost as the package takes it."""
+    """Return a cost as the package takes it."""
     return value if isinstance(value, int) else sagas.NEVER
 
 
 def nothing(task: sagas.Task[Any]) -> None:
-    """It is never called: the world says what comes of it."""
+    """A step that is never called: the world decides its outcome."""
 
 
 async def simple(task: sagas.Task[Any]) -> None:
@@ -57,45 +57,50 @@ async def simple(task: sagas.Task[Any]) -> None:
 
 
 def declare(saga: sagas.Saga, drawn: list[StepDraw], number: int, manner: str) -> None:
-    """One step, in its manner."""
+    """Declare one step of that kind."""
     one = drawn[number]
-    words: dict[str, Any] = {
+    options: dict[str, Any] = {
         "name": one.name,
         "needs": [drawn[need].name for need in one.needs],
         "skip": cost(one.skip),
     }
     if one.undo != "never":
-        words["undo"] = cost(one.undo)
+        options["undo"] = cost(one.undo)
     if manner == "wait":
         step = saga.wait(
             until=datetime.timedelta(hours=1),
             tries=one.tries,
             backoff=SOON,
             keep=cost(one.keep),
-            **words,
+            **options,
         )(nothing)
     elif manner.endswith("approval"):
         timeout = 3600 if manner.startswith("timed") else None
-        step = saga.approval(timeout=timeout, tries=one.tries, backoff=SOON, **words)(nothing)
+        step = saga.approval(timeout=timeout, tries=one.tries, backoff=SOON, **options)(nothing)
     else:
-        words |= {"run": cost(one.run), "keep": cost(one.keep), "tries": one.tries, "backoff": SOON}
+        options |= {
+            "run": cost(one.run),
+            "keep": cost(one.keep),
+            "tries": one.tries,
+            "backoff": SOON,
+        }
         if manner == "external":
-            step = saga.step(external=True, **words)
+            step = saga.step(external=True, **options)
             if one.undo != "never":
                 step.compensation(external=True, tries=one.undo_tries, backoff=SOON)
             return
         most = datetime.timedelta(minutes=1) if manner == "timed" else 2
         function = simple if manner == "simple" else nothing
-        words |= ENDS.get(manner, {})
-        step = saga.step(max_unknown=most, transaction=manner == "transaction", **words)(function)
+        options |= ENDS.get(manner, {})
+        step = saga.step(max_unknown=most, transaction=manner == "transaction", **options)(function)
     if one.undo != "never":
-        words = ENDS.get(manner, {"on_exhausted": "fail"})
-        step.compensation(tries=one.undo_tries, backoff=SOON, max_unknown=1, **words)(nothing)
+        options = ENDS.get(manner, {"on_exhausted": "fail"})
+        step.compensation(tries=one.undo_tries, backoff=SOON, max_unknown=1, **options)(nothing)
 
 
 @st.composite
 def definitions(draw: st.DrawFn) -> sagas.Saga:
-    """A saga with steps in any manner."""
+    """Return a saga with steps of any kind."""
     drawn = draw(steps())
     saga = sagas.Saga(f"saga{draw(st.integers(0, 10**6))}")
     for number in range(len(drawn)):
@@ -105,7 +110,9 @@ def definitions(draw: st.DrawFn) -> sagas.Saga:
 
 @pytest.mark.parametrize("part", range(4))
 def test_whatever_happens(part: int, monkeypatch: pytest.MonkeyPatch) -> None:
-    """Each saga ends as the rules say, over at least 25,000 transitions of attempts, shards and steps in each part."""
+    """Each saga ends by the rules, over at least 25,000 transitions of attempts, shards and steps
+    in each part.
+    """
     transitions = 0
 
     def count(table: Any, before: Any, after: Any) -> None:

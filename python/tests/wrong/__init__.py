@@ -1,6 +1,7 @@
-"""Wrong coordinators: each module changes one thing in the package by `apply()`, and names in `FINDS` the fault by which the judge finds it.
+"""Mutants of the coordinator: each module changes one thing in the package by `apply()`.
 
-`STRIKES` is the kind of strike under which it shows, one of those of `kills.py`.
+`FINDS` is the name of the fault by which the verifier must find it. `STRIKES` is the kind of strike
+that reveals it, one of those of `kills.py`.
 """
 
 from __future__ import annotations
@@ -12,7 +13,10 @@ from sagas.storage.sqlite.writer import Events, Writer
 
 
 def slow_disk() -> None:
-    """Commits take five milliseconds, and are made in the thread: what is done before one is seen before it, however fast the disk is."""
+    """Make each commit take five milliseconds in its thread.
+
+    Actions before a commit are then seen before it, however fast the disk is.
+    """
     right = Writer._sync
 
     def sync(self: Writer, events: Events, patient: bool) -> float:

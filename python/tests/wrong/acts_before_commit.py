@@ -1,4 +1,4 @@
-"""Functions are called, and callers told, before the commit."""
+"""Functions are called, and callers notified, before the commit."""
 
 from __future__ import annotations
 
@@ -13,7 +13,7 @@ STRIKES = "program"
 
 
 def apply() -> None:
-    """Acts first, and commits then."""
+    """Act first, and commit then."""
     slow_disk()
     right, act = ShardRunner._commit, EffectHandler.committed
 

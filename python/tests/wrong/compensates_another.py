@@ -1,4 +1,4 @@
-"""A compensation is handed its own token for that of the action which it undoes."""
+"""A compensation gets its own token instead of that of the action which it undoes."""
 
 from __future__ import annotations
 
@@ -11,7 +11,7 @@ STRIKES = "child"
 
 
 def apply() -> None:
-    """Mistakes one token for the other."""
+    """Mistake one token for the other."""
 
     def original_idempotency_key(self: Task[Any]) -> str:
         return self.idempotency_key

@@ -1,4 +1,4 @@
-"""Who waits for the end hears of it before the commit."""
+"""Callers that wait for the end are notified before the commit."""
 
 from __future__ import annotations
 
@@ -12,7 +12,7 @@ STRIKES = "program"
 
 
 def apply() -> None:
-    """Tells of an end as soon as the engine has answered."""
+    """Report an end as soon as the engine has replied."""
     slow_disk()
     right = EffectHandler.at_once
 

@@ -1,4 +1,4 @@
-"""What a function raises is swallowed."""
+"""Exceptions of functions are swallowed."""
 
 from __future__ import annotations
 
@@ -11,7 +11,7 @@ STRIKES = "child"
 
 
 def apply() -> None:
-    """Takes each failure for done."""
+    """Take each failure for success."""
 
     def raised(error: BaseException, manner: Manner) -> Outcome:
         return outcomes.succeeded(None)

@@ -1,4 +1,4 @@
-"""An abort is promised, and nobody is told of it."""
+"""An abort is promised, and does not reach the engine."""
 
 from __future__ import annotations
 
@@ -9,7 +9,7 @@ STRIKES = "child"
 
 
 def apply() -> None:
-    """Says yes."""
+    """Return yes."""
 
     async def abort(self: Store, key: str) -> bool:
         return True

@@ -1,4 +1,4 @@
-"""What an earlier program had begun is not taken up again."""
+"""Attempts that an earlier program had started are not recovered."""
 
 from __future__ import annotations
 
@@ -11,11 +11,11 @@ STRIKES = "program"
 
 
 def apply() -> None:
-    """Takes nothing for busy."""
+    """Take nothing for busy."""
     right = recovery._resume
 
-    def resume(found: recovery.Recovery, *words: Any) -> None:
-        right(found, *words)
-        found.resumed.clear()
+    def resume(recovered: recovery.Recovery, *arguments: Any) -> None:
+        right(recovered, *arguments)
+        recovered.resumed.clear()
 
     setattr(recovery, "_resume", resume)

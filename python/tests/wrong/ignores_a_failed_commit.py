@@ -1,4 +1,4 @@
-"""A commit that failed is taken for one that did not."""
+"""A commit that failed is taken for one that succeeded."""
 
 from __future__ import annotations
 
@@ -10,7 +10,7 @@ STRIKES = "disk"
 
 
 def apply() -> None:
-    """Acts whatever became of the commit."""
+    """Act whatever the result of the commit."""
 
     def failed(self: ShardRunner, effects: Effects, fault: BaseException | None) -> None:
         self.committed(effects)

@@ -10,7 +10,10 @@ STRIKES = "closing"
 
 
 def apply() -> None:
-    """Leaves the last line of a batch out, once: of the third, or of the first behind it that has several."""
+    """Leave the last line of a batch out, once.
+
+    It is the third batch, or the first later one that has several lines.
+    """
     right, count, is_done = ShardRunner._commit, 0, False
 
     def commit(self: ShardRunner, effects: Effects, at_once: bool) -> None:

@@ -10,7 +10,7 @@ STRIKES = "child"
 
 
 def apply() -> None:
-    """Leaves each seventh batch's results out."""
+    """Leave each seventh batch's results out."""
     right, count = ShardRunner._commit, 0
 
     def commit(self: ShardRunner, effects: Effects, at_once: bool) -> None:

@@ -1,4 +1,4 @@
-"""A function is handed the input that the saga before it had."""
+"""A function gets the input of the saga before it."""
 
 from __future__ import annotations
 
@@ -9,7 +9,7 @@ STRIKES = "child"
 
 
 def apply() -> None:
-    """Keeps one input for all."""
+    """Keep one input for all."""
     first = ""
 
     def given(self: Attempt) -> str:

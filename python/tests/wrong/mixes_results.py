@@ -1,4 +1,4 @@
-"""A function is handed the results of another saga."""
+"""A function gets the results of another saga."""
 
 from __future__ import annotations
 

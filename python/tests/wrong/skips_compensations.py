@@ -1,4 +1,4 @@
-"""Compensations are taken for done, and not called."""
+"""Compensations count as done, and are not called."""
 
 from __future__ import annotations
 
@@ -12,7 +12,7 @@ STRIKES = "child"
 
 
 def apply() -> None:
-    """Reports them as done."""
+    """Report them as done."""
     right = AttemptMachine.begin
 
     def begin(self: AttemptMachine, attempt: Attempt, now: float) -> Decision:

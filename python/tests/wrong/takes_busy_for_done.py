@@ -1,4 +1,4 @@
-"""What an earlier program had begun is taken for done."""
+"""Attempts that an earlier program had started count as done."""
 
 from __future__ import annotations
 
@@ -12,12 +12,12 @@ STRIKES = "program"
 
 
 def apply() -> None:
-    """Reports what is found busy, without a call."""
+    """Report busy attempts without a call."""
     right = recovery._resume
 
-    def resume(found: recovery.Recovery, *words: Any) -> None:
-        right(found, *words)
-        for attempt in found.resumed:
+    def resume(recovered: recovery.Recovery, *arguments: Any) -> None:
+        right(recovered, *arguments)
+        for attempt in recovered.resumed:
             if attempt.state is AttemptState.CLAIMED:
                 attempt.finish(outcomes.succeeded(None), 0.0)
 

@@ -1,4 +1,4 @@
-"""Who waits for a start hears of it before the commit."""
+"""Callers that wait for a start are notified before the commit."""
 
 from __future__ import annotations
 
@@ -12,7 +12,7 @@ STRIKES = "program"
 
 
 def apply() -> None:
-    """Tells of an opening as soon as the engine has answered."""
+    """Report an opening as soon as the engine has replied."""
     slow_disk()
     right = EffectHandler.at_once
 

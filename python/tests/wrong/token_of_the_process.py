@@ -12,7 +12,7 @@ STRIKES = "program"
 
 
 def apply() -> None:
-    """Puts the number of the process into the token."""
+    """Put the number of the process into the token."""
 
     def idempotency_key(self: Task[Any]) -> str:
         return f"{self._data.saga_token}-{self.step}-{'undo' if self.is_compensation else 'run'}{os.getpid()}"

@@ -11,7 +11,7 @@ STRIKES = "child"
 
 
 def apply() -> None:
-    """Leaves the step out."""
+    """Leave the step out."""
 
     def idempotency_key(self: Task[Any]) -> str:
         return f"{self._data.saga_token}-step-{'undo' if self.is_compensation else 'run'}"

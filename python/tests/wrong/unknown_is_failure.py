@@ -11,7 +11,7 @@ STRIKES = "child"
 
 
 def apply() -> None:
-    """Calls what nobody knows a failure."""
+    """Take an unknown outcome for a failure."""
 
     def raised(error: BaseException, manner: Manner) -> Outcome:
         return outcomes.failure(str(error))

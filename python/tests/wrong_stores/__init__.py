@@ -1,6 +1,8 @@
-"""Wrong stores over PostgreSQL: each module changes one thing by `apply()`, and names in `FINDS` the faults by any of which the judge finds it.
+"""Mutants of the store over PostgreSQL: each module changes one thing by `apply()`.
 
-The record of its nodes shows it too, unless `UNRECORDED` says why it cannot.
+`FINDS` has the names of the faults; the verifier must find it by one of them. The record of its
+nodes shows it too, unless `UNRECORDED` says why it cannot.
 
-`MOMENT` is the moment of `moments.py` at which it shows each time; `STRIKES` the kind of strike under which it mostly does, one of those of `kills_nodes.py`.
+`MOMENT` is the moment of `moments.py` that reveals it each time. `STRIKES` is the kind of strike
+that mostly reveals it, one of those of `kills_nodes.py`.
 """

@@ -1,4 +1,4 @@
-"""What a step inside did is committed, and the record of its result behind that, by itself."""
+"""The effect of a step inside is committed, and the record of its result later, by itself."""
 
 from __future__ import annotations
 
@@ -13,7 +13,7 @@ UNRECORDED = "a step's own transaction has no event, so no record has it"
 
 
 def apply() -> None:
-    """Puts the commit first."""
+    """Commit first."""
     right = step_commit.record_and_commit
 
     def wrong(link: Any, row: Sequence[Any], fence: step_commit.Fence, value: str) -> str:

@@ -1,4 +1,4 @@
-"""A commit writes whatever it is given, whoever has the log now."""
+"""A commit writes everything, whichever node has the log now."""
 
 from __future__ import annotations
 
@@ -21,16 +21,22 @@ MOMENT = "another_node_has_the_log"
 
 
 def apply() -> None:
-    """Takes each log for this node's, and what is there for what it meant."""
+    """Take each log for this node's, and the stored lines for its own."""
     setattr(commit_statement, "KEPT", commit_statement.KEPT.replace(" FOR SHARE", ""))
     setattr(
         commit_statement,
         "ALONE",
-        "shard = $3::bigint AND $2::text IS NOT NULL AND $4::bigint IS NOT NULL AND num_nulls($5::integer, $6::float8) >= 0",
+        (
+            "shard = $3::bigint AND $2::text IS NOT NULL AND $4::bigint IS NOT NULL AND"
+            " num_nulls($5::integer, $6::float8) >= 0"
+        ),
     )
     setattr(
         commit_statement,
         "LISTED",
-        "shard = ANY($3::bigint[]) AND $2::text IS NOT NULL AND $4::bigint[] IS NOT NULL AND num_nulls($5::integer[], $6::float8[]) >= 0",
+        (
+            "shard = ANY($3::bigint[]) AND $2::text IS NOT NULL AND $4::bigint[] IS NOT NULL AND"
+            " num_nulls($5::integer[], $6::float8[]) >= 0"
+        ),
     )
     commit_statement.PARTS["lines"] += " ON CONFLICT DO NOTHING"

@@ -1,4 +1,4 @@
-"""A commit of one log writes whatever it is given where the log is this node's, though it was taken up again meanwhile."""
+"""A commit of one log writes everything if the log is this node's, even after another takeover."""
 
 from __future__ import annotations
 
@@ -9,7 +9,7 @@ MOMENT = "a_refused_start_comes_late"
 
 
 def apply() -> None:
-    """The owner alone is compared."""
+    """Compare only the owner."""
     setattr(
         commit_statement,
         "ALONE",

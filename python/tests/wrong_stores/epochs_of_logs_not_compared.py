@@ -9,7 +9,7 @@ MOMENT = "a_commit_of_two_logs_comes_late"
 
 
 def apply() -> None:
-    """The owner alone is compared."""
+    """Compare only the owner."""
     right = commit_statement.LISTED
     setattr(
         commit_statement,

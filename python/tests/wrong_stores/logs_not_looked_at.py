@@ -1,4 +1,4 @@
-"""A commit of several logs writes whatever it is given, whoever has them now."""
+"""A commit of several logs writes everything, whichever nodes have them now."""
 
 from __future__ import annotations
 
@@ -9,9 +9,12 @@ MOMENT = "another_node_has_one_of_two_logs"
 
 
 def apply() -> None:
-    """Takes each log for this node's."""
+    """Take each log for this node's."""
     setattr(
         commit_statement,
         "LISTED",
-        "shard = ANY($3::bigint[]) AND $2::text IS NOT NULL AND $4::bigint[] IS NOT NULL AND num_nulls($5::integer[], $6::float8[]) >= 0",
+        (
+            "shard = ANY($3::bigint[]) AND $2::text IS NOT NULL AND $4::bigint[] IS NOT NULL AND"
+            " num_nulls($5::integer[], $6::float8[]) >= 0"
+        ),
     )

@@ -1,4 +1,4 @@
-"""The statement writes nothing of a log that is another node's, and nobody looks at what it says."""
+"""The statement writes nothing of a log that is another node's, and its reply is ignored."""
 
 from __future__ import annotations
 
@@ -15,7 +15,7 @@ MOMENT = "another_node_has_the_log"
 
 
 def apply() -> None:
-    """Says of each log that it was written."""
+    """Report each log as written."""
     right = PostgreSQL.commit
 
     def commit(self: PostgreSQL, batches: Sequence[Batch], then: CommitCallback, now: bool) -> None:

@@ -1,4 +1,4 @@
-"""A commit of one log writes whatever joins on to its lines, whoever has the log now."""
+"""A commit of one log writes all lines that join on, whichever node has the log now."""
 
 from __future__ import annotations
 
@@ -9,6 +9,9 @@ MOMENT = "another_node_has_the_only_log"
 
 
 def apply() -> None:
-    """Neither owner nor epoch is compared; the primary key of `lines` refuses what it did."""
-    fence = "shard = $3::bigint AND $2::text IS NOT NULL AND $4::bigint IS NOT NULL AND num_nulls($5::integer, $6::float8) >= 0"
+    """Compare neither owner nor epoch; the primary key of `lines` refuses what it did before."""
+    fence = (
+        "shard = $3::bigint AND $2::text IS NOT NULL AND $4::bigint IS NOT NULL AND"
+        " num_nulls($5::integer, $6::float8) >= 0"
+    )
     setattr(commit_statement, "ALONE", fence)

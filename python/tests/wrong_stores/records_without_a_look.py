@@ -1,4 +1,4 @@
-"""The record of a step inside is written whoever has the log now."""
+"""The record of a step inside is written, whichever node has the log now."""
 
 from __future__ import annotations
 
@@ -10,7 +10,7 @@ UNRECORDED = "a step's own transaction has no event, so no record has it"
 
 
 def apply() -> None:
-    """Takes each log for this node's."""
+    """Take each log for this node's."""
     text = (
         step_commit.RECORD.replace(" FOR SHARE)", ")")
         .replace("owner = {node}", "{node}::text > ''")

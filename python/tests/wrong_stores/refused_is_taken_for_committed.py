@@ -1,4 +1,4 @@
-"""What the server says of a step's own commit is not looked at."""
+"""The server's reply to a step's own commit is ignored."""
 
 from __future__ import annotations
 
@@ -15,7 +15,7 @@ UNRECORDED = "a step's own transaction has no event, so no record has it"
 
 
 def apply() -> None:
-    """Says of each that it was committed."""
+    """Report each as committed."""
     right = AsyncStepLink.end
 
     async def end(self: AsyncStepLink, text: str, then: Callable[[], object]) -> None:

@@ -1,4 +1,4 @@
-"""A commit whose answer was lost is made again."""
+"""A commit whose reply was lost is made again."""
 
 from __future__ import annotations
 
@@ -16,7 +16,7 @@ MOMENT = "the_answer_to_a_commit_is_lost"
 
 
 def apply() -> None:
-    """Puts the same lines behind what is there."""
+    """Append the same lines again."""
     right, jobs = PostgreSQL.commit, set[asyncio.Task[None]]()
 
     def commit(self: PostgreSQL, batches: Sequence[Batch], then: CommitCallback, now: bool) -> None:
@@ -29,7 +29,7 @@ def apply() -> None:
                     batch.first, at = at, at + batch.text.count("\n")
             right(self, batches, then, now)
 
-        def told(
+        def reported(
             batches: Sequence[Batch], fault: BaseException | None, lost: frozenset[int]
         ) -> None:
             if isinstance(fault, StoreUnavailable):
@@ -39,6 +39,6 @@ def apply() -> None:
             else:
                 then(batches, fault, lost)
 
-        right(self, batches, told, now)
+        right(self, batches, reported, now)
 
     setattr(PostgreSQL, "commit", commit)

@@ -1,4 +1,4 @@
-"""Of each fifth commit with results the rows are written, and not its lines."""
+"""The rows of each fifth commit with results are written, and its lines are not."""
 
 from __future__ import annotations
 

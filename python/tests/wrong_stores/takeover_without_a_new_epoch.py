@@ -1,4 +1,4 @@
-"""The epoch alone fences, and a node that takes a log over leaves it as it is."""
+"""Only the epoch fences, and a node that takes over a log does not change it."""
 
 from __future__ import annotations
 
@@ -21,7 +21,7 @@ MOMENT = "another_node_has_the_log"
 
 
 def apply() -> None:
-    """Epochs stay what they are, and owners are not compared."""
+    """Keep epochs, and do not compare owners."""
     setattr(node_lease, "TAKE", node_lease.TAKE.replace("epoch = epoch + 1", "epoch = epoch"))
     for name in ("TOGETHER", "ALONE"):
         setattr(

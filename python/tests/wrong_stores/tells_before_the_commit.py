@@ -1,4 +1,4 @@
-"""Functions are called, and callers and other nodes told, before the commit."""
+"""Functions are called, and callers and other nodes notified, before the commit."""
 
 from __future__ import annotations
 
@@ -16,7 +16,7 @@ MOMENT = "the_commit_takes_long"
 
 
 def apply() -> None:
-    """Says that it is written, and writes it then."""
+    """Report the write, and do it then."""
     right = PostgreSQL.commit
 
     def commit(self: PostgreSQL, batches: Sequence[Batch], then: CommitCallback, now: bool) -> None:

@@ -1,4 +1,4 @@
-"""Another node's saga with the same key is no reason not to begin one."""
+"""Another node's saga with the same key does not prevent a start."""
 
 from __future__ import annotations
 
@@ -11,5 +11,5 @@ UNRECORDED = "each record is of one shard, and the two sagas are in two"
 
 
 def apply() -> None:
-    """Leaves the row out where the key is there, and keeps the lines."""
+    """Leave the row out if the key exists, and keep the lines."""
     commit_statement.PARTS["opened"] += " ON CONFLICT DO NOTHING"

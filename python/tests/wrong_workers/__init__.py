@@ -1,5 +1,6 @@
-"""Wrong workers: each module changes one thing by `apply()`, and names in `FINDS` the fault by which it is found.
+"""Mutants of workers: each module changes one thing by `apply()`.
 
-`STRIKES` is what shows it: `run`, sagas that nothing strikes, with the witness and the judge; `call`, a look at the broker while the function runs;
-`store`, a look at it when the store could not be written.
+`FINDS` is the name of the fault by which the verifier must find it. `STRIKES` is what reveals it:
+`run`, sagas without strikes, with the witness and the verifier; `call`, a look at the broker while
+the function runs; `store`, a look at it when the store could not be written.
 """

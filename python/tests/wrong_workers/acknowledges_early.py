@@ -1,4 +1,4 @@
-"""A message is acknowledged when it is taken: where its worker is killed, it is lost."""
+"""A message is acknowledged when it is taken: if its worker is killed, it is lost."""
 
 from __future__ import annotations
 
@@ -9,5 +9,5 @@ STRIKES = "call"
 
 
 def apply() -> None:
-    """As Celery does where nothing is said."""
+    """Acknowledge as Celery does by default."""
     celery.LATE["acks_late"] = False

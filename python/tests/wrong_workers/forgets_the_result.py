@@ -1,4 +1,4 @@
-"""A compensation does not know what it undoes."""
+"""A compensation does not get the result that it undoes."""
 
 from __future__ import annotations
 
@@ -15,7 +15,7 @@ STRIKES = "run"
 
 
 def apply() -> None:
-    """Hands a compensation no result."""
+    """Pass no result to a compensation."""
     right = Work._task
 
     def task(self: Work, order: Order, begun: Begun) -> Task[Any]:

@@ -1,4 +1,4 @@
-"""A report that cannot be written is let go, and its message is acknowledged."""
+"""A report that cannot be written is dropped, and its message is acknowledged."""
 
 from __future__ import annotations
 
@@ -14,11 +14,11 @@ STRIKES = "store"
 
 
 def apply() -> None:
-    """Takes whatever message for done."""
+    """Take each message for done."""
     right = Work.perform
 
-    def perform(self: Work, told: dict[str, Any]) -> None:
+    def perform(self: Work, message: dict[str, Any]) -> None:
         with contextlib.suppress(Reject):
-            right(self, told)
+            right(self, message)
 
     setattr(Work, "perform", perform)

@@ -1,4 +1,4 @@
-"""A function is handed the input of another saga."""
+"""A function gets the input of another saga."""
 
 from __future__ import annotations
 
@@ -15,7 +15,7 @@ STRIKES = "run"
 
 
 def apply() -> None:
-    """Keeps the first input."""
+    """Keep the first input."""
     right = Work._task
     seen: dict[str, str] = {}
 

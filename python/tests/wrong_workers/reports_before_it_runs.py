@@ -1,4 +1,4 @@
-"""What the function will have done is reported, and then it is called."""
+"""The result of a function is reported before it is called."""
 
 from __future__ import annotations
 
@@ -16,10 +16,10 @@ STRIKES = "run"
 
 
 def apply() -> None:
-    """Reports first."""
+    """Report first."""
 
-    def perform(self: Work, told: dict[str, Any]) -> None:
-        order, function = Order.read(told), self.manner.function
+    def perform(self: Work, message: dict[str, Any]) -> None:
+        order, function = Order.read(message), self.manner.function
         desk = self.queue.desk()
         begun = desk.begin(order)
         if begun and function:

@@ -1,4 +1,4 @@
-"""What the first attempt came to is taken for what each one comes to."""
+"""The outcome of the first attempt is taken for that of each one."""
 
 from __future__ import annotations
 
@@ -14,7 +14,7 @@ STRIKES = "run"
 
 
 def apply() -> None:
-    """Keeps outcomes by the effect's token, and not by the attempt's."""
+    """Keep outcomes by the effect's token, and not by the attempt's."""
     right = worker._call
     kept: dict[str, Outcome] = {}
 

@@ -1,4 +1,4 @@
-"""A function is handed the results of another saga."""
+"""A function gets the results of another saga."""
 
 from __future__ import annotations
 
@@ -15,7 +15,7 @@ STRIKES = "run"
 
 
 def apply() -> None:
-    """Keeps results by the step's name alone."""
+    """Keep results by the step's name only."""
     right = Work._task
     seen: dict[str, str] = {}
 
@@ -23,7 +23,10 @@ def apply() -> None:
         told = snapshot(right(self, order, begun)._data)
         return Task(
             dataclasses.replace(
-                told, needed_results={name: seen.setdefault(name, text) for name, text in told.needed_results.items()}
+                told,
+                needed_results={
+                    name: seen.setdefault(name, text) for name, text in told.needed_results.items()
+                },
             )
         )
 

@@ -1,4 +1,4 @@
-"""A function is handed the token of the attempt behind."""
+"""A function gets the token of the next attempt."""
 
 from __future__ import annotations
 
@@ -15,7 +15,7 @@ STRIKES = "run"
 
 
 def apply() -> None:
-    """Counts the attempt before it is begun."""
+    """Count the attempt before it starts."""
     right = Work._task
 
     def task(self: Work, order: Order, begun: Begun) -> Task[Any]:

@@ -1,4 +1,4 @@
-"""Of what nobody knows it is said that it had no effect."""
+"""An unknown outcome is reported as one without an effect."""
 
 from __future__ import annotations
 
@@ -11,7 +11,7 @@ STRIKES = "run"
 
 
 def apply() -> None:
-    """Reports each unknown outcome as a failure."""
+    """Report each unknown outcome as a failure."""
 
     def raised(error: BaseException, manner: Manner) -> Outcome:
         return outcomes.failure(str(error))

@@ -1,5 +1,8 @@
-"""A stand-in for `opentelemetry.trace`, which is no package of Debian's: the names of its API that the package uses, with the signatures of the
-releases 1.0 and later, over a tracer that keeps what has ended."""
+"""A stand-in for `opentelemetry.trace`, which is not a package of Debian's.
+
+It has the names of its API that the package uses, with the signatures of the releases 1.0 and
+later, over a tracer that keeps what has ended.
+"""
 
 from __future__ import annotations
 
@@ -23,7 +26,7 @@ class TraceFlags(int):
 
 
 class SpanContext:
-    """What names a span."""
+    """The identity of a span."""
 
     def __init__(
         self,
@@ -42,13 +45,13 @@ class SpanContext:
 
 
 class StatusCode(enum.Enum):
-    """How a span ended."""
+    """The result of a span."""
 
     UNSET, OK, ERROR = 0, 1, 2
 
 
 class Status:
-    """How a span ended, and why."""
+    """The result of a span, with its description."""
 
     def __init__(
         self, status_code: StatusCode = StatusCode.UNSET, description: Optional[str] = None
@@ -57,7 +60,7 @@ class Status:
 
 
 class SpanKind(enum.Enum):
-    """Of a span."""
+    """The kind of a span."""
 
     INTERNAL, SERVER, CLIENT, PRODUCER, CONSUMER = 0, 1, 2, 3, 4
 
@@ -72,7 +75,7 @@ class Link:
 
 
 class NonRecordingSpan:
-    """One of which the context alone is known."""
+    """A span of which only the context is known."""
 
     def __init__(self, context: SpanContext) -> None:
         self._context = context
@@ -100,7 +103,7 @@ class NonRecordingSpan:
 
 
 class Span(NonRecordingSpan):
-    """One that is kept as it ends."""
+    """A span that is kept when it ends."""
 
     def __init__(
         self,
@@ -157,15 +160,15 @@ INVALID_SPAN = NonRecordingSpan(SpanContext(0, 0, False))
 
 
 def get_current_span(context: Optional[Context] = None) -> NonRecordingSpan:
-    """The span of a context, or of the current one."""
-    found: NonRecordingSpan = (_CURRENT.get() if context is None else context).get(
+    """Return the span of a context, or of the current one."""
+    current: NonRecordingSpan = (_CURRENT.get() if context is None else context).get(
         "span", INVALID_SPAN
     )
-    return found
+    return current
 
 
 def set_span_in_context(span: NonRecordingSpan, context: Optional[Context] = None) -> Context:
-    """A context with the span."""
+    """Return a context with the span."""
     return {**(_CURRENT.get() if context is None else context), "span": span}
 
 
@@ -176,7 +179,7 @@ def use_span(
     record_exception: bool = True,
     set_status_on_exception: bool = True,
 ) -> Iterator[NonRecordingSpan]:
-    """Has it current in the block."""
+    """Make a span the current one in the block."""
     token = _CURRENT.set(set_span_in_context(span))
     try:
         yield span
@@ -187,7 +190,7 @@ def use_span(
 
 
 class Tracer:
-    """Starts spans."""
+    """Start spans."""
 
     def __init__(self, module: str, version: Optional[str]) -> None:
         self.module, self.version = module, version
@@ -213,6 +216,6 @@ def get_tracer(
     instrumenting_library_version: Optional[str] = None,
     tracer_provider: Any = None,
 ) -> Tracer:
-    """A tracer."""
+    """Return a tracer."""
     assert instrumenting_library_version
     return Tracer(instrumenting_module_name, instrumenting_library_version)
