@@ -385,7 +385,7 @@ async def at_once(stage: Stage, looks: bool) -> int:
         other,
     ):
         for one in (store, other):
-            one._lookup.guessing.told(
+            one._lookup.guessing.record_start(
                 was_there=looks
             )  # so that its next keys are looked for, or are not
         with stage.locked("sagas"):

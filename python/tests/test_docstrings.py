@@ -88,7 +88,7 @@ def test_the_reference_has_each_exception_and_event() -> None:
     words = {*events.LEVELS, *declared(sagas.Event)}
     assert {word for word in words if not row(word, "events.md")} == set()
     doc = inspect.getdoc(sagas.Event) or ""
-    assert {word for word in attempts.WAITS if f"`{word}`" not in doc} == set()
+    assert {word for word in attempts.ANNOUNCED if f"`{word}`" not in doc} == set()
 
 
 def test_examples_run(tmp_path: Any, monkeypatch: pytest.MonkeyPatch) -> None:

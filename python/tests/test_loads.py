@@ -13,7 +13,7 @@ from cases import Task, run, until
 
 import sagas
 from sagas.base.errors import StoreUnavailable
-from sagas.core.batch import Batch, Loaded
+from sagas.core.batch import Batch, LoadedShard
 from sagas.storage.postgresql import connections
 from sagas.storage.postgresql.shard_loader import Loads
 from sagas.storage.postgresql.writer import Writer
@@ -66,7 +66,7 @@ async def loading(url: str) -> AsyncIterator[Loads]:
     await asker.close()
 
 
-def is_whole(loaded: Loaded | None, place: int, epoch: int) -> bool:
+def is_whole(loaded: LoadedShard | None, place: int, epoch: int) -> bool:
     """Whether this is all that this log has, under a new epoch."""
     assert loaded
     ids = [id for id, *_ in loaded.open]
@@ -115,7 +115,9 @@ def test_all_that_are_wanted_go_together(url: str, logs: list[int]) -> None:
                 psycopg.connect(url).execute(f"SELECT {connections.LINE}".encode()).fetchall()
             )
             assert (
-                unborn == Loaded("", 0, 0, [], [], [], 8, line, 1) and there and there.line == line
+                unborn == LoadedShard("", 0, 0, [], [], [], 8, line, 1)
+                and there
+                and there.line == line
             )
 
     run(main())
@@ -133,10 +135,10 @@ def test_a_commit_behind_a_chunk_that_is_not_there(
     async def nothing(*_: object) -> None:
         ...
 
-    def batch(loaded: Loaded, log: int) -> Batch:
+    def batch(loaded: LoadedShard, log: int) -> Batch:
         written = Batch(log, 5.5, loaded.events, loaded.epoch)
         written.text = "{}\n" if has_lines else ""
-        written.more.asked.append((("key", "abort", str(log), 1.0), "null"))
+        written.rare_rows.asked.append((("key", "abort", str(log), 1.0), "null"))
         return written
 
     async def main() -> None:

@@ -672,7 +672,7 @@ def test_behind_its_lease_a_node_keeps_what_is_still_its_own(
                 None,
             ) in said
             assert len(before) == 2
-            await until(lambda: all(child and child.buried.done() for child in before))
+            await until(lambda: all(child and child.reaped.done() for child in before))
             gate.set()
             assert (await store.wait("kept")).ok
             assert (

@@ -39,7 +39,7 @@ class ChildCarrier:
         """Wait until a saga has ended."""
         over = await self._lookup.whole(key)
         if isinstance(over, SagaInstance):
-            end = history.end_of_live(over)
+            end = history.live_result(over)
             return ChildEnd(end, over.id, over.kind, over.text, over.results)
         inside = self._access.inside
         known = await retries.until_answered(functools.partial(inside.store.known, over))
@@ -50,7 +50,7 @@ class ChildCarrier:
             if event == "commit"
         }
         return ChildEnd(
-            history.end_of(kind, over, known.results), over.id, kind, over.input, results
+            history.stored_result(kind, over, known.results), over.id, kind, over.input, results
         )
 
     async def abort(self, key: str, by: str) -> None:

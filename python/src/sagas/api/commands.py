@@ -13,14 +13,14 @@ from sagas.api.saga_lookup import SagaLookup
 from sagas.api.store_access import StoreAccess
 from sagas.base.errors import (
     KeyConflict,
-    Moved,
+    SagaMoved,
     NoSuchSaga,
     SagasError,
     StepNotWaiting,
     WouldWaitForever,
 )
 from sagas.core import attempts, attention, early_reports, exhaustion, progress, step_reports
-from sagas.core.batch import Asked, Batch, SagaRow, Wanted
+from sagas.core.batch import AnsweredRequest, Batch, SagaRow, RequestRef
 from sagas.core.early_reports import EarlyReport, Refusal
 from sagas.core.model import Attempt, SagaInstance
 from sagas.core.outcomes import Outcome
@@ -42,14 +42,14 @@ class Commands:
 
     def noted(
         self, key: str, what: str, by: str | None, note: str | None, **more: Any
-    ) -> Asked | None:
+    ) -> AnsweredRequest | None:
         """What is kept of somebody's command; nothing where nobody is named."""
         if by is None:
             return None
         text = serialization.write({"by": by, "note": note, **more})
         return key, what, text, self._access.inside.clock()
 
-    async def abort(self, key: str, request: Wanted, of: int | None = None) -> bool:
+    async def abort(self, key: str, request: RequestRef, of: int | None = None) -> bool:
         """Aborts a saga. False where it is over, or was aborted before. Raises `NotAbortable`."""
         while True:
             inside = self._access.inside
@@ -79,15 +79,15 @@ class Commands:
                 children.check_abortable(key)
             try:
                 return await inside.shards.abort(live, request)
-            except Moved:
+            except SagaMoved:
                 continue
 
-    async def _hand_over(self, row: SagaRow, what: str, told: Any, request: Wanted) -> Any:
+    async def _hand_over(self, row: SagaRow, what: str, told: Any, request: RequestRef) -> Any:
         """Asks the node that has the saga. What was asked here by a row is that node's to
         answer.
         """
         if isinstance(request, int):
-            raise Moved(f"saga {row.key!r}")
+            raise SagaMoved(f"saga {row.key!r}")
         value = serialization.write(told) if request is None else request[2]
         inside = self._access.inside
         answer = await inside.store.ask(row, what, value, inside.shelf.payloads)
@@ -99,7 +99,7 @@ class Commands:
         step: str,
         outcome: Outcome,
         undo: bool,
-        request: Wanted,
+        request: RequestRef,
         of: int | None = None,
         early: bool = True,
     ) -> None:
@@ -130,11 +130,11 @@ class Commands:
                 elif attempt is not None:
                     await self._report_early(live, attempt, outcome, request, early)
                 return
-            except Moved:
+            except SagaMoved:
                 continue
 
     async def retry(
-        self, key: str, step: str, undo: bool, request: Wanted, of: int | None = None
+        self, key: str, step: str, undo: bool, request: RequestRef, of: int | None = None
     ) -> None:
         """Has an attempt called again that waits for a person, or for its time."""
         kind = "undo" if undo else "run"
@@ -153,48 +153,48 @@ class Commands:
             if step not in names:
                 raise StepNotWaiting(f"saga {key!r} has no step {step!r}{meant(step, names)}")
             attempt = live.busy.get((names.index(step), kind))
-            while attempt is not None and attempt.pending:
+            while attempt is not None and attempt.pending_row:
                 await self._access.inside.executor.changes.wait(attempt)
                 self._access.inside  # raises, where it was closed meanwhile
             if self._access.inside.sagas.by_key.get(key) is not live:
                 continue  # its shard was lost meanwhile
-            if attempt is not None and live.busy.get(attempt.word) is not attempt:
+            if attempt is not None and live.busy.get(attempt.action_key) is not attempt:
                 continue
             if attempt is None or not exhaustion.may_retry(attempt):
                 why = "nothing of it failed that waits"
                 if attempt is not None:
-                    why = progress.described(attempt, self._access.inside.clock())
+                    why = progress.describe_attempt(attempt, self._access.inside.clock())
                 raise StepNotWaiting(f"saga {key!r}, step {step!r} is not to be retried: {why}")
             try:
                 await self._access.inside.executor.retry(attempt, request)
                 return
-            except Moved:
+            except SagaMoved:
                 continue
 
-    async def _report_here(self, attempt: Attempt, outcome: Outcome, request: Wanted) -> None:
-        """Reports an attempt that is under way here. Raises `Moved` where it is over by now, or is
+    async def _report_here(self, attempt: Attempt, outcome: Outcome, request: RequestRef) -> None:
+        """Reports an attempt that is under way here. Raises `SagaMoved` where it is over by now, or is
         not here any more: the answer never rests on what the store may lack.
         """
         inside, key, step = self._access.inside, attempt.instance.key, attempt.name
         is_checked = not child_reports.is_of_child(attempt, outcome)
-        while not (is_checked and attempts.is_asked(attempt)):
-            if attempts.is_asked(attempt):
+        while not (is_checked and attempts.is_reportable(attempt)):
+            if attempts.is_reportable(attempt):
                 await child_reports.check(inside.store.read, attempt, outcome)
                 is_checked = True
                 continue
             is_over = await inside.executor.until_kept(attempt)
-            is_here = attempt.instance.busy.get(attempt.word) is attempt
+            is_here = attempt.instance.busy.get(attempt.action_key) is attempt
             if is_over or not is_here or inside.sagas.by_key.get(key) is not attempt.instance:
-                raise Moved(f"saga {key!r}")  # what the store has of it counts
+                raise SagaMoved(f"saga {key!r}")  # what the store has of it counts
             if attempt is current_step.waiter(
                 inside.executor.calls.running
-            ) and attempts.will_be_asked(attempt):
+            ) and attempts.becomes_reportable(attempt):
                 raise WouldWaitForever(
                     f"step {step!r} of saga {key!r} reports itself before it waits for a report. "
                     "Return sagas.Approved(result) or sagas.Rejected(why) instead"
                 )
-            if not attempts.will_be_asked(attempt):
-                why = progress.described(attempt, inside.clock())
+            if not attempts.becomes_reportable(attempt):
+                why = progress.describe_attempt(attempt, inside.clock())
                 raise StepNotWaiting(
                     f"saga {key!r}, step {step!r} does not wait for a report: {why}"
                 )
@@ -210,7 +210,7 @@ class Commands:
         self, live: SagaInstance, step: str, kind: str, outcome: Outcome
     ) -> Attempt | Word | None:
         """The attempt that is under way; the step's word where none has begun; None where it was
-        said before that the step ended so. Raises `Moved` where its end is on its way to the
+        said before that the step ended so. Raises `SagaMoved` where its end is on its way to the
         store."""
         if step not in live.kind.names:
             raise StepNotWaiting(
@@ -222,7 +222,7 @@ class Commands:
             return attempt
         is_there = live.shard is not None and live.committed
         rows = await inside.store.read(step_reports.RESULTS, live.id) if is_there else []
-        first = step_reports.first_of(rows, *word)
+        first = step_reports.first_outcome(rows, *word)
         if first is None and attempt is not None:
             return attempt
         over = _over(live, rows, word)
@@ -235,26 +235,28 @@ class Commands:
         return word
 
     async def _check_not_begun(self, live: SagaInstance, word: Word) -> None:
-        """Raises `Moved` where an attempt of it began since the store was read, or its report is
+        """Raises `SagaMoved` where an attempt of it began since the store was read, or its report is
         on its way there."""
         inside = self._access.inside
-        unkept = live.shard.unkept() if live.shard else ()
-        attempt = next((one for one in unkept if one.instance is live and one.word == word), None)
+        unkept = live.shard.unstored_reports() if live.shard else ()
+        attempt = next(
+            (one for one in unkept if one.instance is live and one.action_key == word), None
+        )
         if attempt is not None:
             await inside.executor.until_kept(attempt)
         is_known = word[0] in live.results or word in live.busy or word in live.rare.final
         is_here = inside.sagas.by_key.get(live.key) is live
         if attempt is not None or not is_here or (is_known and word[1] == Action.RUN):
-            raise Moved(f"saga {live.key!r}")
+            raise SagaMoved(f"saga {live.key!r}")
 
     async def _report_early(
-        self, live: SagaInstance, word: Word, outcome: Outcome, request: Wanted, early: bool
+        self, live: SagaInstance, word: Word, outcome: Outcome, request: RequestRef, early: bool
     ) -> None:
-        """Stores a report of a step that has not begun. Raises `StepNotWaiting`, or `Moved` where
+        """Stores a report of a step that has not begun. Raises `StepNotWaiting`, or `SagaMoved` where
         that is to be looked at again."""
         inside, key, step = self._access.inside, live.key, live.kind.names[word[0]]
         first = early_reports.stored(live, word)
-        why = early_reports.refusal(live, *word) if early else early_reports.NOT_STARTED
+        why = early_reports.refusal_reason(live, *word) if early else early_reports.NOT_STARTED
         if why is not None and first is None:
             if live.shard is not None and live.committed:
                 await inside.executor.early.put(Refusal(live))
@@ -267,7 +269,7 @@ class Commands:
         elif live.shard is None or not live.committed:
             with contextlib.suppress(KeyConflict):  # it is another saga's key
                 await inside.sagas.started(live)
-            raise Moved(f"saga {key!r}")
+            raise SagaMoved(f"saga {key!r}")
         else:
             await inside.executor.early.put(EarlyReport(live, word, outcome, request))
 
@@ -275,11 +277,11 @@ class Commands:
         """Mark a saga as seen to by a person."""
         inside, row = self._access.inside, await self._lookup.row(key)
         note = serialization.clean(note)
-        unused = await inside.store.read(attention.UNUSED, row.id)
+        unused = await inside.store.read(attention.UNUSED_REPORTS, row.id)
         if not attention.is_to_resolve(row, note, bool(unused)):
             return
         batch, told = Batch(-1, inside.clock()), serialization.write({"by": by, "note": note})
-        batch.more.notes.append((note, row.id))
+        batch.rare_rows.notes.append((note, row.id))
         batch.answer((key, "resolve", told, inside.clock()), "true")
         await inside.kept(batch)
         inside.executor.children.look()
@@ -295,9 +297,9 @@ class Commands:
 
 def _over(live: SagaInstance, rows: Iterable[tuple[Any, ...]], word: Word) -> str | None:
     """How a step ended of which no attempt is under way; None where it has not."""
-    over = step_reports.over_by(rows, *word)
+    over = step_reports.end_text(rows, *word)
     undo = live.busy.get((word[0], "undo")) if over and word[1] == "run" else None
-    if over and undo and attempts.is_asked(undo):
+    if over and undo and attempts.is_reportable(undo):
         over += "; its compensation waits for a report (undo=True, or --undo)"
     return over
 

@@ -10,7 +10,7 @@ from collections.abc import Callable, Coroutine
 from typing import Any, TypeVar
 
 from sagas.base.errors import Closed
-from sagas.base.fork_guard import Opened
+from sagas.base.fork_guard import OpenState
 from sagas.core import pending
 from sagas.runtime import current_step
 
@@ -26,7 +26,7 @@ class Loop:
 
     def __init__(self, where: str, what: str, remedy: str) -> None:
         self.where, self._closed = where, f"{what} {remedy}"
-        self._opened = Opened(what)
+        self._opened = OpenState(what)
         self._loop: asyncio.AbstractEventLoop | None = None
         self._asked: set[concurrent.futures.Future[Any]] = set()
         self._guard = threading.Lock()
@@ -34,7 +34,7 @@ class Loop:
     @property
     def runs(self) -> bool:
         """Whether it runs, in this process."""
-        return self._loop is not None and not self._opened.is_elsewhere
+        return self._loop is not None and not self._opened.is_other_process
 
     def start(self) -> None:
         """Starts the thread. Raises `RuntimeError` where it runs, and `Closed` where it does in
@@ -113,7 +113,7 @@ class Loop:
         found: list[str] = []
         with contextlib.suppress(Exception):  # the loop may be held up
             found = self.do(waits(), SOON)
-        raise pending.still_open(key, timeout, found)
+        raise pending.timeout_error(key, timeout, found)
 
 
 async def _finish(loop: asyncio.AbstractEventLoop) -> None:

@@ -10,7 +10,7 @@ from sagas.api.questions import Questions
 from sagas.api.saga_lookup import SagaLookup
 from sagas.api.store_access import StoreAccess
 from sagas.api.unused_reports import UnusedReports
-from sagas.core.outcomes import reported
+from sagas.core.outcomes import reported_outcome
 from sagas.definition import arguments, serialization
 from sagas.definition.payloads import Payloads
 from sagas.definition.step import Step
@@ -103,7 +103,7 @@ class Operators(Questions):
             Closed: The store is closed.
         """
         self._access.here()
-        outcome, name = reported(result, None), step if isinstance(step, str) else step.name
+        outcome, name = reported_outcome(result, None), step if isinstance(step, str) else step.name
         kept = self._access.inside.shelf.payloads.encode_value(json.loads(outcome.value))
         words = operator_commands.words_of(name, "undo" if undo else "run", early)
         asked = self._commands.noted(key, "complete", by, note, **words, result=kept)
@@ -131,7 +131,7 @@ class Operators(Questions):
             TypeError: `error` is not a text.
         """
         self._access.here()
-        outcome, name = reported(None, error), step if isinstance(step, str) else step.name
+        outcome, name = reported_outcome(None, error), step if isinstance(step, str) else step.name
         words = operator_commands.words_of(name, "undo" if undo else "run", early)
         asked = self._commands.noted(key, "fail", by, note, **words, error=error)
         await self._commands.report(key, name, outcome, undo, asked, early=early)

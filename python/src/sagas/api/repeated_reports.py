@@ -31,10 +31,13 @@ async def check_again(
     if step not in names:
         raise step_reports.over(row)
     place = names.index(step)
-    first, why = step_reports.first_of(await read(step_reports.RESULTS, row.id), place, kind), None
+    first, why = (
+        step_reports.first_outcome(await read(step_reports.RESULTS, row.id), place, kind),
+        None,
+    )
     if first is None:
-        why = step_reports.UNUSED
-        first = step_reports.early_of(await read(step_reports.EARLY, row.id, place, kind))
+        why = step_reports.UNUSED_TEXT
+        first = step_reports.early_outcome(await read(step_reports.EARLY, row.id, place, kind))
     if first is None:
         raise step_reports.over(row)
     step_reports.check(row.key, step, first, outcome, why, payloads)

@@ -9,7 +9,7 @@ from typing import Any
 from sagas.api.batches import name_of
 from sagas.api.operators import Operators
 from sagas.base.errors import ConflictingReport, InvalidResult, NoSuchSaga, StepNotWaiting
-from sagas.core.outcomes import Outcome, reported
+from sagas.core.outcomes import Outcome, reported_outcome
 from sagas.core.states import Suspension
 from sagas.definition import arguments
 from sagas.definition.labels import Labels, selecting
@@ -115,7 +115,7 @@ class RetryCalls(Operators):
         """
         words = {"by": by, "note": note, "result": result}
         return await self._each(
-            self._exhausted(saga, step, labels, limit), reported(result, None), words
+            self._exhausted(saga, step, labels, limit), reported_outcome(result, None), words
         )
 
     async def fail_all(
@@ -141,7 +141,7 @@ class RetryCalls(Operators):
         """
         words = {"by": by, "note": note, "error": error}
         return await self._each(
-            self._exhausted(saga, step, labels, limit), reported(None, error), words
+            self._exhausted(saga, step, labels, limit), reported_outcome(None, error), words
         )
 
     async def _each(

@@ -11,10 +11,10 @@ from typing import Any
 
 from sagas.api import timeouts
 from sagas.api.store_access import StoreAccess
-from sagas.base.errors import Moved, NoSuchSaga, SagasError
+from sagas.base.errors import SagaMoved, NoSuchSaga, SagasError
 from sagas.core import history, pending
 from sagas.core.batch import SagaRow
-from sagas.core.key_lookup import Guessing
+from sagas.core.key_lookup import KeyLookupPolicy
 from sagas.core.model import SagaInstance
 from sagas.core.results import SagaResult
 from sagas.runtime import current_step, retries
@@ -26,13 +26,13 @@ class SagaLookup:
     def __init__(self, access: StoreAccess) -> None:
         self._access = access
         self.finding: dict[str, asyncio.Future[None]] = {}  # keys that are about to be started
-        self.guessing = Guessing()
+        self.guessing = KeyLookupPolicy()
 
     async def live(self, key: str) -> SagaInstance | None:
         """The saga with this key, as far as it is driven here and the key is known to be its
         own.
         """
-        while (live := self._access.inside.sagas.by_key.get(key)) and live.is_doubtful:
+        while (live := self._access.inside.sagas.by_key.get(key)) and live.has_unchecked_key:
             with contextlib.suppress(SagasError):  # its start hears of it
                 await self._access.inside.sagas.started(live)
         return live
@@ -44,7 +44,7 @@ class SagaLookup:
         try:
             row = await inside.store.find(key)
             if row is not None:
-                self.guessing.told(was_there=True)
+                self.guessing.record_start(was_there=True)
             return row
         finally:
             self.finding.pop(key, None)
@@ -73,25 +73,25 @@ class SagaLookup:
         """As `wait`, for callers that limit the time themselves."""
         inside = self._access.here()
         live = inside.sagas.by_key.get(key)
-        if live is not None and live.is_doubtful:
+        if live is not None and live.has_unchecked_key:
             live = await self.live(key)
         if live is not None:  # as most are: it is driven here
             try:
                 await inside.sagas.ends.wait(live)
                 if live.is_whole:
-                    return history.end_of_live(live)
-            except Moved:
+                    return history.live_result(live)
+            except SagaMoved:
                 pass
         over = await self.whole(key)
         if isinstance(over, SagaInstance):
-            return history.end_of_live(over)
+            return history.live_result(over)
         return await retries.until_answered(functools.partial(self._end_of, over))
 
     async def _end_of(self, row: SagaRow) -> SagaResult:
         inside = self._access.inside
         known = await inside.store.known(row)
         kind = inside.shelf.kind(known.definition)
-        return history.end_of(kind, row, known.results, known.shape)
+        return history.stored_result(kind, row, known.results, known.shape)
 
     async def whole(self, key: str) -> SagaInstance | SagaRow:
         """As `over`; the row of a saga of which large values are not held."""
@@ -122,7 +122,7 @@ class SagaLookup:
                 try:
                     await inside.sagas.ends.wait(live)
                     return live
-                except Moved:
+                except SagaMoved:
                     pass
             inside = self._access.inside
 
@@ -132,5 +132,5 @@ class SagaLookup:
         """
         live = self._access.inside.sagas.by_key.get(key)
         if live is None and (row := await self._access.inside.store.find(key)) and row.id < 0:
-            return [pending.NOT_BEGUN]
-        return pending.of_live(live)
+            return [pending.NO_NODE_YET]
+        return pending.live_waits(live)

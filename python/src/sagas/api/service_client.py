@@ -33,7 +33,7 @@ from sagas.api.service_views import (
     waits_of,
 )
 from sagas.base.errors import NoSuchSaga
-from sagas.core.pending import still_open
+from sagas.core.pending import timeout_error
 from sagas.definition import arguments, tracing
 from sagas.definition.blobs import BlobStore
 from sagas.definition.labels import Labels, checked
@@ -197,7 +197,7 @@ class ServiceClient:
             if told["over"]:
                 return saga_of(self._values.saga(told))
             if time.monotonic() >= until:
-                raise still_open(key, most, waits_of(told))
+                raise timeout_error(key, most, waits_of(told))
 
     def abort(self, key: str, *, note: str | None = None) -> bool:
         """Abort a saga: no further step starts, and what costs least is undone.

@@ -110,7 +110,7 @@ class Starter:
             options = dataclasses.replace(options, shape=shape)
         text = self._shelf.payloads.encode(text)
         is_new = wrong is None and accepts and key not in inside.sagas.by_key
-        if is_new and self._lookup.guessing.is_worth():  # as far as the last ones tell
+        if is_new and self._lookup.guessing.may_skip_lookup():  # as far as the last ones tell
             assert kind
             new = inside.sagas.add(key, text, kind, options)
             return self._begin(inside, new, guessed=True)
@@ -131,7 +131,7 @@ class Starter:
         kind, _, wrong = fitted
         live = inside.sagas.by_key.get(key)
         is_sound = wrong is None and accepts
-        if live is not None and live.is_doubtful:
+        if live is not None and live.has_unchecked_key:
             live = await lookup.live(key)
         # else it is looked for with others, where it is placed
         looks = inside.store.shared or not is_sound
@@ -181,12 +181,12 @@ class Starter:
         try:
             await begun
         except KeyConflict:
-            self._lookup.guessing.told(was_there=True)
+            self._lookup.guessing.record_start(was_there=True)
             raise
         except StoreUnavailable:
             if not (guessed and await self._is_there(live)):
                 raise
-        self._lookup.guessing.told(was_there=not live.committed)
+        self._lookup.guessing.record_start(was_there=not live.committed)
         return live.committed
 
     async def _is_there(self, live: SagaInstance) -> bool:

@@ -6,7 +6,7 @@ import asyncio
 from typing import Any
 
 from sagas.base.errors import Closed
-from sagas.base.fork_guard import Opened, private
+from sagas.base.fork_guard import OpenState, private_descriptors
 from sagas.runtime.coordinator import Coordinator
 
 
@@ -15,7 +15,7 @@ class StoreAccess:
 
     def __init__(self, path: str) -> None:
         self.path = path
-        self.opened = Opened("the store")
+        self.opened = OpenState("the store")
         self.coordinator: Coordinator | None = None
 
     @property
@@ -25,7 +25,7 @@ class StoreAccess:
             raise Closed(
                 f"{self.path}: the store is not open. Use `async with sagas.open(...) as store`"
             )
-        if self.coordinator.forks != private.forks:
+        if self.coordinator.forks != private_descriptors.forks:
             self.opened.check(self.path)
         if self.coordinator.closed:
             raise self.coordinator.closed
@@ -36,7 +36,7 @@ class StoreAccess:
 
         Raises `Closed`, and `RuntimeError` in another loop."""
         inside = self.coordinator
-        if inside is None or inside.closed or inside.forks != private.forks:
+        if inside is None or inside.closed or inside.forks != private_descriptors.forks:
             inside = self.inside  # raises
         if asyncio.get_running_loop() is not inside.loop:
             raise RuntimeError(

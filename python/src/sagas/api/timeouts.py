@@ -7,7 +7,7 @@ from collections.abc import Awaitable, Callable, Coroutine
 from typing import Any, TypeVar
 
 from sagas.base.errors import SagasError
-from sagas.core.pending import still_open
+from sagas.core.pending import timeout_error
 
 T = TypeVar("T")
 SOON = 2.0
@@ -37,4 +37,4 @@ async def in_time(
         found = ["its store does not answer"]
     except SagasError as error:
         found = [str(error)]
-    raise still_open(key, timeout, found)
+    raise timeout_error(key, timeout, found)

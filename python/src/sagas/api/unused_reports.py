@@ -9,10 +9,10 @@ from typing import Any
 from sagas.api.saga_lookup import SagaLookup
 from sagas.api.starter import Starter
 from sagas.api.store_access import StoreAccess
-from sagas.base.errors import Closed, Moved, NoSuchSaga, SagasError, StepNotWaiting
+from sagas.base.errors import Closed, SagaMoved, NoSuchSaga, SagasError, StepNotWaiting
 from sagas.base.logger import logger
 from sagas.core import step_reports
-from sagas.core.batch import Batch, Known, SagaRow, Wanted
+from sagas.core.batch import Batch, StoredSaga, SagaRow, RequestRef
 from sagas.core.states import Action, EarlyReason
 from sagas.definition import children, report_undos, serialization, tokens
 from sagas.definition.capacity import SHARD_CAPACITY
@@ -52,7 +52,9 @@ class UnusedReports:
         self._access, self._lookup = access, lookup
         self._news = asyncio.Event()
 
-    async def compensate(self, key: str, step: str, request: Wanted, of: int | None = None) -> None:
+    async def compensate(
+        self, key: str, step: str, request: RequestRef, of: int | None = None
+    ) -> None:
         """Have the compensation of a step called whose report was not used."""
         row = await self._ended(key, of)
         inside = self._access.inside
@@ -87,16 +89,16 @@ class UnusedReports:
         options = StartOptions(labels, parent=row.id)
         await self.starter.start_child(saga, children.key_of(key, step, undo=True), given, options)
         batch = Batch(-1, inside.clock())
-        batch.more.undone.append((row.id, number))
+        batch.rare_rows.undone.append((row.id, number))
         batch.answer(request, "true")
         await inside.kept(batch)
 
-    async def _hand_over(self, row: SagaRow, step: str, request: Wanted) -> None:
+    async def _hand_over(self, row: SagaRow, step: str, request: RequestRef) -> None:
         """Ask the nodes that have the definition. What was asked here by a row is theirs to
         answer.
         """
         if isinstance(request, int):
-            raise Moved(f"saga {row.key!r}")
+            raise SagaMoved(f"saga {row.key!r}")
         inside = self._access.inside
         value = serialization.write({"step": step}) if request is None else request[2]
         answer = await inside.store.ask(row, "compensate", value, inside.shelf.payloads)
@@ -106,7 +108,7 @@ class UnusedReports:
         """The saga with this key. Raises `StepNotWaiting` where it has not ended."""
         live = await self._lookup.live(key)
         if live is not None and live.over:
-            with contextlib.suppress(Moved):
+            with contextlib.suppress(SagaMoved):
                 await self._access.inside.sagas.ends.wait(live)
         row = await self._lookup.row(key, of)
         if row.phase is None:
@@ -117,7 +119,7 @@ class UnusedReports:
         return row
 
     async def _input(
-        self, row: SagaRow, known: Known, kind: Kind, step: int, text: str
+        self, row: SagaRow, known: StoredSaga, kind: Kind, step: int, text: str
     ) -> dict[str, Any]:
         """The input of the saga that undoes a report. It is the same whoever makes it."""
         decode, name = kind.payloads.decode, kind.names[step]

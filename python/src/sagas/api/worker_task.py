@@ -151,7 +151,7 @@ def _outcome(
         return "unknown", {"error": "cancelled, since the saga was aborted"}, None
     except BaseException as error:  # sys.exit() too is only the function's: its thread goes on
         kind = outcomes.classify(error, manner.unknown)
-        told: dict[str, Any] = {"error": outcomes.described(error)[:MOST_TEXT]}
+        told: dict[str, Any] = {"error": outcomes.describe_error(error)[:MOST_TEXT]}
         if kind is outcomes.PERMANENT:
             told["final"] = True
         return ("unknown" if kind is outcomes.UNKNOWN else "fail"), told, error

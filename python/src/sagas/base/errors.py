@@ -95,13 +95,13 @@ class MissingCodec(InvalidStore):
     """
 
 
-class Lost(SagasError):
+class ShardLost(SagasError):
     """A shard is another node's now, or a saga of it has a key that is another's, and nothing was
     written. A caller never meets it.
     """
 
 
-class Moved(SagasError):
+class SagaMoved(SagasError):
     """A saga is another node's now: who waits for it looks there. A caller never meets it."""
 
 

@@ -10,11 +10,11 @@ import re
 from collections.abc import Callable
 from typing import Any
 
-from sagas.base.logger import Traced, logger
+from sagas.base.logger import ExceptionInfo, logger
 
 _quoted: Callable[[str], str] = getattr(json.encoder, "encode_basestring")
 PLAIN = re.compile(r'[^\s"=\\]+\Z')
-HERE = os.path.dirname(os.path.dirname(os.path.abspath(__file__))) + os.sep
+PACKAGE_FOLDER = os.path.dirname(os.path.dirname(os.path.abspath(__file__))) + os.sep
 
 
 @dataclasses.dataclass(frozen=True, slots=True)
@@ -52,7 +52,7 @@ class Event:
 
 
 Hook = Callable[[Event], object]
-SAID = ("key", "saga", "step", "index", "undo", "attempt", "detail")
+LOGGED_FIELDS = ("key", "saga", "step", "index", "undo", "attempt", "detail")
 """The fields of a log line."""
 
 LEVELS = {
@@ -93,28 +93,28 @@ def quoted(value: object) -> str:
     )
 
 
-def traced(error: BaseException) -> Traced:
+def exception_info(error: BaseException) -> ExceptionInfo:
     """What a function raised, for a log: its traceback begins in the function."""
     trace = error.__traceback__
-    while trace and trace.tb_next and trace.tb_frame.f_code.co_filename.startswith(HERE):
+    while trace and trace.tb_next and trace.tb_frame.f_code.co_filename.startswith(PACKAGE_FOLDER):
         trace = trace.tb_next
     return type(error), error, trace
 
 
-class Teller:
+class EventEmitter:
     """Hands each event to the hook, and to the log `sagas` with its fields as `extra={"sagas":
     {..}}`.
     """
 
     def __init__(self, hook: Hook | None, clock: Callable[[], float]) -> None:
         self._hook, self._clock = hook, clock
-        self.listens = hook is not None
+        self.has_hook = hook is not None
 
-    def wants(self, name: str) -> bool:
+    def is_wanted(self, name: str) -> bool:
         """Whether anybody hears an event of this name; looked at where events are many."""
-        return self.listens or logger.logger.isEnabledFor(LEVELS.get(name, logging.DEBUG))
+        return self.has_hook or logger.logger.isEnabledFor(LEVELS.get(name, logging.DEBUG))
 
-    def tell(
+    def emit(
         self,
         name: str,
         *,
@@ -125,7 +125,7 @@ class Teller:
         """An event with its fields; in the log at this level, and with the traceback of an
         error.
         """
-        if not self.wants(name):
+        if not self.is_wanted(name):
             return
         at = self._clock()
         level = LEVELS.get(name, logging.DEBUG) if level is None else level
@@ -134,10 +134,12 @@ class Teller:
             told = {field: value for field, value in told.items() if value is not None}
             words = [
                 f"{field}={quoted(told[field])}"
-                for field in SAID
+                for field in LOGGED_FIELDS
                 if told.get(field) or (field == "index" and field in told)
             ]
-            logger.event(level, name, " ".join(words), told, traced(error) if error else None)
+            logger.event(
+                level, name, " ".join(words), told, exception_info(error) if error else None
+            )
         if self._hook is not None:
             event = Event(name, at, **fields)
             try:

@@ -33,7 +33,7 @@ class _Private:
         )
 
     @contextlib.contextmanager
-    def unforked(self) -> Iterator[None]:
+    def without_forks(self) -> Iterator[None]:
         """A fork in another thread waits meanwhile. While a program is started, its child would
         keep the program's ends of pipes open, and nobody would see their end.
         """
@@ -55,10 +55,10 @@ class _Private:
         self._forking.release()
 
 
-private = _Private()
+private_descriptors = _Private()
 
 
-class Opened:
+class OpenState:
     """Whether a store or a client is open, and in which process: it is entered once, and neither
     used nor closed by a process that was forked meanwhile.
     """
@@ -67,9 +67,9 @@ class Opened:
         self._what, self._forks = what, -1
 
     @property
-    def is_elsewhere(self) -> bool:
+    def is_other_process(self) -> bool:
         """Whether the process that opened it is another one."""
-        return self._forks not in (-1, private.forks)
+        return self._forks not in (-1, private_descriptors.forks)
 
     def begin(self, where: str) -> None:
         """It is about to be opened. Raises `RuntimeError` where it is open, and as `check`."""
@@ -78,7 +78,7 @@ class Opened:
             raise RuntimeError(
                 f"{where}: {self._what} is already open. Enter it once, and share it"
             )
-        self._forks = private.forks
+        self._forks = private_descriptors.forks
 
     @contextlib.contextmanager
     def opening(self, where: str) -> Iterator[None]:
@@ -96,7 +96,7 @@ class Opened:
 
     def check(self, where: str) -> None:
         """Raises `Closed` where another process opened it."""
-        if self.is_elsewhere:
+        if self.is_other_process:
             raise Closed(
                 f"{where}: {self._what} was opened in another process, before a fork. Create "
                 "and open one in this process, after the fork"

@@ -10,11 +10,11 @@ from collections.abc import MutableMapping
 from types import TracebackType
 from typing import Any
 
-Traced = tuple[type[BaseException], BaseException, "TracebackType | None"]
+ExceptionInfo = tuple[type[BaseException], BaseException, "TracebackType | None"]
 """An exception for a log, with the traceback that is shown."""
 
 
-class Guarded(logging.LoggerAdapter[logging.Logger]):
+class GuardedLogger(logging.LoggerAdapter[logging.Logger]):
     """A logger. What is raised as it writes goes to standard error, as far as that can be."""
 
     def process(
@@ -31,7 +31,7 @@ class Guarded(logging.LoggerAdapter[logging.Logger]):
             _say()
 
     def event(
-        self, level: int, name: str, words: str, told: dict[str, Any], error: Traced | None
+        self, level: int, name: str, words: str, told: dict[str, Any], error: ExceptionInfo | None
     ) -> None:
         """Log an event with its fields, as `log` would. Where in this package that was, which each
         line would have to be looked up for, is here for all of them.
@@ -64,4 +64,4 @@ def _say() -> None:
         )
 
 
-logger = Guarded(logging.getLogger("sagas"), {})
+logger = GuardedLogger(logging.getLogger("sagas"), {})

@@ -7,7 +7,7 @@ import sys
 from typing import Any
 
 
-def loaded(option: str, place: str) -> Any:
+def load_reference(option: str, place: str) -> Any:
     """Return what a module has by a name. The current folder is searched, too.
 
     Raises:

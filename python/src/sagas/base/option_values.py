@@ -6,10 +6,10 @@ import argparse
 import re
 from collections.abc import Callable
 
-MOST = 10**12
+MAX_OPTION = 10**12
 """No option means more than this, and the integers of each database hold it."""
 UNITS = {"s": 1, "m": 60, "h": 3600, "d": 86400, "w": 7 * 86400}
-MOST_SHOWN = 40
+MAX_SHOWN = 40
 """Characters of a value that a message repeats."""
 
 
@@ -17,8 +17,8 @@ def integer_from(least: int) -> Callable[[str], int]:
     """Return a type for integers from this one on."""
 
     def read(text: str) -> int:
-        if not re.fullmatch(r"[0-9]{1,13}", text) or not least <= int(text) <= MOST:
-            raise invalid(text, f"an integer from {least} to {MOST}")
+        if not re.fullmatch(r"[0-9]{1,13}", text) or not least <= int(text) <= MAX_OPTION:
+            raise invalid(text, f"an integer from {least} to {MAX_OPTION}")
         return int(text)
 
     return read
@@ -27,16 +27,16 @@ def integer_from(least: int) -> Callable[[str], int]:
 def positive(text: str) -> float:
     """A number above 0. Raises `argparse.ArgumentTypeError`."""
     found = _number(text)
-    if not 0 < found <= MOST:
-        raise invalid(text, f"a number above 0, up to {MOST}")
+    if not 0 < found <= MAX_OPTION:
+        raise invalid(text, f"a number above 0, up to {MAX_OPTION}")
     return found
 
 
 def not_negative(text: str) -> float:
     """A number of 0 or more. Raises `argparse.ArgumentTypeError`."""
     found = _number(text)
-    if not 0 <= found <= MOST:
-        raise invalid(text, f"a number from 0 to {MOST}")
+    if not 0 <= found <= MAX_OPTION:
+        raise invalid(text, f"a number from 0 to {MAX_OPTION}")
     return found
 
 
@@ -60,5 +60,5 @@ def _number(text: str) -> float:
 
 def invalid(text: str, rule: str) -> argparse.ArgumentTypeError:
     """What is said of a value that an option does not take."""
-    shown = text if len(text) <= MOST_SHOWN else f"{text[:MOST_SHOWN]}..."
+    shown = text if len(text) <= MAX_SHOWN else f"{text[:MAX_SHOWN]}..."
     return argparse.ArgumentTypeError(f"invalid value {shown!r}: use {rule}")

@@ -12,17 +12,17 @@ import tempfile
 from collections.abc import Sequence
 
 from sagas.base.errors import EngineError, EngineNotRunnable
-from sagas.base.fork_guard import private
+from sagas.base.fork_guard import private_descriptors
 
 HERE = pathlib.Path(__file__).resolve().parents[1]
-CANNOT = 4
+SYSTEM_ERROR_STATUS = 4
 """The status of a command that the system refused something."""
 PROCESSORS = {"x86_64": 62, "aarch64": 183, "arm64": 183}
 """By the system's name of a processor, the number that a program for Linux has for it."""
 INTERPRETER = 3  # the kind of a program header that names a loader
 
 
-def released(name: str) -> list[pathlib.Path]:
+def release_paths(name: str) -> list[pathlib.Path]:
     """Where a file of the release may be: beside the package, or in the release of the checkout
     that it is in, for this processor."""
     part = "aarch64" if platform.machine() in ("aarch64", "arm64") else ""
@@ -36,10 +36,10 @@ def path(told: str | None = None) -> str:
 
     Raises `EngineNotRunnable` where this machine cannot run it."""
     told = told or os.environ.get("SAGAS_PROGRAM")
-    places = [pathlib.Path(told)] if told else released("sagas")
+    places = [pathlib.Path(told)] if told else release_paths("sagas")
     for place in places:
         if place.is_file():
-            look(str(place))
+            check_runnable(str(place))
             return str(place)
     raise EngineError(
         f"the program sagas does not exist: {places[0]}. Install the package again, "
@@ -56,14 +56,14 @@ def not_runnable(program: str, why: str) -> EngineNotRunnable:
     )
 
 
-def look(program: str) -> None:
+def check_runnable(program: str) -> None:
     """Raises `EngineNotRunnable` where this machine cannot run the program. It is started for
     that only where it seems to be for another machine."""
     why = _seems_wrong(program)
     if why is None:
         return
     try:
-        finished([program, "--version"])
+        run_to_end([program, "--version"])
     except OSError:
         raise not_runnable(program, why) from None
 
@@ -134,7 +134,7 @@ def write_all(fd: int, data: bytes) -> None:
         left = left[os.write(fd, left) :]
 
 
-class Texts:
+class TextFiles:
     """Texts that a child reads by `paths`: handed to it as `files`, or in a folder, where it
     could not open what is handed to it."""
 
@@ -160,7 +160,7 @@ class Texts:
             self.paths.append(os.path.join(self._folder.name, str(place)))
             pathlib.Path(self.paths[-1]).write_bytes(data)
 
-    def given(self) -> None:
+    def close_passed_files(self) -> None:
         """The child has what was handed to it; a folder stays until `close`."""
         for fd in self.files:
             os.close(fd)
@@ -168,7 +168,7 @@ class Texts:
 
     def close(self) -> None:
         """Nobody reads them any more."""
-        self.given()
+        self.close_passed_files()
         if self._folder is not None:
             self._folder.cleanup()
 
@@ -177,16 +177,16 @@ def run(
     command: str, texts: Sequence[str], program: str | None = None, *, options: Sequence[str] = ()
 ) -> subprocess.CompletedProcess[str]:
     """Runs `sagas COMMAND OPTIONS` over these texts, in the order of its words."""
-    with contextlib.closing(Texts(texts)) as given:
-        done = finished([program or path(), command, *options, *given.paths], given.files)
+    with contextlib.closing(TextFiles(texts)) as given:
+        done = run_to_end([program or path(), command, *options, *given.paths], given.files)
     told = done.stdout.decode(), done.stderr.decode()
     return subprocess.CompletedProcess(done.args, done.returncode, *told)
 
 
-def finished(words: list[str], files: Sequence[int] = ()) -> subprocess.CompletedProcess[bytes]:
+def run_to_end(words: list[str], files: Sequence[int] = ()) -> subprocess.CompletedProcess[bytes]:
     """As `subprocess.run`, with what the program prints, where other threads may fork. `files`:
     descriptors that are handed to it."""
-    with private.unforked():
+    with private_descriptors.without_forks():
         child = subprocess.Popen(
             words,
             stdin=subprocess.DEVNULL,

@@ -13,7 +13,7 @@ from celery.exceptions import Reject, SoftTimeLimitExceeded
 from sagas.base.errors import StoreUnavailable
 from sagas.base.logger import logger
 from sagas.core import outcomes
-from sagas.core.dispatch import Begun, Order, Settled
+from sagas.core.dispatch import AttemptTexts, Order, AlreadyReported
 from sagas.core.outcomes import Outcome
 from sagas.core.states import OutcomeKind
 from sagas.definition import awaitables, children, decoders, tokens, tracing
@@ -90,7 +90,7 @@ class Work:
             function = queue.desk().within(order, function)
         try:
             outcome = self._outcome(function, self._task(order, begun))
-        except Settled:
+        except AlreadyReported:
             logger.info("%s: rolled back a repeated message", order.token)
             return
         if (
@@ -112,17 +112,17 @@ class Work:
             _surely(report, until)
 
     def _outcome(self, function: Function, task: Task[Any]) -> Outcome:
-        """Calls the function, within a span where there is a tracer. Raises `Settled`."""
+        """Calls the function, within a span where there is a tracer. Raises `AlreadyReported`."""
         assert self.manner.function
         tracer = self.tracer
         if tracer is None:
             return _call(function, self.manner, task)
         with tracer.attempt(task, self.manner.function) as span:
             outcome = _call(function, self.manner, task)
-            span.ended(outcome.kind.value, outcomes.fault(outcome), outcome.error)
+            span.ended(outcome.kind.value, outcomes.error_text(outcome), outcome.error)
             return outcome
 
-    def _place(self, order: Order, begun: Begun) -> tuple[Place | None, Decoders]:
+    def _place(self, order: Order, begun: AttemptTexts) -> tuple[Place | None, Decoders]:
         """Where the step is, if the saga's steps come from its input, and how results are read."""
         if begun.shape is None:
             return None, self.decoders
@@ -134,7 +134,7 @@ class Work:
         values = ShapeValues() if shape == "null" else ShapeValues.read(shape)
         return kind.place(order.step, values, begun.input), kind.decoders
 
-    def _task(self, order: Order, begun: Begun) -> Task[Any]:
+    def _task(self, order: Order, begun: AttemptTexts) -> Task[Any]:
         """What the function is handed."""
         undo, token = self.kind == "undo", tokens.saga_token(order.log, order.number)
         place, decoders = self._place(order, begun)
@@ -173,13 +173,13 @@ def _surely(ask: Callable[[], T], until: float) -> T:
 
 
 def _call(function: Function, manner: Manner, task: Task[Any]) -> Outcome:
-    """Calls the function, also an async one, and says what that was. Raises `Settled`."""
+    """Calls the function, also an async one, and says what that was. Raises `AlreadyReported`."""
     try:
         value = function(task)
         return outcomes.succeeded(
             asyncio.run(awaitables.whole(value)) if inspect.isawaitable(value) else value, task
         )
-    except Settled:
+    except AlreadyReported:
         raise
     except SoftTimeLimitExceeded as error:
         return outcomes.unknown(f"{type(error).__name__}: {error}")

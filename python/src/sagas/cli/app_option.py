@@ -6,7 +6,7 @@ import argparse
 from typing import Any
 
 from sagas.base.errors import CannotDecode
-from sagas.base.module_values import loaded
+from sagas.base.module_values import load_reference
 from sagas.definition.payloads import PLAIN, Payloads, checked
 from sagas.inspection.saga import Read
 from sagas.storage.admin import CANNOT, Trouble
@@ -45,7 +45,7 @@ def payloads_of(words: argparse.Namespace) -> Payloads:
     if place is None:
         return PLAIN
     try:
-        found = loaded("--app", place)
+        found = load_reference("--app", place)
         return checked(getattr(found, "codec", found))
     except ValueError as error:
         raise Trouble(str(error), 2) from error

@@ -15,7 +15,7 @@ from sagas.base.wording import escaped, number
 from sagas.cli.formatting import CANNOT, GOOD, NO, Progress, show_json, table
 from sagas.cli.snapshot import Snapshot
 from sagas.core import protocol
-from sagas.core.history import STARTS
+from sagas.core.history import START_EVENTS
 from sagas.core.states import EVENT_STATES, UNDO_FAILED, EnginePhase, saga_phase
 from sagas.inspection.names import step_names
 from sagas.inspection.question import Row
@@ -59,15 +59,15 @@ class Events:
             word, id = event["event"], self.first + event["saga"]
             if word == "open":
                 self.places[id] = event["def"]
-            elif word in STARTS:
-                key = id, event["step"], "undo" if STARTS[word] else "run"
+            elif word in START_EVENTS:
+                key = id, event["step"], "undo" if START_EVENTS[word] else "run"
                 counts[key] = counts.get(key, 0) + 1
                 running[key[:2]] = *key, counts[key]
             elif word in EVENT_STATES:
                 self.attempts[running.pop((id, event["step"]))] = word
         self.under_way = {*running.values()}
 
-    def ask(self, given: program.Texts) -> None:
+    def ask(self, given: program.TextFiles) -> None:
         """Asks the engine how each saga stands behind these events. Raises `Trouble`."""
         if not self.places:
             return
@@ -82,7 +82,7 @@ class Events:
 
 def standing(reply: str) -> Standing:
     """How a saga stands, by the engine's reply to `show`, as a row has it."""
-    phase, text = protocol.standing(reply)
+    phase, text = protocol.phase_and_end(reply)
     if not EnginePhase(phase).is_over:
         return None, None, False, False
     outcome = json.loads(text)
@@ -91,7 +91,7 @@ def standing(reply: str) -> Standing:
 
 
 def ran(
-    words: list[str], given: program.Texts, asked: str = ""
+    words: list[str], given: program.TextFiles, asked: str = ""
 ) -> subprocess.CompletedProcess[str]:
     """Runs the program over texts that it was given."""
     return subprocess.run(
@@ -123,7 +123,7 @@ def judge(store: Snapshot, log: int) -> Judged:
     """Verifies the events of a shard, and then compares its rows with them. Raises `Trouble`."""
     texts = [text for _, text in store.rows(queries.TEXTS, log, log)]
     lines, _ = queries.joined(store.rows(queries.LINES, log))
-    with contextlib.closing(program.Texts([protocol.HEADER + lines, *texts])) as given:
+    with contextlib.closing(program.TextFiles([protocol.HEADER + lines, *texts])) as given:
         done = ran(["audit", *given.paths], given)
         found = Judged((done.stdout or done.stderr).strip(), done.returncode == GOOD)
         if not found.is_allowed:

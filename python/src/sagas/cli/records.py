@@ -17,7 +17,7 @@ from sagas.cli.formatting import CANNOT, GOOD, NO, Progress, show_json, table
 from sagas.cli.nodes import is_database
 from sagas.cli.snapshot import Snapshot
 from sagas.core.fleet_record import Chunk, Loss, ShardRecord, Takeover
-from sagas.core.record_lines import BadLine, Records
+from sagas.core.record_lines import InvalidLine, Records
 from sagas.definition.capacity import SHARD_CAPACITY
 from sagas.storage.admin import Trouble
 from sagas.storage.record_file import number
@@ -63,7 +63,7 @@ def read(paths: list[str]) -> Records:
         for place, line in enumerate(text[: text.rfind("\n") + 1].splitlines(), 1):
             try:
                 found.add(line)
-            except BadLine as error:
+            except InvalidLine as error:
                 raise Trouble(
                     f"{path}, line {place}: {error}. Name a file that a program wrote by "
                     "SAGAS_RECORD",
@@ -118,7 +118,7 @@ class Judge:
         seen = self._records.ends(first, first + SHARD_CAPACITY)
         ends = [(edge, at[id - first]) for id, edge in seen if id in over and id - first in at]
         record = ShardRecord(self._records.notes.get(shard, {}), self._is_synchronous)
-        record.make(takeovers, chunks, self._timeline, ends)
+        record.build(takeovers, chunks, self._timeline, ends)
         if self._folder:
             save(pathlib.Path(self._folder, f"{shard}.record"), record.text())
         is_allowed, answer = self._judge(record.text())
@@ -193,7 +193,10 @@ def shown(one: Judged) -> dict[str, Any]:
     """A shard for programs."""
     told: dict[str, Any] = json.loads(json.dumps(dataclasses.asdict(one)))
     told["losses"] = [
-        {"chunks": loss.had, "told": [telling._asdict() for telling in loss.told]}
+        {
+            "chunks": loss.chunk_count,
+            "told": [telling._asdict() for telling in loss.acknowledgements],
+        }
         for loss in one.losses
     ]
     return told
@@ -204,10 +207,10 @@ def lost(one: Judged) -> list[str]:
     more."""
     found = [f"shard {one.shard}: gap: {gap}" for gap in one.gaps]
     for loss in one.losses:
-        last = max(telling.chunks for telling in loss.told)
-        edges = ", ".join(sorted({telling.edge for telling in loss.told}))
+        last = max(telling.chunks for telling in loss.acknowledgements)
+        edges = ", ".join(sorted({telling.edge for telling in loss.acknowledgements}))
         found.append(
-            f"shard {one.shard}: lost: a server took over with {loss.had} commits, and what was "
+            f"shard {one.shard}: lost: a server took over with {loss.chunk_count} commits, and what was "
             f"acknowledged ({edges}) rests on {last}"
         )
     if one.ends_lost:

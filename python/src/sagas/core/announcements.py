@@ -11,7 +11,7 @@ import json
 from typing import TYPE_CHECKING, Any
 
 from sagas.core import early_reports
-from sagas.core.batch import Delivery
+from sagas.core.batch import DeliveryRow
 from sagas.core.states import EnginePhase, Suspension, undo_failures
 
 if TYPE_CHECKING:
@@ -23,11 +23,13 @@ STUCK, ATTENTION = "saga.stuck", "saga.attention"
 ENDS = (COMPLETED, RECOVERED, STUCK)
 TYPES = (*ENDS, ATTENTION)
 """The types of what is told, and those of them that tell of an end."""
-ASKED = (Suspension.APPROVAL, Suspension.EXHAUSTED, Suspension.CANNOT_DECODE)
+NEEDS_OPERATOR = (Suspension.APPROVAL, Suspension.EXHAUSTED, Suspension.CANNOT_DECODE)
 """Suspensions that always need a person; an unknown outcome does where it has no time."""
 
 
-def of_end(saga: SagaInstance, id: int, phase: str, recovered: bool, at: float) -> list[Delivery]:
+def end_deliveries(
+    saga: SagaInstance, id: int, phase: str, recovered: bool, at: float
+) -> list[DeliveryRow]:
     """What is told of a saga's end: how it ended, each compensation that failed for good, and each
     report that was not used and that a person has to see to.
     """
@@ -44,10 +46,10 @@ def of_end(saga: SagaInstance, id: int, phase: str, recovered: bool, at: float) 
     return found
 
 
-def of_suspension(attempt: Attempt, row: SuspensionRow, at: float) -> list[Delivery]:
+def suspension_deliveries(attempt: Attempt, row: SuspensionRow, at: float) -> list[DeliveryRow]:
     """What is told of an attempt that is suspended, where a person has to do something."""
     is_parked = row.reason is Suspension.UNKNOWN and row.until is None and not attempt.is_remote
-    if not is_parked and row.reason not in ASKED:
+    if not is_parked and row.reason not in NEEDS_OPERATOR:
         return []
     more = {"kind": row.reason.value, "step": attempt.name, "undo": attempt.undo}
     name = f"{attempt.token()} {row.reason} {at}"
@@ -56,7 +58,7 @@ def of_suspension(attempt: Attempt, row: SuspensionRow, at: float) -> list[Deliv
 
 def _rows(
     saga: SagaInstance, id: int, type: str, more: dict[str, Any], at: float, name: str
-) -> list[Delivery]:
+) -> list[DeliveryRow]:
     """A row for each webhook that is told; `name`: what is told of, among all of the saga."""
     hooks = saga.kind.hooks.get(type, ())
     if not hooks:

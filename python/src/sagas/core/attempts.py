@@ -11,7 +11,7 @@ from typing import Any
 
 from sagas.base.errors import CannotDecode, Fail
 from sagas.core import early_reports
-from sagas.core.collection import collected, has_nothing_to_undo, is_unclear
+from sagas.core.collection import collected, has_nothing_to_undo, needs_value_to_tell
 from sagas.core.decisions import (
     CALL,
     FOLLOW,
@@ -25,56 +25,63 @@ from sagas.core.decisions import (
     Decision,
     Do,
 )
-from sagas.core.declared_values import due_time, limit_subjects, of_limits, of_until
-from sagas.core.exhaustion import FAILED_BEFORE, LEAST_PAUSE, RETRIED, backoff, go_on, yields
+from sagas.core.declared_values import due_time, limit_subjects, limit_calls, until_call
+from sagas.core.exhaustion import (
+    AFTER_FAILURE,
+    MIN_PAUSE,
+    RETRYABLE,
+    backoff_seconds,
+    after_failure,
+    yield_seconds,
+)
 from sagas.core.model import CLAIMED, FINISHED, QUEUED, RUNNING, SUSPENDED, Attempt, SagaInstance
-from sagas.core.outcomes import MOST_TEXT, Outcome, decided, failure, not_read
+from sagas.core.outcomes import MAX_TEXT, Outcome, approval_outcome, failure, values_unavailable
 from sagas.core.states import Action, OutcomeKind, Suspension
-from sagas.core.suspensions import Subject, SuspensionRow
+from sagas.core.suspensions import FunctionOption, SuspensionRow
 from sagas.definition.blobs import BlobUnavailable
 from sagas.definition.step import Step
 
-LOOK = 30.0
+MAX_SLEEP = 30.0
 """Seconds: a clock may jump, so nobody sleeps longer without a look at it."""
-COUNTED = frozenset({Suspension.BACKOFF, Suspension.UNKNOWN, Suspension.RETRY})
+COUNTED_DOWN = frozenset({Suspension.BACKOFF, Suspension.UNKNOWN, Suspension.RETRY})
 """Suspensions of some seconds, which are counted here: to put the clock back does not make them
 more.
 """
-PARKED = RETRIED | {Suspension.CANNOT_DECODE}
+PARKED = RETRYABLE | {Suspension.CANNOT_DECODE}
 """Suspensions of an attempt that was called, and is called again."""
-WAITS = PARKED | {Suspension.TIMER, Suspension.APPROVAL}
+ANNOUNCED = PARKED | {Suspension.TIMER, Suspension.APPROVAL}
 """Suspensions that are told as `step_suspended`."""
 LEAST_UNREAD, MOST_UNREAD = 1.0, 60.0
 """Seconds until values are asked for again that a blob store did not give."""
-ASKED = WAITS | {Suspension.EXTERNAL}
+REPORTABLE = ANNOUNCED | {Suspension.EXTERNAL}
 """Suspensions of an attempt that somebody may report."""
 
 
-Decisions = list[tuple[Attempt, Decision]]
+AttemptDecisions = list[tuple[Attempt, Decision]]
 
 
-def is_simple(attempt: Attempt) -> bool:
+def is_called_at_once(attempt: Attempt) -> bool:
     """Whether its function is called at once, and nothing is to be decided."""
     return (
         attempt.action.simple is not None and attempt.attempt == 1 and not attempt.instance.draining
     )
 
 
-def is_asked(attempt: Attempt) -> bool:
+def is_reportable(attempt: Attempt) -> bool:
     """Whether somebody may report it: it is suspended for that."""
-    return attempt.state is SUSPENDED and not attempt.pending and attempt.reason in ASKED
+    return attempt.state is SUSPENDED and not attempt.pending_row and attempt.reason in REPORTABLE
 
 
-def will_be_asked(attempt: Attempt) -> bool:
+def becomes_reportable(attempt: Attempt) -> bool:
     """Whether it is about to be suspended until somebody reports it."""
     step = attempt.declared
     if step.manner(attempt.kind).external:
         return attempt.state is CLAIMED
-    if attempt.state is SUSPENDED and attempt.pending and attempt.reason in ASKED:
+    if attempt.state is SUSPENDED and attempt.pending_row and attempt.reason in REPORTABLE:
         return True
     if attempt.undo or attempt.state is FINISHED:
         return False
-    is_due = attempt.instance.rare.due.get(attempt.word) == 0
+    is_due = attempt.instance.rare.wait_ends.get(attempt.action_key) == 0
     return step.kind == "approval" or (step.kind == "wait" and not is_due)
 
 
@@ -104,26 +111,26 @@ class AttemptMachine:
         Returns:
             `CALL`, `OFFER`, `SUSPEND`, or `REPORT` where it is given up without a call. `READ`
             where that rests on values that are not held, and `ASK` where it rests on a function of
-            the definition; then `go_on` is asked.
+            the definition; then `after_failure` is asked.
         """
         instance = attempt.instance
-        if is_simple(attempt):
+        if is_called_at_once(attempt):
             return CALL
-        if is_unclear(attempt):
+        if needs_value_to_tell(attempt):
             return READ
         if has_nothing_to_undo(attempt):
             return self.finish(attempt, Outcome(OutcomeKind.SUCCEEDED, "null"), now)
-        if attempt.word in instance.rare.final:
+        if attempt.action_key in instance.rare.final:
             return self._give_up(attempt, "not called: the step failed permanently", now, True)
-        if instance.has_early and (outcome := early_reports.taken(attempt)):
+        if instance.has_early and (outcome := early_reports.taken_outcome(attempt)):
             is_read = outcome.kind is not OutcomeKind.CANNOT_DECODE
             return (self.finish if is_read else self._park)(attempt, outcome, now)
-        if instance.draining and self._may_leave(attempt) and attempt.offered != 0:
+        if instance.draining and self._may_give_up(attempt) and attempt.offered != 0:
             return self._give_up(attempt, "not called: the saga is being undone", now)
-        if attempt.attempt > 1 and (pause := backoff(attempt, now)) > 0:
+        if attempt.attempt > 1 and (pause := backoff_seconds(attempt, now)) > 0:
             attempt.suspend(Suspension.BACKOFF, now + pause)
             return SLEEP
-        return self._first(attempt, now)
+        return self._start(attempt, now)
 
     def resume(self, attempt: Attempt, now: float) -> Decision:
         """Decide how one goes on in a shard that was recovered: it is under way here, or was made
@@ -134,51 +141,53 @@ class AttemptMachine:
         """
         if attempt.state is FINISHED:
             return REPORT_AGAIN
-        if attempt.pending and (attempt.state is not RUNNING or attempt.is_remote):
-            return self._put_again(attempt, attempt.pending)
+        if attempt.pending_row and (attempt.state is not RUNNING or attempt.is_remote):
+            return self._suspend_again(attempt, attempt.pending_row)
         if attempt.reason is Suspension.EXTERNAL and attempt.manner.external:
             attempt.suspend(Suspension.EXTERNAL)
             return OFFER
         if attempt.state is not CLAIMED:
             return NOTHING
-        if attempt.reason in RETRIED:
+        if attempt.reason in RETRYABLE:
             attempt.suspend(attempt.reason, attempt.until)
             return NOTHING if attempt.until is None else SLEEP
         if attempt.reason is Suspension.TIMER and attempt.until == 0:
             return CALL
         if attempt.reason is Suspension.CHILD:
-            attempt.fresh = False  # its row is in the store, and its child may be
+            attempt.is_uncalled = False  # its row is in the store, and its child may be
             attempt.suspend(Suspension.CHILD)
             return FOLLOW
         if attempt.reason in (Suspension.TIMER, Suspension.APPROVAL):
-            attempt.fresh = True
+            attempt.is_uncalled = True
             attempt.suspend(attempt.reason, attempt.until)
             return SLEEP
         return self.begin(attempt, now)
 
-    def _put_again(self, attempt: Attempt, row: SuspensionRow) -> Decision:
+    def _suspend_again(self, attempt: Attempt, row: SuspensionRow) -> Decision:
         """The row was on its way to the store, and is not known to be there."""
         if attempt.state in (QUEUED, RUNNING):
             return Decision(Do.NOTHING, row)
         is_unread = row.reason is Suspension.CANNOT_DECODE  # its row has no time of a further try
         attempt.suspend(row.reason, attempt.until if is_unread else row.until)
-        return Decision(Do.SUSPEND, row, timer=is_unread or row.reason in RETRIED)
+        return Decision(Do.SUSPEND, row, timer=is_unread or row.reason in RETRYABLE)
 
-    def _first(self, attempt: Attempt, now: float) -> Decision:
+    def _start(self, attempt: Attempt, now: float) -> Decision:
         step = attempt.declared
         if step.kind == "wait" and attempt.kind == Action.RUN and not step.manner("run").external:
             return self._wait(attempt, step, now)
-        return self._go(attempt, now)
+        return self._call_or_offer(attempt, now)
 
-    def _go(self, attempt: Attempt, now: float) -> Decision:
+    def _call_or_offer(self, attempt: Attempt, now: float) -> Decision:
         """It is called here, or done by an external worker or a child saga."""
         if attempt.is_child:
-            attempt.since = now
+            attempt.waiting_since = now
             attempt.suspend(Suspension.CHILD)
             return Decision(Do.SUSPEND, SuspensionRow(Suspension.CHILD, None))
         if not attempt.manner.external:
             return CALL
-        attempt.fresh = attempt.fresh and self.leased  # else whoever does it may have begun
+        attempt.is_uncalled = (
+            attempt.is_uncalled and self.leased
+        )  # else whoever does it may have begun
         attempt.suspend(Suspension.EXTERNAL)
         return OFFER
 
@@ -187,58 +196,58 @@ class AttemptMachine:
         has failed, and its function is not called.
         """
         rare = attempt.instance.rare
-        due = rare.due.get(attempt.word)
+        due = rare.wait_ends.get(attempt.action_key)
         if due == 0:
             attempt.has_row = True  # an earlier attempt's
             return CALL
         if due is None:
-            returned = attempt.take_returned(Subject.UNTIL)
-            is_asked = callable(step.until) and returned is None
-            if is_asked and attempt.lacks():
+            returned = attempt.take_returned(FunctionOption.UNTIL)
+            is_reportable = callable(step.until) and returned is None
+            if is_reportable and attempt.lacks_values():
                 return READ
             try:
-                if is_asked:
-                    return Decision(Do.ASK, question=of_until(attempt))
+                if is_reportable:
+                    return Decision(Do.ASK, option_calls=until_call(attempt))
                 due = due_time(step.until if returned is None else returned.get(), now)
             except Exception as error:
-                return self._without(attempt, error, now)
-        rare.due[attempt.word] = until = max(due, 1.0)
+                return self._finish_uncalled(attempt, error, now)
+        rare.wait_ends[attempt.action_key] = until = max(due, 1.0)
         return self._suspend(attempt, Suspension.TIMER, until, now)
 
-    def go_on(self, attempt: Attempt, now: float) -> Decision:
+    def decide_again(self, attempt: Attempt, now: float) -> Decision:
         """Decide how one goes on of which this said `READ` or `ASK`, other than `limit`."""
         return self.begin(attempt, now)
 
-    def _without(self, attempt: Attempt, error: Exception, now: float) -> Decision:
+    def _finish_uncalled(self, attempt: Attempt, error: Exception, now: float) -> Decision:
         """A function that says something of it has raised this: its own is not called."""
         if isinstance(error, CannotDecode):
-            outcome = Outcome(OutcomeKind.CANNOT_DECODE, str(error)[:MOST_TEXT])
+            outcome = Outcome(OutcomeKind.CANNOT_DECODE, str(error)[:MAX_TEXT])
             return self._park(attempt, outcome, now)
         told = f"{type(error).__name__}: {error}"
         outcome = failure(told, final=isinstance(error, Fail))
         return self.finish(attempt, outcome._replace(error=error), now)
 
-    def limit(self, attempt: Attempt, now: float) -> Decision:
+    def decide_limits(self, attempt: Attempt, now: float) -> Decision:
         """Decide by which key the limits of a step count one that may be called.
 
         Returns:
             `CALL`; or as `ended`, if the function that says the key has raised; or `READ` or
             `ASK`, and then this is asked again. `REPORT` where its saga drains meanwhile.
         """
-        if attempt.instance.drains and self._may_leave(attempt):
+        if attempt.instance.may_cancel_work and self._may_give_up(attempt):
             return self._give_up(attempt, "not called: the saga is being undone", now)
         try:
-            if (tenant := attempt.take_returned(Subject.TENANT)) is not None:
+            if (tenant := attempt.take_returned(FunctionOption.TENANT)) is not None:
                 attempt.instance.rare.tenant = tenant.get()
-            if (key := attempt.take_returned(Subject.LIMIT_KEY)) is not None:
+            if (key := attempt.take_returned(FunctionOption.LIMIT_KEY)) is not None:
                 attempt.rare.limit_key = key.get()
             if not (subjects := limit_subjects(attempt)):
                 return CALL
-            if attempt.lacks():
+            if attempt.lacks_values():
                 return READ
-            return Decision(Do.ASK, question=of_limits(attempt, subjects))
+            return Decision(Do.ASK, option_calls=limit_calls(attempt, subjects))
         except Exception as error:
-            return self._without(attempt, error, now)
+            return self._finish_uncalled(attempt, error, now)
 
     def _suspend(
         self, attempt: Attempt, reason: Suspension, until: float | None, now: float
@@ -246,23 +255,23 @@ class AttemptMachine:
         """It waits for its time or for an approval, and nobody called it for that before: where
         its saga drains, it is given up.
         """
-        attempt.since, attempt.fresh = now, True
-        if attempt.instance.draining and self._may_leave(attempt):
+        attempt.waiting_since, attempt.is_uncalled = now, True
+        if attempt.instance.draining and self._may_give_up(attempt):
             return self._give_up(attempt, "not called: the saga is being undone", now)
         attempt.suspend(reason, until)
         return Decision(Do.SUSPEND, SuspensionRow(reason, until))
 
     # -- time
 
-    def delay(self, attempt: Attempt, now: float) -> float | None:
+    def timer_delay(self, attempt: Attempt, now: float) -> float | None:
         """Return in how many seconds `timer` is asked of one that is suspended; None where it has
         no time.
         """
         if attempt.until is None:
             return None
-        most = LOOK
-        if attempt.reason in COUNTED:
-            most = max(LEAST_PAUSE, attempt.manner.backoff.maximum, attempt.rare.pause)
+        most = MAX_SLEEP
+        if attempt.reason in COUNTED_DOWN:
+            most = max(MIN_PAUSE, attempt.manner.backoff.maximum, attempt.rare.pause)
         return max(0.0, min(most, attempt.until - now))
 
     def timer(self, attempt: Attempt, now: float) -> Decision:
@@ -274,36 +283,36 @@ class AttemptMachine:
         """
         if attempt.state is not SUSPENDED or attempt.until is None:
             return NOTHING
-        if attempt.until > now and attempt.reason not in COUNTED:
+        if attempt.until > now and attempt.reason not in COUNTED_DOWN:
             return SLEEP
         if attempt.reason is Suspension.APPROVAL:
             return self.finish(attempt, failure("nobody approved it in time", final=True), now)
         if attempt.reason is Suspension.TIMER:
-            attempt.instance.rare.due[attempt.word] = 0.0
+            attempt.instance.rare.wait_ends[attempt.action_key] = 0.0
             attempt.suspend(Suspension.TIMER, 0.0)
             return Decision(Do.SUSPEND, SuspensionRow(Suspension.TIMER, 0.0))
-        return self._again(attempt, now)
+        return self._after_pause(attempt, now)
 
     def stored(self, attempt: Attempt) -> Decision:
         """Decide how one goes on whose row is in the store."""
-        row, attempt.pending = attempt.pending, None
+        row, attempt.pending_row = attempt.pending_row, None
         if row is None or attempt.state is not SUSPENDED:
             return NOTHING
         if row.reason is Suspension.TIMER and row.until == 0:
             return CALL
         event = ("step_suspended", row.reason.value)
         if row.reason is Suspension.CHILD:
-            attempt.fresh = False
+            attempt.is_uncalled = False
             return Decision(Do.FOLLOW, event=event)
         return Decision(Do.SUSPEND, timer=row.reason not in PARKED, event=event)
 
-    def _again(self, attempt: Attempt, now: float) -> Decision:
+    def _after_pause(self, attempt: Attempt, now: float) -> Decision:
         """Behind its back-off: the next attempt, or the same one whose outcome is unknown. Or it is
         tried again to read its values.
         """
         if attempt.reason in (Suspension.BACKOFF, Suspension.CANNOT_DECODE):
-            return self._first(attempt, now)
-        return self._go(attempt, now)
+            return self._start(attempt, now)
+        return self._call_or_offer(attempt, now)
 
     # -- outcomes
 
@@ -320,18 +329,18 @@ class AttemptMachine:
             called again, and where a person or another program has to go on.
         """
         kind = outcome.kind
-        attempt.fresh = False  # also where the worker got it from another node
+        attempt.is_uncalled = False  # also where the worker got it from another node
         if kind is OutcomeKind.UNKNOWN:
             return self._unknown(attempt, outcome, now)
         if kind is OutcomeKind.CANNOT_DECODE:
             return self._park(attempt, outcome, now)
         if kind is OutcomeKind.ANSWERED:
-            return self.finish(attempt, decided(outcome), now)
+            return self.finish(attempt, approval_outcome(outcome), now)
         if kind is OutcomeKind.SUCCEEDED and self._is_approval(attempt):
             within = attempt.declared.approval_timeout
             until = None if within is None else now + within.total_seconds()
             return self._suspend(attempt, Suspension.APPROVAL, until, now)
-        decision = None if kind is OutcomeKind.SUCCEEDED else go_on(attempt, outcome, now)
+        decision = None if kind is OutcomeKind.SUCCEEDED else after_failure(attempt, outcome, now)
         return decision or self.finish(attempt, outcome, now)
 
     def finish(self, attempt: Attempt, outcome: Outcome, now: float) -> Decision:
@@ -342,7 +351,7 @@ class AttemptMachine:
     def report(self, attempt: Attempt) -> Decision:
         """Report one that is finished; also where an earlier report of it was not kept."""
         if attempt.outcome and attempt.outcome.kind is OutcomeKind.FAILED_PERMANENTLY:
-            attempt.instance.rare.final.add(attempt.word)
+            attempt.instance.rare.final.add(attempt.action_key)
         return REPORT
 
     def _is_approval(self, attempt: Attempt) -> bool:
@@ -352,14 +361,14 @@ class AttemptMachine:
         """The same attempt is called again, after its back-off; or a person has to report it."""
         manner, rare = attempt.manner, attempt.rare
         rare.count += 1
-        attempt.since = attempt.since or now
+        attempt.waiting_since = attempt.waiting_since or now
         attempt.outcome = outcome
         most = manner.max_unknown
         if isinstance(most, datetime.timedelta):
-            is_spent = now - attempt.since >= most.total_seconds()
+            is_spent = now - attempt.waiting_since >= most.total_seconds()
         else:
             is_spent = most is not None and rare.count > most
-        rare.pause = max(LEAST_PAUSE, manner.backoff.after(rare.count), yields(attempt))
+        rare.pause = max(MIN_PAUSE, manner.backoff.after(rare.count), yield_seconds(attempt))
         until = None if is_spent else now + rare.pause
         times = f"; {rare.count} times so far" if rare.count > 1 else ""
         detail = f"{outcome.value}{times}{'; a person must report it' if is_spent else ''}"
@@ -371,9 +380,9 @@ class AttemptMachine:
             event=("step_unknown", detail),
         )
 
-    def unread(self, attempt: Attempt, error: BlobUnavailable, now: float) -> Decision:
+    def values_unavailable(self, attempt: Attempt, error: BlobUnavailable, now: float) -> Decision:
         """Decide on one whose values were to be read, and which the blob store does not give."""
-        return self._park(attempt, not_read(error), now)
+        return self._park(attempt, values_unavailable(error), now)
 
     def _park(self, attempt: Attempt, outcome: Outcome, now: float) -> Decision:
         """This program cannot read what is stored for it: it waits for one that can, or for a
@@ -381,14 +390,14 @@ class AttemptMachine:
         after a pause, which is told once.
         """
         before, attempt.outcome = attempt.outcome, outcome
-        attempt.since = attempt.since or now
-        is_due = attempt.is_wait and attempt.instance.rare.due.get(attempt.word) == 0
+        attempt.waiting_since = attempt.waiting_since or now
+        is_due = attempt.is_wait and attempt.instance.rare.wait_ends.get(attempt.action_key) == 0
         until = None
         if isinstance(outcome.error, BlobUnavailable):
             attempt.rare.pause = min(MOST_UNREAD, max(LEAST_UNREAD, 2 * attempt.rare.pause))
             until = now + attempt.rare.pause
             is_told = before is not None and before[:2] == outcome[:2] and attempt.has_row
-            if is_told and attempt.pending is None:
+            if is_told and attempt.pending_row is None:
                 attempt.suspend(Suspension.CANNOT_DECODE, until)
                 return SLEEP
         attempt.suspend(Suspension.CANNOT_DECODE, until)
@@ -405,34 +414,34 @@ class AttemptMachine:
 
     # -- a saga that drains
 
-    def drain(self, instance: SagaInstance, now: float) -> Decisions:
+    def drain(self, instance: SagaInstance, now: float) -> AttemptDecisions:
         """Let a saga drain, so that it can be planned: what waits and was not called is given up,
         and what waits for its back-off goes on now. If it was planned meanwhile, nothing is to be
         done. Asked once the commit is answered that has why it drains.
         """
-        found: Decisions = []
+        found: AttemptDecisions = []
         if not instance.draining:
             return found
-        instance.rare.drains = True
+        instance.rare.may_cancel_work = True
         for attempt in list(instance.busy.values()):
             if attempt.state is SUSPENDED and attempt.reason is Suspension.EXTERNAL:
-                if self._may_leave(attempt):  # unless a worker has it by now
+                if self._may_give_up(attempt):  # unless a worker has it by now
                     found.append((attempt, WITHDRAW))
-            elif attempt.state in (SUSPENDED, QUEUED) and self._may_leave(attempt):
+            elif attempt.state in (SUSPENDED, QUEUED) and self._may_give_up(attempt):
                 why = "not called: the saga is being undone"
                 found.append((attempt, self._give_up(attempt, why, now)))
-            elif attempt.reason is Suspension.CHILD and not attempt.pending:
+            elif attempt.reason is Suspension.CHILD and not attempt.pending_row:
                 found.append((attempt, FOLLOW))  # which aborts the child, where that is meant
             elif attempt.state is not SUSPENDED or attempt.undo:
                 continue
             elif attempt.reason is Suspension.EXHAUSTED and not instance.aborted:
                 continue  # a person was asked, and may have done it by hand
-            elif attempt.outcome and attempt.reason in FAILED_BEFORE:
+            elif attempt.outcome and attempt.reason in AFTER_FAILURE:
                 found.append((attempt, self.finish(attempt, attempt.outcome, now)))
-            elif attempt.until is not None and attempt.reason in COUNTED:
+            elif attempt.until is not None and attempt.reason in COUNTED_DOWN:
                 # its last attempt, or one whose outcome is unknown: to give it up would be a
                 # failure that was none
-                found.append((attempt, self._again(attempt, now)))
+                found.append((attempt, self._after_pause(attempt, now)))
         return found
 
     def withdrawn(self, attempt: Attempt, now: float) -> Decision:
@@ -441,8 +450,8 @@ class AttemptMachine:
             return NOTHING
         return self._give_up(attempt, "not called: the saga is being undone", now)
 
-    def _may_leave(self, attempt: Attempt) -> bool:
-        if not attempt.fresh or attempt.undo:
+    def _may_give_up(self, attempt: Attempt) -> bool:
+        if not attempt.is_uncalled or attempt.undo:
             return False
         instance = attempt.instance
         return instance.aborted or attempt.attempt < instance.kind.tries["run"][attempt.step]

@@ -66,7 +66,7 @@ class Attention:
     by: str | None = None
 
 
-UNUSED = """
+UNUSED_REPORTS = """
 SELECT step, detail FROM suspensions WHERE id = ? AND number = 0 AND reason = 'early_result'
 """
 """The reports of a saga that were not used, once it has ended."""
@@ -81,7 +81,7 @@ def is_resolvable(phase: str | None, end: str | None, has_unused: bool) -> bool:
 
 def is_to_resolve(row: SagaRow, note: str, has_unused: bool) -> bool:
     """Whether a note is to be stored; False where a person wrote the same one before. `has_unused`:
-    whether `UNUSED` has rows of it.
+    whether `UNUSED_REPORTS` has rows of it.
 
     Raises `StepNotWaiting` where another note stands, and of any saga that nobody resolves."""
     if row.note is None and not is_resolvable(row.phase, row.end, has_unused):

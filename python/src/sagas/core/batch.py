@@ -6,35 +6,37 @@ import dataclasses
 from collections.abc import Callable, Iterable, Sequence
 from typing import Any, NamedTuple, Optional, Union
 
-Key = tuple[int, str, int]
+AttemptKey = tuple[int, str, int]
 """A step's number, `run` or `undo`, and the attempt."""
 
-Defined = tuple[int, str, str]
+DefinitionRow = tuple[int, str, str]
 """place, digest, text: of a definition of a log"""
-Born = tuple[str, Sequence[Defined]]
+NewShard = tuple[str, Sequence[DefinitionRow]]
 """name, definitions: of a log"""
-Opened = tuple[int, str, str, int, str, float, Optional[float], Optional[str]]
+OpenedRow = tuple[int, str, str, int, str, float, Optional[float], Optional[str]]
 """id, key, saga, def, input, at, deadline, traceparent"""
-Result = tuple[int, int, str, int, str, Optional[str], float]
+ResultRow = tuple[int, int, str, int, str, Optional[str], float]
 """id, step, kind, attempt, outcome, value, at"""
-Ended = tuple[str, str, bool, bool, float, int]
+EndedRow = tuple[str, str, bool, bool, float, int]
 """phase, outcome, recovered, undo_failed, ended, id"""
-HeldRow = tuple[int, int, str, int, str, int, float, Optional[float], Optional[str]]
+StoredSuspension = tuple[int, int, str, int, str, int, float, Optional[float], Optional[str]]
 """id, step, kind, attempt, why, count, since, until, error"""
-Label = tuple[int, str, str]
+LabelRow = tuple[int, str, str]
 """id, name, value: of a saga"""
-Freed = tuple[int, int, str, int]
+SuspensionKey = tuple[int, int, str, int]
 """id, step, kind, attempt"""
-Advanced = tuple[int, int, str, int, float, Optional[str], float]
+ProgressRow = tuple[int, int, str, int, float, Optional[str], float]
 """id, step, kind, attempt, fraction, detail, at: of `progress`"""
-Delivery = tuple[str, str, str, int, str, str, float]
+DeliveryRow = tuple[str, str, str, int, str, str, float]
 """id, webhook, type, saga, key, body, at: of `webhook_deliveries`"""
-Spans = tuple[int, int, str, int, float, str]
+SpansRow = tuple[int, int, str, int, float, str]
 """id, step, kind, attempt, at, spans: of `attempt_spans`"""
-Offer = tuple[str, int, int, int, str, int, str, Optional[int], Optional[int], float, Optional[str]]
+OfferRow = tuple[
+    str, int, int, int, str, int, str, Optional[int], Optional[int], float, Optional[str]
+]
 """attempt, shard, id, step, action, number, task, concurrency, lease, offered_at, cancelled: of
 `external_attempts`"""
-Cancelled = tuple[str, int]
+CancelledSaga = tuple[str, int]
 """why, id: of a saga that is to be undone"""
 
 
@@ -53,50 +55,50 @@ class Withdrawal:
     is_done: bool = False
 
 
-OpenRow = tuple[int, str, int, str, Optional[float], Optional[str], Optional[str]]
+OpenSagaRow = tuple[int, str, int, str, Optional[float], Optional[str], Optional[str]]
 """id, key, def, input, deadline, traceparent, shape: of a saga that is open"""
-Shape = tuple[int, str]
+ShapeRow = tuple[int, str]
 """id, shape: of a saga whose steps come from its input"""
-Told = tuple[str, int]
+RequestAnswer = tuple[str, int]
 """the answer to a request, as JSON, and the request's id"""
-Request = tuple[int, str, str, Optional[str], Optional[int]]
+PendingRequest = tuple[int, str, str, Optional[str], Optional[int]]
 """id, key, what, value, and the id of the saga that it is asked of, where that is there"""
-Start = tuple[int, str, str, int, str, dict[str, str], Optional[float], Optional[str]]
+PendingStart = tuple[int, str, str, int, str, dict[str, str], Optional[float], Optional[str]]
 """id, key, saga, version, input, labels, deadline, traceparent"""
-Asked = tuple[str, str, str, float]
+AnsweredRequest = tuple[str, str, str, float]
 """key, what, value, at: a request that is kept with its answer, in the commit that it came to"""
-Wanted = Union[int, Asked, None]
+RequestRef = Union[int, AnsweredRequest, None]
 """Who is to hear the answer: the id of a request that is there, or a request that is to be; or
 None
 """
 
 
-class Rare:
+class RareRows:
     """What most batches have nothing of. A part is there from when it is first asked for: whoever
     writes it looks into `parts` alone, since most of them are missing.
     """
 
-    held: list[HeldRow]
-    freed: list[Freed]
-    labels: list[Label]
-    shapes: list[Shape]
-    defined: list[Defined]
+    held: list[StoredSuspension]
+    freed: list[SuspensionKey]
+    labels: list[LabelRow]
+    shapes: list[ShapeRow]
+    defined: list[DefinitionRow]
     """further definitions of the log"""
     children: list[tuple[int, int]]
     """sagas that others started, each with the id of that one"""
-    answers: list[Told]
-    asked: list[tuple[Asked, str]]
+    answers: list[RequestAnswer]
+    asked: list[tuple[AnsweredRequest, str]]
     """requests that have no row yet, with their answers"""
     notes: list[tuple[str, int]]
     undone: list[tuple[int, int]]
     """reports that their sagas did not use, and of which nothing is left to be undone, or other
     sagas undo it: saga, step"""
     begun: list[tuple[int, int | None]]
-    """starts of clients (`Start`) that are done with, each with the saga that it is, which is asked
+    """starts of clients (`PendingStart`) that are done with, each with the saga that it is, which is asked
     what was asked of the start; None where its key has another saga"""
-    offers: list[Offer]
+    offers: list[OfferRow]
     """attempts that others do from now on"""
-    cancelled: list[Cancelled]
+    cancelled: list[CancelledSaga]
     """sagas that are to be undone, whose workers are to hear so"""
     suspended: list[tuple[str, int, str]]
     """of these the attempts of which nobody knows, their shard, and `suspended`, or `person` where
@@ -107,10 +109,10 @@ class Rare:
     """of these the attempts that are over, their shard, and `succeeded` where they have. No report
     of them is taken any more. Where it is None, and a worker has reported a success before,
     nothing of the shard is written: what it did stands"""
-    progress: list[Advanced]
-    deliveries: list[Delivery]
+    progress: list[ProgressRow]
+    deliveries: list[DeliveryRow]
     """what webhooks are told"""
-    spans: list[Spans]
+    spans: list[SpansRow]
     work: list[Callable[[Any], object]]
     """what else is done in the transaction of a file, with its connection"""
     closed: tuple[int, str] | None = None
@@ -139,62 +141,62 @@ class Batch:
     """
 
     __slots__ = (
-        "log",
+        "shard",
         "at",
         "first",
         "epoch",
         "text",
         "lines",
-        "born",
+        "new_shard",
         "opened",
         "results",
         "ended",
-        "guessed",
+        "unchecked_keys",
         "rare",
     )
 
     def __init__(self, log: int, at: float, first: int = 0, epoch: int = 0) -> None:
-        self.log = log
+        self.shard = log
         self.at = at
         self.first = first
         self.epoch = epoch
         self.text = ""
         self.lines = 0
-        self.born: Born | None = None
-        self.opened: list[Opened] = []
-        self.results: list[Result] = []
-        self.ended: list[Ended] = []
-        self.guessed: list[str] = []
-        self.rare: Rare | None = None
+        self.new_shard: NewShard | None = None
+        self.opened: list[OpenedRow] = []
+        self.results: list[ResultRow] = []
+        self.ended: list[EndedRow] = []
+        self.unchecked_keys: list[str] = []
+        self.rare: RareRows | None = None
 
     def __bool__(self) -> bool:
         """Whether it holds anything."""
         return bool(self.text or self.opened or self.results or self.ended or self.rare)
 
-    def counted(self) -> int:
+    def count_lines(self) -> int:
         """Count its lines, and return how many there are."""
         self.lines = self.text.count("\n")
         return self.lines
 
     @property
-    def more(self) -> Rare:
+    def rare_rows(self) -> RareRows:
         """What most have nothing of, to be put into."""
-        self.rare = self.rare or Rare()
+        self.rare = self.rare or RareRows()
         return self.rare
 
-    def answer(self, request: Wanted, answer: str) -> None:
+    def answer(self, request: RequestRef, answer: str) -> None:
         """The answer to a request, as JSON."""
         if isinstance(request, int):
-            self.more.answers.append((answer, request))
+            self.rare_rows.answers.append((answer, request))
         elif request is not None:
-            self.more.asked.append((request, answer))
+            self.rare_rows.asked.append((request, answer))
 
 
 @dataclasses.dataclass(slots=True)
-class LogRow:
+class ShardRow:
     """A log that is not closed. `note`: why no program could open it before."""
 
-    log: int
+    shard: int
     name: str
     texts: list[str]
     opened: int
@@ -217,7 +219,7 @@ class Tail(NamedTuple):
 
 
 @dataclasses.dataclass(slots=True)
-class Loaded:
+class LoadedShard:
     """A log as its driver takes it up: lines (without the header), how many events, and its open
     sagas with results and held attempts.
     """
@@ -225,13 +227,13 @@ class Loaded:
     text: str
     events: int
     opened: int
-    open: list[OpenRow]
-    results: list[Result]
-    held: list[HeldRow]
+    open: list[OpenSagaRow]
+    results: list[ResultRow]
+    held: list[StoredSuspension]
     epoch: int = 0
-    line: str = ""
+    timeline: str = ""
     """the server's timeline as it was read, where that is kept"""
-    definitions: int = 0
+    definition_count: int = 0
     """how many definitions the log has"""
     tail: Tail | None = None
     """of a log that has any events, where other nodes may write it"""
@@ -239,7 +241,7 @@ class Loaded:
     """where its chunks do not join"""
 
 
-class Known(NamedTuple):
+class StoredSaga(NamedTuple):
     """What the store has of a saga beside its row, all of one moment."""
 
     definition: str
@@ -257,7 +259,7 @@ class Grant(NamedTuple):
     """
 
     calls: int
-    places: list[int]
+    slots: list[int]
     pause: float
 
 
@@ -267,7 +269,7 @@ class SagaRow(NamedTuple):
     id: int
     key: str
     saga: str
-    place: int
+    definition_index: int
     input: str
     at: float
     phase: str | None

@@ -9,7 +9,7 @@ from typing import Any
 from sagas.base.errors import NotSerializable
 from sagas.core.model import Attempt
 from sagas.core.outcomes import SUCCEEDED, Outcome, failure
-from sagas.core.results import Ended
+from sagas.core.results import SagaEnd
 from sagas.core.states import SagaPhase, StepState
 from sagas.definition import children, serialization
 from sagas.definition.compiled import Kind
@@ -90,7 +90,7 @@ def undo_input(
     }
 
 
-def left_by(child: Mapping[str, str], earlier: Iterable[Mapping[str, str]]) -> set[str]:
+def undone_steps(child: Mapping[str, str], earlier: Iterable[Mapping[str, str]]) -> set[str]:
     """Return the steps of a child that have nothing left to undo.
 
     Args:
@@ -103,7 +103,7 @@ def left_by(child: Mapping[str, str], earlier: Iterable[Mapping[str, str]]) -> s
     return undone
 
 
-def outcome(end: Ended, kind: Kind, results: Mapping[int, str]) -> Outcome | None:
+def child_outcome(end: SagaEnd, kind: Kind, results: Mapping[int, str]) -> Outcome | None:
     """Return what a child's end comes to.
 
     Args:

@@ -49,7 +49,7 @@ def has_nothing_to_undo(attempt: Attempt) -> bool:
     return serialization.failed(result) is not None
 
 
-def is_unclear(attempt: Attempt) -> bool:
+def needs_value_to_tell(attempt: Attempt) -> bool:
     """Whether it may be such a compensation: the value that says so is not held."""
     if not attempt.undo:
         return _undoes_child(attempt) and attempt.instance.text == ABSENT

@@ -5,7 +5,7 @@ from __future__ import annotations
 import dataclasses
 import enum
 
-from sagas.core.declared_values import Question
+from sagas.core.declared_values import OptionCalls
 from sagas.core.suspensions import SuspensionRow
 
 
@@ -46,14 +46,14 @@ class Decision:
         row: The row to be put into the store. Once it is there, `AttemptMachine.stored` is asked.
         timer: Whether a timer is set now; then `AttemptMachine.timer` is asked.
         event: The name and the detail of an event to be told.
-        question: What is to be called, of `ASK`.
+        option_calls: What is to be called, of `ASK`.
     """
 
     do: Do
     row: SuspensionRow | None = None
     timer: bool = False
     event: tuple[str, str] | None = None
-    question: Question | None = None
+    option_calls: OptionCalls | None = None
 
 
 NOTHING, CALL, OFFER = Decision(Do.NOTHING), Decision(Do.CALL), Decision(Do.OFFER)

@@ -9,42 +9,42 @@ from collections.abc import Callable, Iterable, Mapping
 from typing import Any
 
 from sagas.core.model import Attempt
-from sagas.core.suspensions import Returned, Subject, tenant_of
+from sagas.core.suspensions import FunctionResult, FunctionOption, tenant_of
 from sagas.definition import serialization
 from sagas.definition.step import Until
 from sagas.definition.task import Task
 
 
 @dataclasses.dataclass(frozen=True, slots=True)
-class Question:
+class OptionCalls:
     """Functions of a definition that have to be called before an attempt goes on.
 
     Attributes:
         calls: What each is called for, and what calls it. A thread may do that.
     """
 
-    calls: Mapping[Subject, Callable[[], Any]]
+    calls: Mapping[FunctionOption, Callable[[], Any]]
 
-    def answers(self) -> dict[Subject, Returned]:
+    def answers(self) -> dict[FunctionOption, FunctionResult]:
         """Call them. What they raise is a part of the answers."""
         return {subject: _returned(call) for subject, call in self.calls.items()}
 
     @property
-    def words(self) -> str:
+    def option_names(self) -> str:
         """What they are declared as."""
         return " and ".join(f"{subject.value}=" for subject in self.calls)
 
 
-def _returned(call: Callable[[], Any]) -> Returned:
+def _returned(call: Callable[[], Any]) -> FunctionResult:
     try:
-        return Returned(call())
+        return FunctionResult(call())
     except Exception as error:
-        return Returned(error=error)
+        return FunctionResult(error=error)
     except BaseException as error:  # nothing of a thread may end the program
-        return Returned(error=RuntimeError(f"{type(error).__name__}: {error}"))
+        return FunctionResult(error=RuntimeError(f"{type(error).__name__}: {error}"))
 
 
-def of_until(attempt: Attempt) -> Question:
+def until_call(attempt: Attempt) -> OptionCalls:
     """Return what asks for the end of a wait.
 
     Raises:
@@ -52,38 +52,38 @@ def of_until(attempt: Attempt) -> Question:
     """
     until = attempt.declared.until
     assert callable(until)
-    return Question({Subject.UNTIL: functools.partial(until, attempt.task())})
+    return OptionCalls({FunctionOption.UNTIL: functools.partial(until, attempt.task())})
 
 
-def limit_subjects(attempt: Attempt) -> list[Subject]:
+def limit_subjects(attempt: Attempt) -> list[FunctionOption]:
     """Return what has to be asked before the limits of a step can count an attempt: the tenant of
     its saga, and the key of the limits."""
-    found, instance, extras = list[Subject](), attempt.instance, attempt.extras
+    found, instance, extras = list[FunctionOption](), attempt.instance, attempt.extras
     if instance.kind.fair_by is not None and instance.tenant is None:
-        found.append(Subject.TENANT)
+        found.append(FunctionOption.TENANT)
     is_keyed = not attempt.undo and attempt.declared.concurrency_by is not None
     if is_keyed and (extras is None or extras.limit_key is None):
-        found.append(Subject.LIMIT_KEY)
+        found.append(FunctionOption.LIMIT_KEY)
     return found
 
 
-def of_limits(attempt: Attempt, subjects: Iterable[Subject]) -> Question:
+def limit_calls(attempt: Attempt, subjects: Iterable[FunctionOption]) -> OptionCalls:
     """Return what asks for these.
 
     Raises:
         CannotDecode: The codec failed.
     """
-    calls: dict[Subject, Callable[[], Any]] = {}
+    calls: dict[FunctionOption, Callable[[], Any]] = {}
     instance, kind = attempt.instance, attempt.instance.kind
-    if Subject.TENANT in subjects:
+    if FunctionOption.TENANT in subjects:
         assert kind.fair_by
         text = kind.payloads.decode(instance.text)
-        calls[Subject.TENANT] = functools.partial(tenant_of, kind.fair_by, text, kind.name)
-    if Subject.LIMIT_KEY in subjects:
+        calls[FunctionOption.TENANT] = functools.partial(tenant_of, kind.fair_by, text, kind.name)
+    if FunctionOption.LIMIT_KEY in subjects:
         by = attempt.declared.concurrency_by
         assert by
-        calls[Subject.LIMIT_KEY] = functools.partial(_limit_key, by, attempt.task())
-    return Question(calls)
+        calls[FunctionOption.LIMIT_KEY] = functools.partial(_limit_key, by, attempt.task())
+    return OptionCalls(calls)
 
 
 def _limit_key(by: Callable[[Any], Any], task: Task[Any]) -> str:

@@ -10,11 +10,11 @@ from sagas.definition import tokens
 from sagas.definition.capacity import SHARD_CAPACITY
 
 
-class Settled(SagasError):
+class AlreadyReported(SagasError):
     """Another message of this attempt had its effect first: what this one wrote is rolled back."""
 
 
-class Begun(NamedTuple):
+class AttemptTexts(NamedTuple):
     """The texts of an attempt, whole: JSON. `shape`: the definition and what is kept of the
     saga's shape, where its steps come from its input.
     """
@@ -39,7 +39,7 @@ class Position(NamedTuple):
     step: int
 
 
-Carried = dict[str, Any]
+OrderMessage = dict[str, Any]
 
 
 @dataclasses.dataclass(frozen=True, slots=True)
@@ -79,16 +79,16 @@ class Order:
         saga = tokens.saga_token(self.log, self.number)
         return tokens.attempt_id(tokens.idempotency_key(saga, self.step, self.kind), self.attempt)
 
-    def written(self) -> Carried:
+    def written(self) -> OrderMessage:
         """As a message carries it: JSON."""
         return {field.name: getattr(self, field.name) for field in dataclasses.fields(self)}
 
     @classmethod
-    def read(cls, told: Carried) -> Order:
+    def read(cls, told: OrderMessage) -> Order:
         """What `written` wrote. Raises `KeyError` or `TypeError` where it is no order."""
         results = {name: _of(value) for name, value in told["results"].items()}
         declared = told.get("declared")
-        made: Carried = {"results": results, "result": _of(told["result"])}
+        made: OrderMessage = {"results": results, "result": _of(told["result"])}
         made["declared"] = Declared(*declared) if declared else None
         return cls(**told | made)
 
@@ -97,6 +97,6 @@ def _of(told: Any) -> Any:
     return Position(*told) if isinstance(told, list) else told
 
 
-def id_of(log: int, number: int) -> int:
+def saga_id(log: int, number: int) -> int:
     """A saga's id."""
     return log * SHARD_CAPACITY + number

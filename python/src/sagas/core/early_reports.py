@@ -11,9 +11,9 @@ from collections.abc import Iterable
 from typing import TYPE_CHECKING, NamedTuple
 
 from sagas.base.errors import CannotDecode
-from sagas.core.batch import HeldRow, Wanted
+from sagas.core.batch import StoredSuspension, RequestRef
 from sagas.core.model import Attempt, SagaInstance
-from sagas.core.outcomes import MOST_TEXT, SUCCEEDED, Outcome
+from sagas.core.outcomes import MAX_TEXT, SUCCEEDED, Outcome
 from sagas.core.states import Action, EarlyReason, OutcomeKind
 from sagas.definition.compiled import Word
 
@@ -21,9 +21,9 @@ if TYPE_CHECKING:
     from sagas.core.effects import Effects
     from sagas.core.shard import ShardDriver
 
-ATTEMPT = 0
+EARLY_ATTEMPT = 0
 """The number of an attempt that no engine begins."""
-KINDS = {
+EARLY_OUTCOMES = {
     EarlyReason.RESULT: OutcomeKind.SUCCEEDED,
     EarlyReason.ERROR: OutcomeKind.FAILED_PERMANENTLY,
     EarlyReason.UNDONE: OutcomeKind.SUCCEEDED,
@@ -38,15 +38,15 @@ class EarlyReport:
 
     Attributes:
         saga: The saga, which the store has.
-        word: The step.
+        action_key: The step.
         outcome: What is said of it.
         request: The operator's command that it is of, which is answered in the commit.
     """
 
     saga: SagaInstance
-    word: Word
+    action_key: Word
     outcome: Outcome
-    request: Wanted = None
+    request: RequestRef = None
 
     def keep(self) -> tuple[EarlyReason, str]:
         """Let the saga know it from now on; return what is stored of it.
@@ -58,20 +58,20 @@ class EarlyReport:
         if is_good:
             text = self.saga.kind.payloads.encode(text)
         reason = EarlyReason.RESULT if is_good else EarlyReason.ERROR
-        self.saga.rare.early[self.word] = (reason, text)
+        self.saga.rare.early_reports[self.action_key] = (reason, text)
         return reason, text
 
-    def row(self, now: float) -> HeldRow:
+    def row(self, now: float) -> StoredSuspension:
         """As `keep`; return its row."""
         reason, text = self.keep()
-        return (self.saga.id, *self.word, ATTEMPT, reason.value, 0, now, None, text)
+        return (self.saga.id, *self.action_key, EARLY_ATTEMPT, reason.value, 0, now, None, text)
 
 
 class DueReport(NamedTuple):
     """A success that was reported of a step, whose needs are committed, and that has not begun."""
 
     saga: SagaInstance
-    word: Word
+    action_key: Word
     outcome: Outcome
 
 
@@ -86,7 +86,7 @@ class Refusal:
     saga: SagaInstance
 
 
-def refusal(saga: SagaInstance, step: int, kind: str) -> str | None:
+def refusal_reason(saga: SagaInstance, step: int, kind: str) -> str | None:
     """Why no report of a step is taken before it begins; None where one is.
 
     It is one that somebody reports, and it will begin as far as is known.
@@ -103,13 +103,13 @@ def refusal(saga: SagaInstance, step: int, kind: str) -> str | None:
 
 def stored(saga: SagaInstance, word: Word) -> Outcome | None:
     """Return the report that is stored for a step; its value is as the store has it."""
-    if not saga.has_early or word not in saga.rare.early:
+    if not saga.has_early or word not in saga.rare.early_reports:
         return None
-    reason, text = saga.rare.early[word]
-    return Outcome(KINDS[reason], text)
+    reason, text = saga.rare.early_reports[word]
+    return Outcome(EARLY_OUTCOMES[reason], text)
 
 
-def due(sagas: Iterable[SagaInstance], lot: Iterable[Attempt]) -> list[DueReport]:
+def due_reports(sagas: Iterable[SagaInstance], lot: Iterable[Attempt]) -> list[DueReport]:
     """Return the reports that are committed before their sagas begin to recover: then they are
     compensated as any other. What needs such a step is due behind it.
 
@@ -125,10 +125,10 @@ def due(sagas: Iterable[SagaInstance], lot: Iterable[Attempt]) -> list[DueReport
         done |= {
             one.step for one in lot if one.instance is saga and is_success(one) and not one.undo
         }
-        left = [word for word in saga.rare.early if _may_begin(saga, word)]
+        left = [word for word in saga.rare.early_reports if _may_begin(saga, word)]
         while ready := [word for word in left if done >= {*saga.kind.below[word[0]]}]:
             for word in ready:
-                reason, text = saga.rare.early[word]
+                reason, text = saga.rare.early_reports[word]
                 if reason is EarlyReason.RESULT:
                     found.append(DueReport(saga, word, Outcome(SUCCEEDED, text, encoded=True)))
                     done.add(word[0])
@@ -152,13 +152,13 @@ def unused(saga: SagaInstance) -> list[int]:
     return [step for step in _left(saga) if not _has_no_effect(saga, step)]
 
 
-def without_effect(saga: SagaInstance) -> list[int]:
+def steps_without_effect(saga: SagaInstance) -> list[int]:
     """As `unused`, the steps that have nothing to be undone."""
     return [step for step in _left(saga) if _has_no_effect(saga, step)]
 
 
 def _left(saga: SagaInstance) -> list[int]:
-    early = saga.rare.early if saga.has_early else {}
+    early = saga.rare.early_reports if saga.has_early else {}
     return sorted(step for (step, _), (reason, _) in early.items() if reason is EarlyReason.RESULT)
 
 
@@ -167,7 +167,7 @@ def _has_no_effect(saga: SagaInstance, step: int) -> bool:
     return declared is not None and declared.undo.implied
 
 
-def taken(attempt: Attempt) -> Outcome | None:
+def taken_outcome(attempt: Attempt) -> Outcome | None:
     """Return how an attempt that begins is over, by what was reported before: its function is not
     called, and nobody is asked. It counts also where its saga drains by now: the effect is there.
 
@@ -175,7 +175,7 @@ def taken(attempt: Attempt) -> Outcome | None:
         None where nothing is stored for it; one of the kind `CANNOT_DECODE` where the codec cannot
         read it.
     """
-    found = None if attempt.undo else stored(attempt.instance, attempt.word)
+    found = None if attempt.undo else stored(attempt.instance, attempt.action_key)
     if found is None:
         return None
     attempt.has_row = True
@@ -184,7 +184,7 @@ def taken(attempt: Attempt) -> Outcome | None:
     try:
         return found._replace(value=attempt.instance.kind.payloads.decode(found.value))
     except CannotDecode as error:
-        return Outcome(OutcomeKind.CANNOT_DECODE, str(error)[:MOST_TEXT])
+        return Outcome(OutcomeKind.CANNOT_DECODE, str(error)[:MAX_TEXT])
 
 
 def effects(driver: ShardDriver, report: EarlyReport | Refusal, now: float) -> Effects:
@@ -195,7 +195,7 @@ def effects(driver: ShardDriver, report: EarlyReport | Refusal, now: float) -> E
     """
     found = driver.effects(now)
     if isinstance(report, EarlyReport):
-        found.batch.more.held.append(report.row(now))
+        found.batch.rare_rows.held.append(report.row(now))
         found.batch.answer(report.request, "true")
-    found.more.early.append(report)
+    found.rare_effects.early.append(report)
     return found

@@ -5,7 +5,7 @@ from __future__ import annotations
 import dataclasses
 from collections.abc import Sequence
 
-from sagas.core.batch import Batch, Wanted, Withdrawal
+from sagas.core.batch import Batch, RequestRef, Withdrawal
 from sagas.core.early_reports import DueReport, EarlyReport, Refusal
 from sagas.core.model import Attempt, SagaInstance
 from sagas.core.suspensions import SuspensionRow
@@ -23,7 +23,7 @@ class Abort:
     """
 
     saga: SagaInstance
-    command: Wanted = None
+    command: RequestRef = None
     done: bool | None = None
     is_repeated: bool = False
 
@@ -62,7 +62,7 @@ class RareEffects:
     planned: list[SagaInstance] = dataclasses.field(default_factory=list)
 
 
-NOTHING_RARE = RareEffects()
+NO_RARE_EFFECTS = RareEffects()
 """Of effects that have nothing of it; nothing is put into this one."""
 
 
@@ -103,63 +103,65 @@ class Effects:
         self.ended: list[SagaInstance] = []
         self.dispatch: list[Attempt] = []
         self.is_written = False
-        self.rare = NOTHING_RARE
+        self.rare = NO_RARE_EFFECTS
 
     @property
-    def more(self) -> RareEffects:
+    def rare_effects(self) -> RareEffects:
         """What most have nothing of, to be put into."""
-        if self.rare is NOTHING_RARE:
+        if self.rare is NO_RARE_EFFECTS:
             self.rare = RareEffects()
         return self.rare
 
 
-class Question:
+class EngineRequest:
     """What the engine was asked, and has not answered.
 
     Attributes:
-        lines: How many replies are to come.
+        reply_count: How many replies are to come.
         reports: How these attempts ended.
         early: To commit these reports, before the sagas recover.
-        goods: Where there are such: so many of `reports` are ahead of them, the others behind
+        success_count: Where there are such: so many of `reports` are ahead of them, the others behind
             the aborts.
         aborts: To abort these sagas.
         opens: To open these sagas.
         overdue: To abort these of them at once, because their deadlines have passed.
-        defines: To know so many further definitions of the shard.
-        claims: For so many tasks; 0 if it was not asked for any.
-        odd: Those of `reports` whose sagas do not just go well.
-        plans: So many sagas are expected to be planned: each plan is a task, and takes no slot.
-        looks: How these sagas stand, by their numbers, behind all else: they are expected to be
+        definition_count: To know so many further definitions of the shard.
+        claim_count: For so many tasks; 0 if it was not asked for any.
+        deviating: Those of `reports` whose sagas do not just go well.
+        expected_plans: So many sagas are expected to be planned: each plan is a task, and takes no slot.
+        expected_ends: How these sagas stand, by their numbers, behind all else: they are expected to be
             over.
-        shows: How these sagas ended, by their numbers. It is asked behind the others' replies.
+        shown_sagas: How these sagas ended, by their numbers. It is asked behind the others' replies.
         effects: What the replies came to so far.
     """
 
     __slots__ = (
-        "lines",
+        "reply_count",
         "reports",
-        "odd",
+        "deviating",
         "early",
-        "goods",
+        "success_count",
         "aborts",
         "opens",
         "overdue",
-        "defines",
-        "claims",
-        "plans",
-        "looks",
-        "shows",
+        "definition_count",
+        "claim_count",
+        "expected_plans",
+        "expected_ends",
+        "shown_sagas",
         "effects",
     )
 
     def __init__(self) -> None:
-        self.lines = self.defines = self.claims = self.plans = self.goods = 0
+        self.reply_count = (
+            self.definition_count
+        ) = self.claim_count = self.expected_plans = self.success_count = 0
         self.early: Sequence[DueReport] = ()
         self.reports: Sequence[Attempt] = ()
-        self.odd: Sequence[Attempt] = ()
+        self.deviating: Sequence[Attempt] = ()
         self.aborts: Sequence[Abort] = ()
         self.opens: Sequence[SagaInstance] = ()
         self.overdue: Sequence[SagaInstance] = ()
-        self.looks: Sequence[int] = ()
-        self.shows: Sequence[int] = ()
+        self.expected_ends: Sequence[int] = ()
+        self.shown_sagas: Sequence[int] = ()
         self.effects: Effects | None = None

@@ -13,7 +13,7 @@ from sagas.core.model import Attempt, SagaInstance
 from sagas.core.outcomes import SUCCEEDED
 
 
-def expected(lot: Sequence[Attempt]) -> tuple[int, list[int]]:
+def expected_endings(lot: Sequence[Attempt]) -> tuple[int, list[int]]:
     """Return what is expected to follow these reports.
 
     Args:

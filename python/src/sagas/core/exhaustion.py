@@ -6,23 +6,23 @@ import json
 
 from sagas.core.decisions import Decision, Do
 from sagas.core.model import Attempt
-from sagas.core.outcomes import MOST_TEXT, Outcome
+from sagas.core.outcomes import MAX_TEXT, Outcome
 from sagas.core.states import AttemptState, OutcomeKind, Suspension
 from sagas.core.suspensions import SuspensionRow
 
-LEAST_PAUSE = 0.05
+MIN_PAUSE = 0.05
 """Seconds between two calls of the same attempt."""
-YIELD, MOST_YIELD = 1.0, 60.0
+MIN_YIELD, MAX_YIELD = 1.0, 60.0
 """Seconds for which an attempt leaves its place to others whose wait for a saga was given up."""
-FAILED_BEFORE = frozenset({Suspension.RETRY, Suspension.EXHAUSTED})
+AFTER_FAILURE = frozenset({Suspension.RETRY, Suspension.EXHAUSTED})
 """Suspensions of an attempt whose last call had no effect."""
-COUNTS_FAILURES = FAILED_BEFORE | {Suspension.CHILD}
+COUNTS_FAILURES = AFTER_FAILURE | {Suspension.CHILD}
 """Suspensions whose row counts failures; others count unknown outcomes."""
-RETRIED = FAILED_BEFORE | {Suspension.UNKNOWN}
+RETRYABLE = AFTER_FAILURE | {Suspension.UNKNOWN}
 """Suspensions of an attempt that a person may have called again at once."""
 
 
-def go_on(attempt: Attempt, outcome: Outcome, now: float) -> Decision | None:
+def after_failure(attempt: Attempt, outcome: Outcome, now: float) -> Decision | None:
     """Decide how an attempt goes on that failed, and that the engine would not make again.
 
     The same attempt is called again, or waits for a person: for the engine it is under way.
@@ -41,26 +41,26 @@ def go_on(attempt: Attempt, outcome: Outcome, now: float) -> Decision | None:
     if manner.on_exhausted == "fail" and (is_final or not repeats):
         return None
     told = json.loads(outcome.value)
-    detail = str(told.get("error", ""))[:MOST_TEXT]
+    detail = str(told.get("error", ""))[:MAX_TEXT]
     attempt.rare.failures += 1
-    attempt.since, attempt.outcome = attempt.since or now, outcome
+    attempt.waiting_since, attempt.outcome = attempt.waiting_since or now, outcome
     if is_final or not repeats:
         attempt.suspend(Suspension.EXHAUSTED)
         row = SuspensionRow(Suspension.EXHAUSTED, None, detail)
         return Decision(Do.SUSPEND, row, event=("step_exhausted", detail))
     pause = told.get("retry_after", manner.backoff.after(made))
-    attempt.rare.pause = max(LEAST_PAUSE, pause)
+    attempt.rare.pause = max(MIN_PAUSE, pause)
     attempt.suspend(Suspension.RETRY, now + attempt.rare.pause)
     row = SuspensionRow(Suspension.RETRY, attempt.until, detail)
     return Decision(Do.SUSPEND, row, timer=True, event=("step_retrying", detail))
 
 
-def backoff(attempt: Attempt, now: float) -> float:
+def backoff_seconds(attempt: Attempt, now: float) -> float:
     """Seconds until it is called; where the clock jumped back, no more than the pause."""
-    missed = attempt.instance.rare.missed_at.get(attempt.word)
+    missed = attempt.instance.rare.failed_at.get(attempt.action_key)
     if missed is None:
         return 0.0
-    wanted = attempt.instance.rare.pauses.get(attempt.word)
+    wanted = attempt.instance.rare.retry_pauses.get(attempt.action_key)
     if wanted is None:
         wanted = attempt.manner.backoff.after(attempt.attempt - 1)
     else:
@@ -68,11 +68,11 @@ def backoff(attempt: Attempt, now: float) -> float:
     return min(wanted, missed + wanted - now)
 
 
-def yields(attempt: Attempt) -> float:
+def yield_seconds(attempt: Attempt) -> float:
     """Seconds for which it leaves its place to others behind a wait that was given up."""
     rare = attempt.rare
     gave_way, rare.gave_way = rare.gave_way, False
-    return min(MOST_YIELD, YIELD * 2.0 ** min(rare.count - 1, 16)) if gave_way else 0.0
+    return min(MAX_YIELD, MIN_YIELD * 2.0 ** min(rare.count - 1, 16)) if gave_way else 0.0
 
 
 def retry(attempt: Attempt, now: float) -> Decision:
@@ -89,12 +89,12 @@ def retry(attempt: Attempt, now: float) -> Decision:
     detail = attempt.outcome.value if attempt.outcome else ""
     if not is_unknown:
         detail = str(json.loads(detail or "{}").get("error", ""))
-    attempt.since = now
+    attempt.waiting_since = now
     attempt.suspend(reason, now)
     return Decision(Do.SUSPEND, SuspensionRow(reason, now, detail), timer=True)
 
 
 def may_retry(attempt: Attempt) -> bool:
     """Whether a person may have it called again at once."""
-    is_suspended = attempt.state is AttemptState.SUSPENDED and not attempt.pending
-    return is_suspended and attempt.reason in RETRIED
+    is_suspended = attempt.state is AttemptState.SUSPENDED and not attempt.pending_row
+    return is_suspended and attempt.reason in RETRYABLE

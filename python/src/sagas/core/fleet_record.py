@@ -14,11 +14,11 @@ from collections import deque
 from collections.abc import Iterable, Mapping, Sequence
 from typing import NamedTuple
 
-from sagas.core.record_lines import Line, Note
+from sagas.core.record_lines import SessionName, RecordNote
 
-NOBODY = 999_999_999
+NO_SESSION = 999_999_999
 """A session that never began, and more chunks than any shard has."""
-NONE = -1
+NO_CHUNK = -1
 """`last` of a takeover before which there was no chunk."""
 
 
@@ -35,7 +35,7 @@ class Chunk(NamedTuple):
 
 class Takeover(NamedTuple):
     """A new epoch of a shard, as the database has it. `last`: `first` of the last chunk before,
-    `NONE` if there was none; None if it is not known.
+    `NO_CHUNK` if there was none; None if it is not known.
     """
 
     epoch: int
@@ -51,14 +51,14 @@ class _Session:
     """
 
     number: int
-    asked: int
-    notes: deque[Note]
+    requested: int
+    notes: deque[RecordNote]
     known: int = 0
     stage: str = "done"
     digest: int = 0
 
 
-class Telling(NamedTuple):
+class Acknowledgement(NamedTuple):
     """Something that was acknowledged: how, and on how many chunks it rests."""
 
     edge: str
@@ -70,8 +70,8 @@ class Loss(NamedTuple):
     rests on more.
     """
 
-    had: int
-    told: list[Telling]
+    chunk_count: int
+    acknowledgements: list[Acknowledgement]
 
 
 class ShardRecord:
@@ -81,15 +81,17 @@ class ShardRecord:
         losses: What servers lacked that took over.
     """
 
-    def __init__(self, notes: Mapping[Line, Sequence[Note]], is_synchronous: bool) -> None:
-        self._left = {line: deque(of) for line, of in notes.items()}
+    def __init__(
+        self, notes: Mapping[SessionName, Sequence[RecordNote]], is_synchronous: bool
+    ) -> None:
+        self._unplaced = {line: deque(of) for line, of in notes.items()}
         self._synchronous, self._safe = is_synchronous, 0
         self._lines = [f"fleet 1 {'sync' if is_synchronous else 'async'}"]
         self._ends, self._digests = [0], [0]
         self._sessions: list[_Session] = []
-        self._of: dict[tuple[int, str], _Session] = {}  # by epoch and timeline
+        self._by_epoch: dict[tuple[int, str], _Session] = {}  # by epoch and timeline
         self._epoch = 0
-        self._tellings: list[Telling] = []
+        self._acknowledgements: list[Acknowledgement] = []
         self.losses: list[Loss] = []
 
     def text(self) -> str:
@@ -101,7 +103,7 @@ class ShardRecord:
         """How many events it has."""
         return len(self._lines) - 1
 
-    def make(
+    def build(
         self,
         takeovers: Sequence[Takeover],
         chunks: Sequence[Chunk],
@@ -117,31 +119,33 @@ class ShardRecord:
             ends: The edges at which ends of sagas were acknowledged, each with the number of
                 events that the end rests on.
         """
-        left, places = deque(chunks), deque(self._looked(takeovers, chunks))
+        left, places = deque(chunks), deque(self._completed(takeovers, chunks))
         times = {timeline, *(one.timeline for one in takeovers)}
-        times |= {line.timeline for line in self._left}
+        times |= {line.timeline for line in self._unplaced}
         for time in sorted(time for time in times if time <= timeline):
             while places and places[0].timeline == time:
                 one = places.popleft()
                 self._write_before(one, left, time)
-                self._begin(one.epoch, time, self._left.pop(Line(one.run, one.epoch, time), None))
+                self._begin(
+                    one.epoch, time, self._unplaced.pop(SessionName(one.run, one.epoch, time), None)
+                )
             if self._sessions:  # what is there was written before another server took over
                 self._write_before(places[0] if places else None, left, time)
             if time != timeline and self._is_known(time):
                 self._move(time)
         self._end(ends)
 
-    def _looked(self, takeovers: Sequence[Takeover], chunks: Sequence[Chunk]) -> list[Takeover]:
+    def _completed(self, takeovers: Sequence[Takeover], chunks: Sequence[Chunk]) -> list[Takeover]:
         """The takeovers, and of each what was before it. Of one that did not look it is what its
         node read; if that is not recorded, all that is older by its epoch, and before the next one.
         """
-        found, bound = list[Takeover](), NOBODY
+        found, bound = list[Takeover](), NO_SESSION
         for one in reversed(takeovers):
             last = one.last
             if last is None:
-                notes = self._left.get(Line(one.run, one.epoch, one.timeline), ())
-                read = next((note.number for note in notes if note.what == "took"), None)
-                last = NONE
+                notes = self._unplaced.get(SessionName(one.run, one.epoch, one.timeline), ())
+                read = next((note.number for note in notes if note.event == "took"), None)
+                last = NO_CHUNK
                 for chunk in chunks:
                     is_before = chunk.epoch < one.epoch if read is None else chunk.end <= read
                     if not is_before or chunk.first > bound:
@@ -153,50 +157,50 @@ class ShardRecord:
 
     def _write_before(self, one: Takeover | None, left: deque[Chunk], timeline: str) -> None:
         """Place the chunks that the database has before a takeover; all, if there is none."""
-        last = NOBODY if one is None or one.last is None else one.last
+        last = NO_SESSION if one is None or one.last is None else one.last
         while left and left[0].first <= last:
-            self._wrote(left.popleft(), timeline)
+            self._place_chunk(left.popleft(), timeline)
 
     def _is_known(self, timeline: str) -> bool:
         """Whether anything is known of a server's time."""
-        return bool(self._sessions) or any(line.timeline == timeline for line in self._left)
+        return bool(self._sessions) or any(line.timeline == timeline for line in self._unplaced)
 
     def _end(self, ends: Iterable[tuple[str, int]]) -> None:
         for session in self._sessions:
             self._drain(session, forced=True)
-        for line, notes in self._left.items():
-            self._unknown(line, notes)
+        for line, notes in self._unplaced.items():
+            self._place_unknown(line, notes)
         for edge, events in ends:
-            self._seen(Telling(edge, self._chunks(events)))
+            self._place_end(Acknowledgement(edge, self._chunks(events)))
 
     # -- what the database has
 
-    def _begin(self, epoch: int, timeline: str, notes: deque[Note] | None) -> _Session:
+    def _begin(self, epoch: int, timeline: str, notes: deque[RecordNote] | None) -> _Session:
         """A session begins, which reads all chunks that exist, or what it read by its record, if it
         has one.
         """
         read, digest = len(self._ends) - 1, self._digests[-1]
-        if first := next((one for one in notes or () if one.what == "took"), None):
+        if first := next((one for one in notes or () if one.event == "took"), None):
             read, digest = self._chunks(first.number), first.digest
         session = _Session(len(self._sessions), read, notes or deque())
         self._sessions.append(session)
-        self._of[epoch, timeline] = session
+        self._by_epoch[epoch, timeline] = session
         self._lines.append(f"took {epoch} {read} {digest}")
         self._epoch = epoch
         self._drain(session)
         return session
 
-    def _wrote(self, chunk: Chunk, timeline: str) -> None:
-        session = self._of.get((chunk.epoch, timeline))
+    def _place_chunk(self, chunk: Chunk, timeline: str) -> None:
+        session = self._by_epoch.get((chunk.epoch, timeline))
         if session is None:
-            self._lines.append(f"wrote {NOBODY} {len(self._ends) - 1} {chunk.digest}")
+            self._lines.append(f"wrote {NO_SESSION} {len(self._ends) - 1} {chunk.digest}")
             self._add(chunk.end, chunk.digest)
             return
         self._drain(session)
-        if session.stage != "sent" and not any(note.what == "sent" for note in session.notes):
+        if session.stage != "sent" and not any(note.event == "sent" for note in session.notes):
             if session.stage == "done" and not session.notes:  # it wrote on, so it had heard
-                self._heard(session)
-            self._sent(session, chunk.digest)
+                self._place_heard(session)
+            self._place_sent(session, chunk.digest)
         self._write(session, chunk.end, chunk.digest)
         self._drain(session)
 
@@ -218,56 +222,58 @@ class ShardRecord:
         notes = session.notes
         while notes:
             note = notes[0]
-            if note.what in ("took", "heard"):
+            if note.event in ("took", "heard"):
                 if not forced and not self._is_answered(session, note):
                     return
-                self._heard(session)
-            elif note.what == "sent":
-                self._sent(session, note.digest)
-            elif note.what == "stale":
+                self._place_heard(session)
+            elif note.event == "sent":
+                self._place_sent(session, note.digest)
+            elif note.event == "stale":
                 self._lines.append(f"stale {session.number}")
                 session.stage = "refused"
-            elif note.what == "told":
-                self._tell(session, Telling(note.edge, self._chunks(note.number)))
+            elif note.event == "told":
+                self._acknowledge(session, Acknowledgement(note.edge, self._chunks(note.number)))
             notes.popleft()
 
-    def _is_answered(self, session: _Session, note: Note) -> bool:
+    def _is_answered(self, session: _Session, note: RecordNote) -> bool:
         """Whether the database has done what the server confirmed to a session."""
         if session.stage != "done":
             return False
-        return note.what == "took" or self._chunks(note.number) == session.known + session.asked
+        return (
+            note.event == "took" or self._chunks(note.number) == session.known + session.requested
+        )
 
-    def _sent(self, session: _Session, digest: int) -> None:
+    def _place_sent(self, session: _Session, digest: int) -> None:
         self._lines.append(f"sent {session.number} {digest}")
-        session.asked, session.stage, session.digest = 1, "sent", digest
+        session.requested, session.stage, session.digest = 1, "sent", digest
 
-    def _heard(self, session: _Session) -> None:
-        known = session.known + session.asked
+    def _place_heard(self, session: _Session) -> None:
+        known = session.known + session.requested
         if self._synchronous and known > self._safe:  # as is claimed, since it was answered
             self._safe = known
             self._lines.append(f"safe {known}")
         self._lines.append(f"heard {session.number}")
-        session.known, session.asked, session.stage = known, 0, "idle"
+        session.known, session.requested, session.stage = known, 0, "idle"
 
-    def _tell(self, session: _Session | None, telling: Telling) -> None:
-        self._lines.append(f"told {session.number if session else NOBODY} {telling.chunks}")
-        self._tellings.append(telling)
+    def _acknowledge(self, session: _Session | None, telling: Acknowledgement) -> None:
+        self._lines.append(f"told {session.number if session else NO_SESSION} {telling.chunks}")
+        self._acknowledgements.append(telling)
 
-    def _unknown(self, line: Line, notes: Iterable[Note]) -> None:
+    def _place_unknown(self, line: SessionName, notes: Iterable[RecordNote]) -> None:
         """A session that the database does not have: no program may have an answer that it began,
         or have acknowledged what rests on it.
         """
-        if _is_heard(line, notes):
-            self._lines.append(f"heard {NOBODY}")
+        if _was_confirmed(line, notes):
+            self._lines.append(f"heard {NO_SESSION}")
         for note in notes:
-            if note.what == "told":
-                self._tell(None, Telling(note.edge, self._chunks(note.number)))
+            if note.event == "told":
+                self._acknowledge(None, Acknowledgement(note.edge, self._chunks(note.number)))
 
     def _chunks(self, events: int) -> int:
         """Return how many chunks hold these events; one more than all if they do not."""
         return bisect.bisect_left(self._ends, events)
 
-    def _seen(self, telling: Telling) -> None:
+    def _place_end(self, telling: Acknowledgement) -> None:
         """An end that was acknowledged: it is known to the first session that has it; or to the
         one that wrote it, since the database has shown it as done.
         """
@@ -277,8 +283,8 @@ class ShardRecord:
             last = [one for one in self._sessions if one.stage == "done"]
             session = last[-1] if last else None
             if session:
-                self._heard(session)
-        self._tell(session, telling)
+                self._place_heard(session)
+        self._acknowledge(session, telling)
 
     # -- another server
 
@@ -289,19 +295,19 @@ class ShardRecord:
         had, epoch = len(self._ends) - 1, self._epoch
         for session in self._sessions:
             self._lose(session)
-        lines = [line for line in self._left if line.timeline == timeline]
+        lines = [line for line in self._unplaced if line.timeline == timeline]
         for line in sorted(lines, key=lambda line: line.epoch):
-            notes = self._left.pop(line)
-            if line.epoch <= self._epoch or not _is_heard(line, notes):
-                self._unknown(line, notes)
+            notes = self._unplaced.pop(line)
+            if line.epoch <= self._epoch or not _was_confirmed(line, notes):
+                self._place_unknown(line, notes)
                 continue
             for between in range(self._epoch + 1, line.epoch):  # no program noted them
                 self._begin(between, timeline, None)
             self._lose(self._begin(line.epoch, timeline, notes))
         self._lines.append(f"moved {had} {epoch}")
-        if lost := [one for one in self._tellings if one.chunks > had]:
+        if lost := [one for one in self._acknowledgements if one.chunks > had]:
             self.losses.append(Loss(had, lost))
-        self._tellings = []
+        self._acknowledgements = []
         self._epoch = epoch
         del self._ends[had + 1 :], self._digests[had + 1 :]
 
@@ -312,15 +318,15 @@ class ShardRecord:
         """
         self._drain(session)
         while session.notes:
-            if session.notes[0].what == "heard" and session.stage == "sent":
+            if session.notes[0].event == "heard" and session.stage == "sent":
                 self._write(session, session.notes[0].number, session.digest)
                 self._drain(session)
             else:
                 self._drain(session, forced=True)
-        if session.stage == "done" and session.known + session.asked < len(self._ends):
-            self._heard(session)
+        if session.stage == "done" and session.known + session.requested < len(self._ends):
+            self._place_heard(session)
 
 
-def _is_heard(line: Line, notes: Iterable[Note]) -> bool:
+def _was_confirmed(line: SessionName, notes: Iterable[RecordNote]) -> bool:
     """Whether a program knows that its takeover was done: of a birth, only by a commit of it."""
-    return any(note.what == ("heard" if line.epoch == 1 else "took") for note in notes)
+    return any(note.event == ("heard" if line.epoch == 1 else "took") for note in notes)

@@ -7,28 +7,28 @@ two halves at least, one of which is written while the functions of the other ar
 
 from __future__ import annotations
 
-MOST = 0.005
+MAX_WAIT = 0.005
 """Seconds that a commit waits, at most."""
-SHARE, FEW_SHARE = 0.5, 4.0
+WAIT_SHARE, SMALL_WAIT_SHARE = 0.5, 4.0
 """Of the time that a commit takes: it waits for rows that come in less. A commit of few rows waits
 the longer time: each commit also costs this program a question to the engine and some turns of
 the loop, which are more than few rows.
 """
-FEW = 64
+SMALL_COMMIT = 64
 """Rows."""
-WHOLE = 8
+MIN_SPLIT = 8
 """So many calls are not told of in two halves: a question to the engine and a commit cost more
 than they.
 """
-FADE = 8
+AVERAGED = 8
 """How many of the last ones count, about."""
 
 
-def half(ready: int) -> int:
+def first_half(ready: int) -> int:
     """Return how many of so many calls are told of at once, where nothing is written meanwhile:
     from then on the two halves take turns.
     """
-    return ready if ready < WHOLE else (ready + 1) // 2
+    return ready if ready < MIN_SPLIT else (ready + 1) // 2
 
 
 class GroupCommitPolicy:
@@ -49,11 +49,11 @@ class GroupCommitPolicy:
         """A commit is over, and so many functions are about to be called."""
         self._since, self._count = (now, calls) if calls else (None, 0)
 
-    def came(self, now: float) -> None:
+    def batch_arrived(self, now: float) -> None:
         """A batch came that is to be committed."""
         if self._since is not None:
             took, self._since = now - self._since, None
-            self._each += (min(took / self._count, MOST) - self._each) / FADE
+            self._each += (min(took / self._count, MAX_WAIT) - self._each) / AVERAGED
 
     def is_soon(self, coming: int, rows: int, latency: float) -> bool:
         """Return whether so many calls, more than the rows of a commit, come to it in less time
@@ -64,10 +64,10 @@ class GroupCommitPolicy:
             rows: How many rows the commit has.
             latency: Seconds that a commit takes.
         """
-        share = FEW_SHARE if rows < FEW else SHARE
+        share = SMALL_WAIT_SHARE if rows < SMALL_COMMIT else WAIT_SHARE
         return rows < coming and 0 < coming * self._each < latency * share
 
-    def holds(self, coming: int, rows: int, latency: float, now: float) -> bool:
+    def should_wait(self, coming: int, rows: int, latency: float, now: float) -> bool:
         """Return whether a commit waits; then it is asked about again at `until`, at the latest.
 
         Args:
@@ -83,5 +83,5 @@ class GroupCommitPolicy:
             return False
         if not self.is_soon(coming, rows, latency):
             return False
-        self.until = now + min(2 * coming * self._each, MOST)
+        self.until = now + min(2 * coming * self._each, MAX_WAIT)
         return True

@@ -11,7 +11,7 @@ from sagas.definition.payloads import ABSENT
 from sagas.definition.shape_values import ShapeValues
 from sagas.definition.start_options import StartOptions
 
-LARGE = 4096
+LARGE_VALUE = 4096
 """Characters of a stored value from which on it is not held all the time."""
 
 
@@ -44,11 +44,11 @@ class HeldValues:
     is_partial: bool
     _extras: SagaExtras | None
 
-    def take(self, text: str, options: StartOptions) -> None:
+    def hold(self, text: str, options: StartOptions) -> None:
         """Hold its input and its shape."""
         self.text, self.options = text, options
         shape = options.shape or ""
-        self.is_large = len(text) > LARGE or len(shape) > LARGE
+        self.is_large = len(text) > LARGE_VALUE or len(shape) > LARGE_VALUE
         self.is_partial = ABSENT in (text, shape)
 
     def put_result(self, step: int, value: str) -> None:
@@ -56,27 +56,27 @@ class HeldValues:
         self.results[step] = value
         if value == ABSENT:
             self.is_partial = True
-        elif len(value) > LARGE:
+        elif len(value) > LARGE_VALUE:
             self.is_large = True
 
-    def drop(self, results: Iterable[dict[int, str]]) -> None:
+    def drop_large(self, results: Iterable[dict[int, str]]) -> None:
         """Hold no large value any more. `results`: those of its attempts."""
-        if len(self.text) > LARGE:
+        if len(self.text) > LARGE_VALUE:
             self.text = ABSENT
-        if self.options.shape is not None and len(self.options.shape) > LARGE:
+        if self.options.shape is not None and len(self.options.shape) > LARGE_VALUE:
             self.options = dataclasses.replace(self.options, shape=ABSENT)
             if self._extras is not None and (shape := self._extras.shape) is not None:
                 self._extras.numbering = ShapeValues.of_told(shape.told(()))
                 self._extras.shape = None
         for some in (self.results, *results):
             for step, value in some.items():
-                if len(value) > LARGE:
+                if len(value) > LARGE_VALUE:
                     some[step] = ABSENT
         self.is_large, self.is_partial = False, True
 
     def fill(self, stored: StoredValues, results: dict[int, str]) -> None:
         """Hold what the store has. `results`: those of the attempt that is about to be called."""
-        self.take(stored.text, dataclasses.replace(self.options, shape=stored.shape))
+        self.hold(stored.text, dataclasses.replace(self.options, shape=stored.shape))
         for step, value in stored.results.items():
             if step in results:
                 results[step] = value

@@ -13,7 +13,7 @@ look.
 """
 
 
-class Guessing:
+class KeyLookupPolicy:
     """Counts the starts whose keys are looked for.
 
     Over PostgreSQL a start without a look saves a round trip. Over a file it gains nothing:
@@ -23,11 +23,11 @@ class Guessing:
     def __init__(self) -> None:
         self._looks = 0
 
-    def is_worth(self) -> bool:
+    def may_skip_lookup(self) -> bool:
         """Whether the next key is new, as far as those before it tell."""
         return not self._looks
 
-    def told(self, was_there: bool) -> None:
+    def record_start(self, was_there: bool) -> None:
         """What became of a start."""
         if was_there:
             self._looks = AGAIN

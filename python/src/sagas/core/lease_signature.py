@@ -11,8 +11,8 @@ import re
 
 from sagas.base.errors import InvalidLease
 
-SHAPE = re.compile(r"([1-9][0-9]{0,18})\.[0-9a-f]{32}", re.ASCII)
-SIGNED = 32
+LEASE_PATTERN = re.compile(r"([1-9][0-9]{0,18})\.[0-9a-f]{32}", re.ASCII)
+SIGNATURE_DIGITS = 32
 """Hex digits of the signature: 128 bits."""
 
 
@@ -31,12 +31,12 @@ class Signer:
         told = f"{token}\n{number}\n{holder}".encode("utf-8", "surrogatepass")
         signature = self._keyed.copy()
         signature.update(told)
-        return f"{number}.{signature.hexdigest()[:SIGNED]}"
+        return f"{number}.{signature.hexdigest()[:SIGNATURE_DIGITS]}"
 
     def number(self, token: str, lease: str, holder: str) -> int:
         """A lease's number. Raises `InvalidLease` where it was not given for this attempt to this
         holder."""
-        found = SHAPE.fullmatch(lease)
+        found = LEASE_PATTERN.fullmatch(lease)
         number = int(found[1]) if found else 0
         good = self.issue(token, number, holder)
         if found is None or not hmac.compare_digest(good.encode(), lease.encode()):

@@ -10,11 +10,11 @@ from sagas.core.fairness import FairQueue, Tenant
 from sagas.core.model import SUSPENDED, Attempt
 from sagas.core.states import Action, Suspension
 
-MOST_AHEAD = 1 << 20
+MAX_AHEAD = 1 << 20
 """So many tasks are claimed without a slot where tenants share the slots."""
 
 
-class Hungry(Protocol):
+class SlotUser(Protocol):
     """A shard that has more tasks than there are slots."""
 
     def poke(self) -> None:
@@ -34,27 +34,27 @@ class Slots:
     Attributes:
         is_fair: Whether tenants share the slots. Then all tasks are claimed that there are, since
             nobody else knows whose they are.
-        most: The store's concurrency.
+        capacity: The store's concurrency.
         running: How many slots are taken.
-        starved: The shards that have no more tasks taken for want of slots. While there are any,
+        waiting_shards: The shards that have no more tasks taken for want of slots. While there are any,
             `freed` is called when there may be slots.
     """
 
     def __init__(
         self, most: int, start: Callable[[Attempt], None], freed: Callable[[], None]
     ) -> None:
-        self.most, self._start, self._freed = most, start, freed
+        self.capacity, self._start, self._freed = most, start, freed
         self.is_fair = False
         self.running = self._reserved = 0
-        self.starved: dict[Hungry, None] = {}
+        self.waiting_shards: dict[SlotUser, None] = {}
         self._queued = FairQueue()
         self._limits: dict[tuple[str, str, str], tuple[set[Attempt], deque[Attempt]]] = {}
 
-    def free(self) -> int:
+    def free_count(self) -> int:
         """How many tasks may be claimed: slots that nobody has, waits for or has reserved."""
         if self.is_fair:
-            return MOST_AHEAD
-        return self.most - self.running - self._reserved - len(self._queued)
+            return MAX_AHEAD
+        return self.capacity - self.running - self._reserved - len(self._queued)
 
     def reserve(self, count: int) -> None:
         """Keep slots for tasks that are asked for and have not begun."""
@@ -63,14 +63,14 @@ class Slots:
     def release(self, count: int) -> None:
         """Give up reserved slots: their tasks begin now, or there were none."""
         self._reserved -= count
-        if count and self.starved:
+        if count and self.waiting_shards:
             self._freed()
 
-    def take(self, count: int = 1) -> int:
+    def take_slots(self, count: int = 1) -> int:
         """Take slots for so many attempts that wait for nothing else, or as many as there are;
         return how many.
         """
-        left = self.most - self.running
+        left = self.capacity - self.running
         if count > left:
             count = max(0, left)
         self.running += count
@@ -88,12 +88,12 @@ class Slots:
                 queue.append(attempt)
                 return
             inside.add(attempt)
-        self.come(attempt)
+        self.request_slot(attempt)
 
-    def come(self, attempt: Attempt) -> None:
+    def request_slot(self, attempt: Attempt) -> None:
         """As `enter`, of a step without a limit."""
         attempt.queue()
-        if self.running < self.most:
+        if self.running < self.capacity:
             self._begin(attempt)
         else:
             self._queued.push(attempt)
@@ -110,7 +110,7 @@ class Slots:
             self.cancel(attempt)
         self._left(attempt.instance.tenant if self.is_fair else None, 1)
 
-    def left(self, count: int) -> None:
+    def leave_many(self, count: int) -> None:
         """As `leave`, of so many whose steps have no limit, and whose sagas have no tenant."""
         self._left(None, count)
 
@@ -118,9 +118,9 @@ class Slots:
         self.running -= count
         if self.is_fair:
             self._queued.end(tenant, count)
-        while self._queued and self.running < self.most:
+        while self._queued and self.running < self.capacity:
             self._begin(self._queued.pop())
-        if self.starved:
+        if self.waiting_shards:
             self._freed()
 
     def cancel(self, attempt: Attempt) -> None:
@@ -135,7 +135,7 @@ class Slots:
             following = queue.popleft()
             if following.state is SUSPENDED and following.reason is Suspension.STEP_LIMIT:
                 inside.add(following)
-                self.come(following)
+                self.request_slot(following)
                 return
         if not inside:
             del self._limits[at]
@@ -152,21 +152,21 @@ class Slots:
 
     # -- shards
 
-    def starve(self, shard: Hungry) -> None:
+    def add_waiting_shard(self, shard: SlotUser) -> None:
         """A shard has more tasks than there are slots."""
-        self.starved[shard] = None
+        self.waiting_shards[shard] = None
 
-    def is_starved(self, shard: Hungry) -> bool:
+    def is_shard_waiting(self, shard: SlotUser) -> bool:
         """Whether a shard waits for slots."""
-        return shard in self.starved
+        return shard in self.waiting_shards
 
-    def sate(self, shard: Hungry) -> None:
+    def remove_waiting_shard(self, shard: SlotUser) -> None:
         """A shard wants no slots any more."""
-        self.starved.pop(shard, None)
+        self.waiting_shards.pop(shard, None)
 
     def feed(self) -> None:
         """Let the shards go on that wait for slots, if there are any."""
-        if self.free() > 0:
-            starved, self.starved = self.starved, {}
+        if self.free_count() > 0:
+            starved, self.waiting_shards = self.waiting_shards, {}
             for shard in starved:
                 shard.poke()

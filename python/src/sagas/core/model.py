@@ -12,7 +12,13 @@ from sagas.base.errors import CannotDecode
 from sagas.core.outcomes import Outcome
 from sagas.core.saga_instance import SagaInstance as SagaInstance
 from sagas.core.states import ATTEMPT_TRANSITIONS, Action, AttemptState, Check, Suspension, check
-from sagas.core.suspensions import AttemptExtras, Lease, Returned, Subject, SuspensionRow
+from sagas.core.suspensions import (
+    AttemptExtras,
+    Lease,
+    FunctionResult,
+    FunctionOption,
+    SuspensionRow,
+)
 from sagas.definition import tokens
 from sagas.definition.task_data import whole
 from sagas.definition.compiled import Word
@@ -25,7 +31,7 @@ from sagas.definition.step import Manner, Step
 from sagas.definition.task import Task
 
 if TYPE_CHECKING:
-    from sagas.core.batch import Wanted
+    from sagas.core.batch import RequestRef
     from sagas.core.step_transactions import StepRecord
 
 CLAIMED, SUSPENDED, QUEUED = AttemptState.CLAIMED, AttemptState.SUSPENDED, AttemptState.QUEUED
@@ -58,16 +64,16 @@ class Attempt(AcknowledgedAttempt):
         state: Where it stands.
         reason: Why it is, or was last, suspended.
         until: Until when it is suspended. None: until somebody reports it.
-        since: Since when it waits, or its outcome is unknown; else 0.
-        fresh: Whether it cannot have been called, by this program or an earlier one.
+        waiting_since: Since when it waits, or its outcome is unknown; else 0.
+        is_uncalled: Whether it cannot have been called, by this program or an earlier one.
         outcome: What it came to.
-        at: When it finished.
-        took: Seconds that its last call took.
+        finished_at: When it finished.
+        call_seconds: Seconds that its last call took.
         event: The event of the saga that its report came to.
         has_row: Whether the store has a row of its suspension.
-        pending: The row that is on its way to the store.
+        pending_row: The row that is on its way to the store.
         record: What became of the transaction that it is called in.
-        recorded: Whether its result is in the store, with what it wrote.
+        is_recorded: Whether its result is in the store, with what it wrote.
         results: The results of the steps that stand as it begins.
         extras: What only some attempts have.
     """
@@ -81,90 +87,90 @@ class Attempt(AcknowledgedAttempt):
         "state",
         "reason",
         "until",
-        "since",
-        "fresh",
+        "waiting_since",
+        "is_uncalled",
         "outcome",
-        "at",
-        "took",
+        "finished_at",
+        "call_seconds",
         "event",
         "has_row",
-        "pending",
+        "pending_row",
         "record",
-        "recorded",
+        "is_recorded",
         "results",
         "extras",
     )
 
     def __init__(
-        self, instance: SagaInstance, step: int, kind: str, attempt: int, fresh: bool
+        self, instance: SagaInstance, step: int, kind: str, attempt: int, is_uncalled: bool
     ) -> None:
         self.instance = instance
         self.step = step
         self.attempt = attempt
-        self.fresh = fresh
+        self.is_uncalled = is_uncalled
         action = self.action = instance.kind.actions[kind][step]
         self.kind = action.kind
         self.state = CLAIMED
         self.reason: Suspension | None = None
         self.until: float | None = None
         self.outcome: Outcome | None = None
-        self.at = self.since = 0.0
-        self.took: float | None = None
+        self.finished_at = self.waiting_since = 0.0
+        self.call_seconds: float | None = None
         self.event = ""
         self.has_row = False
-        self.pending: SuspensionRow | None = None
+        self.pending_row: SuspensionRow | None = None
         self.record: StepRecord | None = None
-        self.recorded = False
+        self.is_recorded = False
         self.results = instance.results
         self.extras: AttemptExtras | None = None
 
     # -- its state
 
-    def _to(self, state: AttemptState) -> None:
+    def _set_state(self, state: AttemptState) -> None:
         if Check.is_on:
             check(ATTEMPT_TRANSITIONS, self.state, state)
         self.state = state
 
     def suspend(self, reason: Suspension, until: float | None = None) -> None:
         """Let it wait without a slot, until a time or until somebody reports it."""
-        self._to(SUSPENDED)
+        self._set_state(SUSPENDED)
         self.reason, self.until = reason, until
 
     def queue(self) -> None:
         """Let it wait for a slot."""
-        self._to(QUEUED)
+        self._set_state(QUEUED)
 
     def start(self) -> None:
         """Call its function now, as far as is known."""
-        self._to(RUNNING)
-        self.fresh, self.took = False, None
+        self._set_state(RUNNING)
+        self.is_uncalled, self.call_seconds = False, None
 
     def claim(self) -> None:
         """Put it back: its call did nothing, or its shard is recovered, which tells."""
-        self._to(CLAIMED)
+        self._set_state(CLAIMED)
 
     def finish(self, outcome: Outcome, at: float) -> None:
         """Set its outcome: it waits for nothing but its report."""
-        self._to(FINISHED)
-        self.outcome, self.at = outcome, at
+        self._set_state(FINISHED)
+        self.outcome, self.finished_at = outcome, at
 
     def forget(self) -> None:
         """Finish one that the store does not have: nothing comes of it any more, and nobody waits
         for its row.
         """
-        self.pending = None
+        self.pending_row = None
         if self.state is not FINISHED:
-            self._to(FINISHED)
+            self._set_state(FINISHED)
 
-    def pausing(self) -> Callable[[], bool]:
+    def pause_guard(self) -> Callable[[], bool]:
         """Return what says, after a pause, whether nothing else became of it. Its row may have been
         stored meanwhile.
         """
-        before, row = (self.state, self.reason, self.until), self.pending
+        before, row = (self.state, self.reason, self.until), self.pending_row
 
         def is_same() -> bool:
-            is_there = self.instance.busy.get(self.word) is self
-            is_row = self.pending is None or self.pending is row
+            is_there = self.instance.busy.get(self.action_key) is self
+            is_row = self.pending_row is None or self.pending_row is row
             return is_there and is_row and (self.state, self.reason, self.until) == before
 
         return is_same
@@ -192,25 +198,25 @@ class Attempt(AcknowledgedAttempt):
         return self.extras.lease if self.extras else None
 
     @property
-    def request(self) -> Wanted:
+    def request(self) -> RequestRef:
         """The operator's command that finished it."""
         return self.extras.request if self.extras else None
 
-    def take_returned(self, subject: Subject) -> Returned | None:
+    def take_returned(self, subject: FunctionOption) -> FunctionResult | None:
         """Take out what a function of its definition returned, which is used once."""
         return self.extras.returned.pop(subject, None) if self.extras else None
 
     @property
-    def is_unkept(self) -> bool:
+    def is_report_unstored(self) -> bool:
         """Whether its report, if it is finished, is not known to be in the store."""
         saga = self.instance
-        is_reported = saga.shard is not None and self in saga.shard.unkept()
-        return is_reported or saga.busy.get(self.word) is self
+        is_reported = saga.shard is not None and self in saga.shard.unstored_reports()
+        return is_reported or saga.busy.get(self.action_key) is self
 
     # -- what it is
 
     @property
-    def word(self) -> Word:
+    def action_key(self) -> Word:
         """The index of its step, and `run` or `undo`."""
         return self.action.word
 
@@ -384,11 +390,11 @@ class Attempt(AcknowledgedAttempt):
         extras = self.rare
         if extras.control is None:
             extras.control = Control()
-            if self.instance.drains and not self.undo:
-                extras.control.cancelled.set(self.instance.why_draining)
+            if self.instance.may_cancel_work and not self.undo:
+                extras.control.cancelled.set(self.instance.drain_reason)
         return extras.control
 
-    def lacks(self) -> bool:
+    def lacks_values(self) -> bool:
         """Whether its function may read a value that is not held."""
         instance = self.instance
         if not instance.is_partial:
@@ -409,12 +415,12 @@ def start_all(attempts: Sequence[Attempt]) -> None:
         for attempt in attempts:
             check(ATTEMPT_TRANSITIONS, attempt.state, RUNNING)
     for attempt in attempts:
-        attempt.state, attempt.fresh, attempt.took = RUNNING, False, None
+        attempt.state, attempt.is_uncalled, attempt.call_seconds = RUNNING, False, None
 
 
 def finish_all(attempts: Sequence[Attempt], at: float) -> list[Attempt]:
     """Finish those that run still and whose outcomes are set; return them."""
     found = [attempt for attempt in attempts if attempt.state is RUNNING]
     for attempt in found:
-        attempt.state, attempt.at = FINISHED, at
+        attempt.state, attempt.finished_at = FINISHED, at
     return found

@@ -20,16 +20,16 @@ from sagas.definition.payloads import Payloads
 from sagas.definition.step import Manner, Unknowns
 from sagas.definition.task import Task
 
-MOST_TEXT = 4000
+MAX_TEXT = 4000
 """Characters of what was raised that are kept."""
 SUCCEEDED, FAILED = OutcomeKind.SUCCEEDED, OutcomeKind.FAILED
 PERMANENT, UNKNOWN = OutcomeKind.FAILED_PERMANENTLY, OutcomeKind.UNKNOWN
 CANNOT_DECODE, ANSWERED = OutcomeKind.CANNOT_DECODE, OutcomeKind.ANSWERED
 UNREADABLE = "unreadable"
 """In a report: the task could not be handed out. No worker's report has it."""
-PASSES = "passes"
+TEMPORARY = "passes"
 """Its value there: the values of the task may be read later."""
-WORST = (UNKNOWN, CANNOT_DECODE, PERMANENT, FAILED)
+PRECEDENCE = (UNKNOWN, CANNOT_DECODE, PERMANENT, FAILED)
 """Of a group of exceptions, the first of these that any of them is."""
 
 
@@ -85,16 +85,16 @@ def succeeded(value: Any, task: Task[Any] | None = None) -> Outcome:
             raise Unawaited(value) from None
         whose = f" key={quoted(task.key)} saga={task.saga} step={task.step}" if task else ""
         logger.warning("result_unstorable%s detail=%s", whose, quoted(error))
-        return Outcome(SUCCEEDED, json.dumps({"unstorable": str(error)[:MOST_TEXT]}))
+        return Outcome(SUCCEEDED, json.dumps({"unstorable": str(error)[:MAX_TEXT]}))
 
 
-def stored(payloads: Payloads, text: str) -> str:
+def encode_result(payloads: Payloads, text: str) -> str:
     """Return a result as it is stored. Where its codec fails, that is kept: the effect is there."""
     try:
         return payloads.encode(text)
     except NotSerializable as error:
         logger.warning("result_unstorable detail=%s", quoted(error))
-        return json.dumps({"unstorable": str(error)[:MOST_TEXT]})
+        return json.dumps({"unstorable": str(error)[:MAX_TEXT]})
 
 
 def failure(
@@ -108,7 +108,7 @@ def failure(
         called: Whether the function was called; else the attempt was given up.
         retry_after: Seconds until the next attempt, in place of the step's back-off.
     """
-    told: dict[str, Any] = {"error": text[:MOST_TEXT]}
+    told: dict[str, Any] = {"error": text[:MAX_TEXT]}
     if final:
         told["final"] = True
     if not called:
@@ -118,49 +118,49 @@ def failure(
     return Outcome(PERMANENT if final else FAILED, serialization.write(told), called)
 
 
-def not_read(error: BlobUnavailable) -> Outcome:
+def values_unavailable(error: BlobUnavailable) -> Outcome:
     """Return the outcome of an attempt whose values the blob store does not give now."""
-    return _told(CANNOT_DECODE, str(error))._replace(error=error)
+    return _text_outcome(CANNOT_DECODE, str(error))._replace(error=error)
 
 
 def unreadable(text: str, passes: bool = False) -> Outcome:
     """Return what is reported of a task that cannot be handed out, since what is stored for it
     cannot be read: nothing was called, and nothing has failed. `passes`: it can be read later.
     """
-    report = {"error": text[:MOST_TEXT], "called": False, UNREADABLE: PASSES if passes else True}
+    report = {"error": text[:MAX_TEXT], "called": False, UNREADABLE: TEMPORARY if passes else True}
     return Outcome(FAILED, serialization.write(report), called=False)
 
 
-def delivered(kind: OutcomeKind, value: str) -> Outcome:
+def read_report(kind: OutcomeKind, value: str) -> Outcome:
     """Return the outcome of a report, as it is stored for the node that executes the saga."""
     if kind is FAILED and UNREADABLE in value and (report := json.loads(value)).get(UNREADABLE):
-        if report[UNREADABLE] == PASSES:
-            return not_read(BlobUnavailable(str(report["error"])))
-        return _told(CANNOT_DECODE, str(report["error"]))
+        if report[UNREADABLE] == TEMPORARY:
+            return values_unavailable(BlobUnavailable(str(report["error"])))
+        return _text_outcome(CANNOT_DECODE, str(report["error"]))
     return Outcome(kind, value)
 
 
 def parked(text: str) -> Outcome:
     """Return the outcome of an attempt that this program cannot make, and another one may."""
-    return _told(CANNOT_DECODE, text)
+    return _text_outcome(CANNOT_DECODE, text)
 
 
 def unknown(text: str) -> Outcome:
     """Return the outcome of a call that may have had its effect."""
-    return _told(UNKNOWN, text)
+    return _text_outcome(UNKNOWN, text)
 
 
-def _told(kind: OutcomeKind, text: str) -> Outcome:
+def _text_outcome(kind: OutcomeKind, text: str) -> Outcome:
     """Return an outcome with a text that every database can keep."""
-    return Outcome(kind, serialization.clean(text[:MOST_TEXT])[:MOST_TEXT])
+    return Outcome(kind, serialization.clean(text[:MAX_TEXT])[:MAX_TEXT])
 
 
 def raised(error: BaseException, manner: Manner) -> Outcome:
     """Return the outcome of a function that raised `error`."""
     kind = classify(error, manner.unknown)
-    text = str(error) if isinstance(error, CannotDecode) else described(error)
+    text = str(error) if isinstance(error, CannotDecode) else describe_error(error)
     if kind is UNKNOWN or kind is CANNOT_DECODE:
-        return _told(kind, text)
+        return _text_outcome(kind, text)
     if kind is PERMANENT:
         return failure(text, final=True)
     after = error.seconds if isinstance(error, RetryAfter) else None
@@ -169,7 +169,7 @@ def raised(error: BaseException, manner: Manner) -> Outcome:
 
 def classify(error: BaseException, unknown: Unknowns) -> OutcomeKind:
     """Return the outcome that an exception is; of a group, as `asyncio.TaskGroup` raises one, the
-    first of `WORST` that any of it is.
+    first of `PRECEDENCE` that any of it is.
     """
     if isinstance(error, CannotDecode):
         return CANNOT_DECODE
@@ -179,14 +179,14 @@ def classify(error: BaseException, unknown: Unknowns) -> OutcomeKind:
         return UNKNOWN
     if isinstance(error, BaseExceptionGroup):
         kinds = {classify(one, unknown) for one in error.exceptions}
-        return next(kind for kind in WORST if kind in kinds)
+        return next(kind for kind in PRECEDENCE if kind in kinds)
     return FAILED if isinstance(error, Exception) else UNKNOWN  # sys.exit() in the middle, say
 
 
-def described(error: BaseException) -> str:
+def describe_error(error: BaseException) -> str:
     """Return an exception as a line; of a group each one."""
     if isinstance(error, BaseExceptionGroup):
-        return "; ".join(described(one) for one in error.exceptions)
+        return "; ".join(describe_error(one) for one in error.exceptions)
     if isinstance(error, SyntaxError) or getattr(error, "__notes__", None):
         return "".join(traceback.format_exception_only(type(error), error)).strip()
     return _line_of(error)
@@ -205,7 +205,7 @@ def _line_of(error: BaseException) -> str:
     return f"{name}: {text}".strip() if text else name
 
 
-def fault(outcome: Outcome) -> str:
+def error_text(outcome: Outcome) -> str:
     """Return why an attempt did not succeed, for people; the empty text where it did."""
     if outcome.kind in (SUCCEEDED, ANSWERED):
         return ""
@@ -214,7 +214,7 @@ def fault(outcome: Outcome) -> str:
     return str(serialization.read(outcome.value).get("error"))
 
 
-def doubt(error: BaseException | None, manner: Manner) -> str:
+def unknown_hint(error: BaseException | None, manner: Manner) -> str:
     """Return what the log adds to a failure whose cause leaves open what was done, as clients raise
     their own exceptions from a timeout; else the empty text.
     """
@@ -231,7 +231,7 @@ def doubt(error: BaseException | None, manner: Manner) -> str:
     return ""
 
 
-def decided(outcome: Outcome) -> Outcome:
+def approval_outcome(outcome: Outcome) -> Outcome:
     """Return how an approval ended whose function decided it."""
     told = json.loads(outcome.value)
     if "rejected" in told:
@@ -240,7 +240,7 @@ def decided(outcome: Outcome) -> Outcome:
     return Outcome(SUCCEEDED, value)
 
 
-def reported(result: Any, failed: str | None, final: bool = True) -> Outcome:
+def reported_outcome(result: Any, failed: str | None, final: bool = True) -> Outcome:
     """Return what somebody reports of an attempt.
 
     Args:

@@ -10,9 +10,9 @@ from sagas.core.batch import SagaRow
 from sagas.core.model import QUEUED, RUNNING, SUSPENDED, SagaInstance
 from sagas.core.states import WAITS_FOR, Action, Suspension
 
-MOST = 5
+MAX_WAITS = 5
 """So many waits are named."""
-NOT_BEGUN = "no node has started it yet (run `sagas store URL nodes`)"
+NO_NODE_YET = "no node has started it yet (run `sagas store URL nodes`)"
 """Of a client's start that no log has yet."""
 
 
@@ -22,7 +22,7 @@ def check_refused(row: SagaRow) -> None:
         raise InvalidInput(row.note)
 
 
-def left_by(saga: str, version: int, nodes: Sequence[str]) -> str:
+def missing_definition(saga: str, version: int, nodes: Sequence[str]) -> str:
     """Return what is said of a saga that these nodes leave, since they have another definition."""
     named = f"{saga!r} (version {version})"
     has = f"node{'s' if len(nodes) > 1 else ''} {', '.join(nodes)}"
@@ -33,7 +33,7 @@ def left_by(saga: str, version: int, nodes: Sequence[str]) -> str:
     )
 
 
-def _said(name: str, undo: bool, reason: str, until: float | None) -> str:
+def _wait_text(name: str, undo: bool, reason: str, until: float | None) -> str:
     """A step whose attempt is suspended, and why."""
     told = f"waits for {WAITS_FOR.get(reason, reason)}"
     if reason == Suspension.UNKNOWN and until is None:
@@ -50,35 +50,37 @@ def _of(undo: bool) -> str:
     return "the compensation of " if undo else ""
 
 
-def of_live(instance: SagaInstance | None) -> list[str]:
+def live_waits(instance: SagaInstance | None) -> list[str]:
     """Return what a saga waits for that is driven here."""
     found = []
     for attempt in instance.busy.values() if instance else ():
         if attempt.state is SUSPENDED:
             reason = str(attempt.reason)
-            found.append(_said(attempt.name, attempt.undo, reason, attempt.until))
+            found.append(_wait_text(attempt.name, attempt.undo, reason, attempt.until))
         elif attempt.state is RUNNING:
             found.append(f"{_of(attempt.undo)}{attempt.name} runs")
-        elif attempt.extras and attempt.extras.asked:
-            found.append(f"{_of(attempt.undo)}{attempt.name} waits for {attempt.extras.asked}")
+        elif attempt.extras and attempt.extras.called_options:
+            found.append(
+                f"{_of(attempt.undo)}{attempt.name} waits for {attempt.extras.called_options}"
+            )
         elif attempt.state is QUEUED:
             found.append(f"{_of(attempt.undo)}{attempt.name} waits for {WAITS_FOR['slot']}")
     return found
 
 
-def of_rows(names: Sequence[str], rows: Iterable[tuple[Any, ...]]) -> list[str]:
+def stored_waits(names: Sequence[str], rows: Iterable[tuple[Any, ...]]) -> list[str]:
     """Return the same by rows of the store: step, kind, reason, until. A wait until 0 is over."""
     return [
-        _said(names[step], kind == Action.COMPENSATE, reason, until)
+        _wait_text(names[step], kind == Action.COMPENSATE, reason, until)
         for step, kind, reason, until in rows
         if (reason, until) != (Suspension.TIMER, 0.0)
     ]
 
 
-def still_open(key: str, timeout: float, waits: Sequence[str]) -> TimeoutError:
+def timeout_error(key: str, timeout: float, waits: Sequence[str]) -> TimeoutError:
     """Return what is raised for a saga that is not over in time."""
-    more = f" and {len(waits) - MOST} more" if len(waits) > MOST else ""
+    more = f" and {len(waits) - MAX_WAITS} more" if len(waits) > MAX_WAITS else ""
     return TimeoutError(
         f"{key!r} is still open after {timeout:g} "
-        f"s{': ' if waits else ''}{', '.join(waits[:MOST])}{more}"
+        f"s{': ' if waits else ''}{', '.join(waits[:MAX_WAITS])}{more}"
     )

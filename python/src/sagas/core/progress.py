@@ -2,12 +2,12 @@
 
 from __future__ import annotations
 
-from sagas.core.exhaustion import RETRIED
+from sagas.core.exhaustion import RETRYABLE
 from sagas.core.model import FINISHED, RUNNING, SUSPENDED, Attempt, SagaInstance
 from sagas.core.results import ActiveAttempt
 from sagas.core.states import WAITS_FOR, Suspension
 
-TIMED = RETRIED | {Suspension.BACKOFF, Suspension.TIMER, Suspension.APPROVAL}
+TIMED = RETRYABLE | {Suspension.BACKOFF, Suspension.TIMER, Suspension.APPROVAL}
 """Suspensions until a time."""
 
 
@@ -48,7 +48,7 @@ def waits_for(attempt: Attempt, now: float) -> str:
     return "concurrency" if attempt.reason is Suspension.STEP_LIMIT else str(attempt.reason)
 
 
-def described(attempt: Attempt, now: float) -> str:
+def describe_attempt(attempt: Attempt, now: float) -> str:
     """Return in words what an attempt does that has begun."""
     if attempt.state is FINISHED:
         return "it has ended"

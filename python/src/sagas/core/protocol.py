@@ -11,7 +11,7 @@ import json
 
 from sagas.definition.capacity import HEADER as HEADER
 
-MOST_REQUEST = 65_536
+MAX_REQUEST = 65_536
 """Bytes."""
 NEXT = '{"do":"next"}'
 BUSY = '{"do":"busy"}'
@@ -43,7 +43,7 @@ def open_line(place: int, number: int) -> str:
 def define_line(text: str) -> str | None:
     """Gives the shard a further definition; None where it is longer than a request may be."""
     line = f'{{"definition":{json.dumps(text)},"do":"define"}}'
-    return line if len(line) <= MOST_REQUEST else None
+    return line if len(line) <= MAX_REQUEST else None
 
 
 def is_defined(reply: str, place: int) -> bool:
@@ -119,7 +119,7 @@ def tasks_in(reply: str) -> list[tuple[int, int, str, int]] | None:
     return found
 
 
-def standing(reply: str) -> tuple[str, str]:
+def phase_and_end(reply: str) -> tuple[str, str]:
     """Of a reply to `show`: the saga's phase, and how it stands, as the store keeps that."""
     head, _, rest = reply.rpartition(NAME)  # a quote in a text is not plain
     _, _, rest = rest.partition(PHASE)

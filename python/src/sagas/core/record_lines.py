@@ -36,20 +36,20 @@ FIELDS = {
 SEEN = "seen"
 
 
-class BadLine(Exception):
+class InvalidLine(Exception):
     """A line of a record is none."""
 
 
-class Note(NamedTuple):
+class RecordNote(NamedTuple):
     """An event of a program's record about one shard, with its number, and its digest or edge."""
 
-    what: str
+    event: str
     number: int = 0
     digest: int = 0
     edge: str = ""
 
 
-class Line(NamedTuple):
+class SessionName(NamedTuple):
     """What names a session: the program, the epoch and the timeline."""
 
     run: str
@@ -63,7 +63,7 @@ class Records:
     of each saga was acknowledged.
     """
 
-    notes: dict[int, dict[Line, list[Note]]] = dataclasses.field(default_factory=dict)
+    notes: dict[int, dict[SessionName, list[RecordNote]]] = dataclasses.field(default_factory=dict)
     seen: dict[int, set[str]] = dataclasses.field(default_factory=dict)
 
     def add(self, line: str) -> None:
@@ -75,20 +75,20 @@ class Records:
         what, *words = line.split(" ")
         if what == "sagas-record":
             if words[:1] != ["1"]:
-                raise BadLine("its format is not 1")
+                raise InvalidLine("its format is not 1")
             return
         if FIELDS.get(what) != 1 + len(words):
-            raise BadLine("it is no event")
+            raise InvalidLine("it is no event")
         if what == SEEN:
             self.seen.setdefault(_number(words[1]), set()).add(words[2])
             return
         run, shard, epoch, timeline, *rest = words
-        at = Line(run, _number(epoch), timeline)
+        at = SessionName(run, _number(epoch), timeline)
         if what == "told":
-            note = Note(what, _number(rest[0]), edge=rest[1])
+            note = RecordNote(what, _number(rest[0]), edge=rest[1])
         else:
             numbers = [*map(_number, rest), 0, 0]
-            note = Note(what, numbers[0], numbers[1])
+            note = RecordNote(what, numbers[0], numbers[1])
         self._put(_number(shard), at, note)
 
     def shards(self) -> Iterable[int]:
@@ -98,25 +98,25 @@ class Records:
     def is_closed(self, shard: int) -> bool:
         """Whether a shard was closed."""
         notes = self.notes.get(shard, {}).values()
-        return any(note.what == "closed" for of in notes for note in of)
+        return any(note.event == "closed" for of in notes for note in of)
 
     def ends(self, first: int, end: int) -> list[tuple[int, str]]:
         """Return the sagas from `first` to before `end` with acknowledged ends, and the edges."""
         found = ((id, edge) for id, edges in self.seen.items() for edge in sorted(edges))
         return sorted((id, edge) for id, edge in found if first <= id < end)
 
-    def _put(self, shard: int, at: Line, note: Note) -> None:
+    def _put(self, shard: int, at: SessionName, note: RecordNote) -> None:
         notes = self.notes.setdefault(shard, {}).setdefault(at, [])
-        if note.what != "failed":
+        if note.event != "failed":
             notes.append(note)
             return
         # what was sent was not written; meanwhile something may have been acknowledged
-        last = next((at for at in reversed(range(len(notes))) if notes[at].what != "told"), None)
-        if last is not None and notes[last].what == "sent":
+        last = next((at for at in reversed(range(len(notes))) if notes[at].event != "told"), None)
+        if last is not None and notes[last].event == "sent":
             del notes[last]
 
 
 def _number(word: str) -> int:
     if not (word.isascii() and word.isdigit()):
-        raise BadLine(f"{word[:20]!r} is not a number")
+        raise InvalidLine(f"{word[:20]!r} is not a number")
     return int(word)

@@ -19,23 +19,23 @@ from typing import Any
 
 from sagas.core import protocol
 from sagas.core.attempts import PARKED
-from sagas.core.batch import HeldRow, Loaded, OpenRow
-from sagas.core.early_reports import ATTEMPT
+from sagas.core.batch import StoredSuspension, LoadedShard, OpenSagaRow
+from sagas.core.early_reports import EARLY_ATTEMPT
 from sagas.core.effects import Abort, Effects
-from sagas.core.exhaustion import FAILED_BEFORE
+from sagas.core.exhaustion import AFTER_FAILURE
 from sagas.core.model import FINISHED, RUNNING, Attempt, SagaInstance
 from sagas.core.outcomes import SUCCEEDED, Outcome, failure
-from sagas.core.replies import Reading
+from sagas.core.replies import ReplyReader
 from sagas.core.shard import ShardDriver
 from sagas.core.states import EarlyReason, EnginePhase, OutcomeKind, Suspension
 from sagas.definition.capacity import SHARD_CAPACITY
 from sagas.definition.start_options import StartOptions
 
-ODD = re.compile(
+DEVIATION_EVENTS = re.compile(
     r'"event":"(?:missed|fail|start_undo|undone|undo_missed|undo_fail|abort|adopt)","saga":(\d+)'
 )
 """The events by which a saga does not just go well."""
-Old = dict[tuple[int, int, str, int], Attempt]
+AttemptsUnderWay = dict[tuple[int, int, str, int], Attempt]
 """What was under way here: saga, step, action and number of each attempt."""
 
 
@@ -67,7 +67,7 @@ class Recovery:
     draining: list[SagaInstance] = dataclasses.field(default_factory=list)
 
 
-def damage_of(rows: Loaded, driver: ShardDriver) -> str | None:
+def damage_of(rows: LoadedShard, driver: ShardDriver) -> str | None:
     """Return what is wrong with a shard's rows, before an engine is asked."""
     count = len(driver.identity.definitions.kinds)
     if lacking := [key for _, key, place, *_ in rows.open if place >= count]:
@@ -75,35 +75,35 @@ def damage_of(rows: Loaded, driver: ShardDriver) -> str | None:
     return rows.damage
 
 
-def overdue(rows: Loaded, now: float) -> list[int]:
+def overdue(rows: LoadedShard, now: float) -> list[int]:
     """Return the numbers of the open sagas whose deadlines have passed."""
     late = (row[0] for row in rows.open if row[4] is not None and row[4] <= now)
     return [id % SHARD_CAPACITY for id in late]
 
 
-def requests(rows: Loaded, overdue: Sequence[int] = ()) -> list[str]:
+def requests(rows: LoadedShard, overdue: Sequence[int] = ()) -> list[str]:
     """Return what an engine is asked that was started on a shard's event log. `overdue`: the
     numbers of the sagas that are aborted before anything goes on.
     """
     aborts = map(protocol.abort_line, overdue)
-    return [*aborts, protocol.BUSY, *map(protocol.show_line, _odd(rows, overdue))]
+    return [*aborts, protocol.BUSY, *map(protocol.show_line, _deviating(rows, overdue))]
 
 
-def _odd(rows: Loaded, overdue: Sequence[int]) -> list[int]:
+def _deviating(rows: LoadedShard, overdue: Sequence[int]) -> list[int]:
     """The open sagas of which something failed, or that were aborted."""
-    odd = {int(number) for number in ODD.findall(rows.text)}.union(overdue)
+    odd = {int(number) for number in DEVIATION_EVENTS.findall(rows.text)}.union(overdue)
     return [id % SHARD_CAPACITY for id, *_ in rows.open if id % SHARD_CAPACITY in odd]
 
 
-def unopened(
-    driver: ShardDriver, rows: Loaded | None, known: Mapping[str, SagaInstance]
+def take_unopened(
+    driver: ShardDriver, rows: LoadedShard | None, known: Mapping[str, SagaInstance]
 ) -> tuple[list[SagaInstance], list[SagaInstance]]:
     """Take out the sagas that were to be opened in a shard, and are not there.
 
     Args:
         driver: What the program knew of the shard.
         rows: What the store has of it; None if it cannot be read.
-        known: The program's sagas by key.
+        fence: The program's sagas by key.
 
     Returns:
         Those that the engine was asked to open, and those that it was not. They are opened again,
@@ -112,7 +112,7 @@ def unopened(
     there = {key for _, key, *_ in rows.open} if rows else set()
     asked = [
         saga
-        for saga in driver.sent
+        for saga in driver.opens_sent
         if not saga.committed and saga.key not in there and known.get(saga.key) is saga
     ]
     for saga in asked:
@@ -121,12 +121,12 @@ def unopened(
         saga.forget()
         saga.number, saga.shard = -1, None
     new = [*driver.opens]
-    driver.close_opens()
+    driver.clear_opens()
     return asked, new
 
 
 def recover(
-    rows: Loaded,
+    rows: LoadedShard,
     replies: Sequence[str],
     now: float,
     previous: ShardDriver,
@@ -142,7 +142,7 @@ def recover(
         replies: The engine's replies to `requests(rows, overdue)`.
         now: Wall time in seconds.
         previous: What the program knew of the shard. It is `LOADING`, and `ACTIVE` from now on.
-        known: The program's sagas by key.
+        fence: The program's sagas by key.
         is_shared: Whether other nodes have shards in the store: then a key that the program was
             to open elsewhere may be another saga's.
         overdue: The numbers of the sagas that the engine was asked to abort.
@@ -153,8 +153,8 @@ def recover(
         `aborted`; the commit of `effects`; `resumed`; `draining`.
     """
     driver, before, old = previous, previous.sagas, _under_way(previous)
-    epoch, line = previous.known
-    aborts = driver.aborting + driver.aborts
+    epoch, line = previous.fence
+    aborts = driver.aborts_sent + driver.aborts
     driver.restart(rows)
     found = Recovery(driver.effects(now))
     for row in rows.open:
@@ -164,13 +164,13 @@ def recover(
         for saga in before.values()
         if saga.committed and saga.number not in driver.sagas and known.get(saga.key) is saga
     ]
-    _put_rows(driver, rows)
+    _apply_rows(driver, rows)
     left = iter(replies)
-    _put_aborts(found.effects, driver, overdue, left, log_text)
+    _apply_aborts(found.effects, driver, overdue, left, log_text)
     busy = json.loads(next(left))["busy"]
-    for number, reply in zip(_odd(rows, overdue), left, strict=True):
-        _show(found.effects, driver, number, reply)
-    is_ours = rows.epoch <= epoch + 1 and rows.line == line
+    for number, reply in zip(_deviating(rows, overdue), left, strict=True):
+        _apply_shown(found.effects, driver, number, reply)
+    is_ours = rows.epoch <= epoch + 1 and rows.timeline == line
     _resume(found, driver, rows, old, busy, is_ours)
     for abort in aborts:
         _abort_again(found, driver, abort)
@@ -179,7 +179,7 @@ def recover(
     return found
 
 
-def _put_aborts(
+def _apply_aborts(
     effects: Effects,
     driver: ShardDriver,
     overdue: Sequence[int],
@@ -189,22 +189,24 @@ def _put_aborts(
     """The sagas whose deadlines had passed are aborted, before an attempt of theirs goes on."""
     if overdue:
         effects.batch.text = log_text
-        driver.events += effects.batch.counted()
-        Reading(driver, effects).overdue([driver.sagas[one] for one in overdue], replies)
+        driver.events += effects.batch.count_lines()
+        ReplyReader(driver, effects).overdue([driver.sagas[one] for one in overdue], replies)
         for saga in effects.rare.overdue:
-            saga.rare.drains = True  # the store has its deadline, so what is called hears of it
+            saga.rare.may_cancel_work = (
+                True  # the store has its deadline, so what is called hears of it
+            )
 
 
-def _under_way(driver: ShardDriver) -> Old:
+def _under_way(driver: ShardDriver) -> AttemptsUnderWay:
     attempts = [one for saga in driver.sagas.values() for one in saga.busy.values()]
-    attempts += driver.unkept()
+    attempts += driver.unstored_reports()
     return {(one.instance.number, one.step, one.kind, one.attempt): one for one in attempts}
 
 
 def _restore(
     found: Recovery,
     driver: ShardDriver,
-    row: OpenRow,
+    row: OpenSagaRow,
     known: Mapping[str, SagaInstance],
     is_shared: bool,
 ) -> None:
@@ -224,13 +226,13 @@ def _restore(
     found.restored.append(saga)
 
 
-def _put_rows(driver: ShardDriver, rows: Loaded) -> None:
+def _apply_rows(driver: ShardDriver, rows: LoadedShard) -> None:
     """Put into the sagas what the store has of their steps."""
     for id, step, kind, _, outcome, value, at in rows.results:
-        _put_result(driver.sagas[id % SHARD_CAPACITY], step, kind, outcome, value or "null", at)
+        _apply_result(driver.sagas[id % SHARD_CAPACITY], step, kind, outcome, value or "null", at)
     for id, step, kind, number, why, _, _, until, text in rows.held:
-        if number == ATTEMPT:
-            early = driver.sagas[id % SHARD_CAPACITY].rare.early
+        if number == EARLY_ATTEMPT:
+            early = driver.sagas[id % SHARD_CAPACITY].rare.early_reports
             early[step, kind] = (EarlyReason(why), text or "")
             continue
         reason = Suspension(why)
@@ -238,42 +240,42 @@ def _put_rows(driver: ShardDriver, rows: Loaded) -> None:
             continue  # it may be a wait that could not say until when
         is_called = reason in PARKED  # its time was over
         if is_called or (reason is Suspension.TIMER and until is not None):
-            due = driver.sagas[id % SHARD_CAPACITY].rare.due
+            due = driver.sagas[id % SHARD_CAPACITY].rare.wait_ends
             time = 0.0 if is_called or until is None else until
             due[step, kind] = min(time, due.get((step, kind), time))
 
 
-def _put_result(
+def _apply_result(
     saga: SagaInstance, step: int, kind: str, outcome: str, value: str, at: float
 ) -> None:
     if outcome == "commit":
         saga.put_result(step, value)
     elif outcome == "undone":
         saga.results.pop(step, None)
-        saga.odd = True
+        saga.has_deviated = True
     elif outcome != "ok":
-        saga.odd = True
+        saga.has_deviated = True
         told = json.loads(value)
         called = told.get("called", True)
-        saga.raised(step, value, called)
+        saga.note_error(step, value, called)
         if called:
-            saga.missed((step, kind), at, told)
+            saga.note_failure((step, kind), at, told)
         if told.get("final"):
             saga.rare.final.add((step, kind))
 
 
-def _show(effects: Effects, driver: ShardDriver, number: int, reply: str) -> None:
+def _apply_shown(effects: Effects, driver: ShardDriver, number: int, reply: str) -> None:
     saga, told = driver.sagas[number], json.loads(reply)
-    saga.odd, saga.aborted, saga.answer = True, told["aborted"], told.get("answer")
+    saga.has_deviated, saga.aborted, saga.answer = True, told["aborted"], told.get("answer")
     saga.draining = told["phase"] in (EnginePhase.DRAINING, EnginePhase.PLANNING)
-    Reading(driver, effects).shown(number, reply)
+    ReplyReader(driver, effects).shown(number, reply)
 
 
 def _resume(
     found: Recovery,
     driver: ShardDriver,
-    rows: Loaded,
-    old: Old,
+    rows: LoadedShard,
+    old: AttemptsUnderWay,
     busy: list[dict[str, Any]],
     is_ours: bool,
 ) -> None:
@@ -289,17 +291,17 @@ def _resume(
         words = task["step"], task["task"], task["attempt"]
         attempt = old.pop((saga.number, *words), None)
         row = (driver.number * SHARD_CAPACITY + saga.number, *words)
-        if attempt is not None and attempt.recorded and row not in kept:
+        if attempt is not None and attempt.is_recorded and row not in kept:
             found.forgotten.append(attempt)  # by a server that was there before
-            attempt = Attempt(saga, *words, fresh=False)
+            attempt = Attempt(saga, *words, is_uncalled=False)
         elif attempt is None or _is_doubtful(attempt, is_ours):
             if attempt is not None:
                 found.forgotten.append(attempt)
-            attempt = _made_again(saga, words, attempt, is_ours)
+            attempt = _restored_attempt(saga, words, attempt, is_ours)
             if row in held:
-                _put_suspension(attempt, held[row])
+                _apply_suspension(attempt, held[row])
         attempt.instance = saga
-        saga.busy[attempt.word] = attempt
+        saga.busy[attempt.action_key] = attempt
         if row in kept and attempt.state is not FINISHED:
             *_, value, at = kept[row]
             attempt.finish(Outcome(SUCCEEDED, value or "null", encoded=True), at)
@@ -316,23 +318,32 @@ def _is_doubtful(attempt: Attempt, is_ours: bool) -> bool:
     return not is_ours and attempt.state is not RUNNING
 
 
-def _made_again(
+def _restored_attempt(
     saga: SagaInstance, words: tuple[int, str, int], before: Attempt | None, is_ours: bool
 ) -> Attempt:
     """An attempt as an earlier program left it, or as one that was given up is decided again."""
-    attempt = Attempt(saga, *words, fresh=before is not None and is_ours)
-    if attempt.fresh and attempt.manner.external and attempt.word not in saga.rare.final:
+    attempt = Attempt(saga, *words, is_uncalled=before is not None and is_ours)
+    if (
+        attempt.is_uncalled
+        and attempt.manner.external
+        and attempt.action_key not in saga.rare.final
+    ):
         attempt.reason = Suspension.EXTERNAL  # its row tells whether a worker has it
     return attempt
 
 
-def _put_suspension(attempt: Attempt, row: HeldRow) -> None:
+def _apply_suspension(attempt: Attempt, row: StoredSuspension) -> None:
     """Put into an attempt what the store has of its suspension."""
     _, _, _, _, why, count, since, until, error = row
     reason = Suspension(why)
-    attempt.reason, attempt.since, attempt.until, attempt.has_row = reason, since, until, True
-    attempt.rare.noted = why
-    if reason in FAILED_BEFORE:
+    attempt.reason, attempt.waiting_since, attempt.until, attempt.has_row = (
+        reason,
+        since,
+        until,
+        True,
+    )
+    attempt.rare.last_note = why
+    if reason in AFTER_FAILURE:
         attempt.rare.failures, attempt.outcome = count, failure(error or "")
         return
     if reason is Suspension.CHILD:

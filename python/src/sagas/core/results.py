@@ -17,11 +17,11 @@ if TYPE_CHECKING:
     from sagas.definition.selection import Selection
 
 R = TypeVar("R")
-MOST_SAID = 120
+MAX_ERROR = 120
 ENDED = ("completed", "recovered")
 
 
-class Ended(Protocol):
+class SagaEnd(Protocol):
     """How a saga ended, in a store or in a test."""
 
     @property
@@ -65,7 +65,7 @@ class Ended(Protocol):
         ...
 
 
-def _result(of: Ended, name: str) -> Any:
+def _result(of: SagaEnd, name: str) -> Any:
     """The result of one step, by its whole name."""
     if name not in of.results:
         there = name in of.states
@@ -83,25 +83,25 @@ def _compensations(steps: list[str]) -> str:
     return f"the {'compensation' if one else 'compensations'} of {' and '.join(steps)}"
 
 
-class Answering:
+class EndQueries:
     """What is asked of either."""
 
     __slots__ = ()
 
     @property
-    def ok(self: Ended) -> bool:
+    def ok(self: SagaEnd) -> bool:
         """Whether every step is committed."""
         return self.phase in ENDED and all(state == "committed" for state in self.states.values())
 
     @overload
-    def result_of(self: Ended, step: Selection[R]) -> R:
+    def result_of(self: SagaEnd, step: Selection[R]) -> R:
         ...
 
     @overload
-    def result_of(self: Ended, step: str) -> Any:
+    def result_of(self: SagaEnd, step: str) -> Any:
         ...
 
-    def result_of(self: Ended, step: Selection[Any] | str) -> Any:
+    def result_of(self: SagaEnd, step: Selection[Any] | str) -> Any:
         """Return the result of a committed step.
 
         Args:
@@ -118,7 +118,7 @@ class Answering:
             return of_names(self.fan.gather(step, str), one)
         return self.fan.gather(step, one)
 
-    def each(self: Ended, step: FanOut[Any, R]) -> dict[int | str, R]:
+    def each(self: SagaEnd, step: FanOut[Any, R]) -> dict[int | str, R]:
         """Return the results of the items of a fan-out that succeeded, and remain.
 
         Args:
@@ -135,7 +135,7 @@ class Answering:
             if name in self.results and serialization.failed(self.results[name]) is None
         }
 
-    def __str__(self: Ended) -> str:
+    def __str__(self: SagaEnd) -> str:
         """A line, and one for each step, with the first line of what that raised."""
         stands = [step for step, state in self.states.items() if state == "undo_failed"]
         cost = "" if self.cost is None else f", plan of cost {self.cost}"
@@ -145,7 +145,7 @@ class Answering:
             f", because of {' and '.join(self.blocking_steps)}" if self.blocking_steps else ""
         )
         said = {
-            step: f": {error.strip().splitlines()[0][:MOST_SAID]}"
+            step: f": {error.strip().splitlines()[0][:MAX_ERROR]}"
             for step, error in self.errors.items()
             if error.strip()
         }
@@ -164,7 +164,7 @@ class Answering:
 
 
 @dataclasses.dataclass(frozen=True, init=False)
-class SagaResult(Answering):
+class SagaResult(EndQueries):
     """Tell how a saga ended. Made by `Run.wait` and `Store.wait`.
 
     `str` shows a line for each step.

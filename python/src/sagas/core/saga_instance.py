@@ -41,16 +41,16 @@ class SagaInstance(AcknowledgedSaga):
     Attributes:
         key: The caller's name for it.
         kind: Its definition.
-        place: The index of its definition in its shard.
+        definition_index: The index of its definition in its shard.
         number: Its number in its shard; -1 until it has one.
         busy: The attempts that were claimed and not reported.
-        odd: Whether something failed, was retried or was aborted.
+        has_deviated: Whether something failed, was retried or was aborted.
         draining: Whether what runs ends, and then the saga is planned.
         answer: The last plan that was adopted.
         committed: Whether the store has it.
         guessed: Whether it was begun without a look for its key. Until it is committed, the key
             may be another saga's.
-        start: The pending start of a client that it is of.
+        client_start: The pending start of a client that it is of.
         phase: How it ended, as the store has it; the empty text while it is open.
         end: The end, as the store has it.
     """
@@ -58,17 +58,17 @@ class SagaInstance(AcknowledgedSaga):
     __slots__ = (
         "key",
         "kind",
-        "place",
+        "definition_index",
         "number",
         "shard",
         "busy",
-        "odd",
+        "has_deviated",
         "aborted",
         "draining",
         "answer",
         "committed",
         "guessed",
-        "start",
+        "client_start",
         "phase",
         "end",
         "token",
@@ -84,13 +84,13 @@ class SagaInstance(AcknowledgedSaga):
     ) -> None:
         self.key = key
         self.kind = kind
-        self.place = place
-        self.take(text, options)
+        self.definition_index = place
+        self.hold(text, options)
         self._extras: SagaExtras | None = None
         self.number = -1
         self.shard: ShardDriver | None = None
         self.committed = self.guessed = False
-        self.start: int | None = None
+        self.client_start: int | None = None
         self.end = ""
         self.forget()
 
@@ -99,7 +99,7 @@ class SagaInstance(AcknowledgedSaga):
         self.token: str | None = None
         self.results: dict[int, str] = {}
         self.busy: dict[Word, Attempt] = {}
-        self.odd = self.aborted = self.draining = False
+        self.has_deviated = self.aborted = self.draining = False
         self.answer: dict[str, Any] | None = None
         self.phase = ""
         tenant = self._extras.tenant if self._extras is not None else None
@@ -137,7 +137,7 @@ class SagaInstance(AcknowledgedSaga):
             return
         busy = self.busy.values()
         if all(attempt.state in RESTING for attempt in busy):
-            self.drop([attempt.results for attempt in busy])
+            self.drop_large([attempt.results for attempt in busy])
 
     @property
     def numbering(self) -> ShapeValues:
@@ -150,14 +150,14 @@ class SagaInstance(AcknowledgedSaga):
         return None if self._extras is None else self._extras.tenant
 
     @property
-    def why_draining(self) -> str:
+    def drain_reason(self) -> str:
         """Why what it does is not wanted any more, as functions hear it."""
         return "aborted" if self.aborted else "failed"
 
     @property
-    def drains(self) -> bool:
+    def may_cancel_work(self) -> bool:
         """Whether it drains, and the store has why: what it does may be ended."""
-        return self.draining and self._extras is not None and self._extras.drains
+        return self.draining and self._extras is not None and self._extras.may_cancel_work
 
     @property
     def over(self) -> bool:
@@ -172,12 +172,12 @@ class SagaInstance(AcknowledgedSaga):
     @property
     def has_due(self) -> bool:
         """Whether the store has the time of a wait that is retried."""
-        return self._extras is not None and bool(self._extras.due)
+        return self._extras is not None and bool(self._extras.wait_ends)
 
     @property
     def has_early(self) -> bool:
         """Whether the store has a report of a step that has not begun."""
-        return self._extras is not None and bool(self._extras.early)
+        return self._extras is not None and bool(self._extras.early_reports)
 
     @property
     def id(self) -> int:
@@ -186,16 +186,16 @@ class SagaInstance(AcknowledgedSaga):
         return self.shard.identity.number * SHARD_CAPACITY + self.number
 
     @property
-    def is_doubtful(self) -> bool:
+    def has_unchecked_key(self) -> bool:
         """Whether its key may be another saga's."""
         return self.guessed and not self.committed
 
-    def missed(self, word: Word, at: float, told: dict[str, Any]) -> None:
+    def note_failure(self, word: Word, at: float, told: dict[str, Any]) -> None:
         """Keep when an action failed, and the pause that it wants."""
-        self.rare.missed_at[word] = at
-        self.rare.pauses[word] = told.get("retry_after")
+        self.rare.failed_at[word] = at
+        self.rare.retry_pauses[word] = told.get("retry_after")
 
-    def raised(self, step: int, value: str, called: bool) -> None:
+    def note_error(self, step: int, value: str, called: bool) -> None:
         """Keep what an attempt raised; what it raised when it was called goes before what is said
         of one that was given up.
         """

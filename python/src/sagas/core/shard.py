@@ -27,19 +27,19 @@ from collections import deque
 from collections.abc import Iterable, Sequence
 
 from sagas.core import early_reports, endings, offers, protocol, suspension_rows
-from sagas.core.batch import Batch, Born, Loaded, Withdrawal
-from sagas.core.effects import Abort, Effects, Question
+from sagas.core.batch import Batch, NewShard, LoadedShard, Withdrawal
+from sagas.core.effects import Abort, Effects, EngineRequest
 from sagas.core.model import Attempt, SagaInstance
 from sagas.core.early_reports import is_success
 from sagas.core.outcomes import SUCCEEDED
-from sagas.core.replies import Reading
+from sagas.core.replies import ReplyReader
 from sagas.core.shard_definitions import ShardDefinitions
 from sagas.core.states import SHARD_TRANSITIONS, Check, ShardState, check
 from sagas.core.suspensions import SuspensionRow
 
-MOST_REPORTS = 256
+MAX_REPORTS = 256
 """So many attempts are reported, or sagas opened, by one question."""
-MOST_CLAIMS = 1000
+MAX_CLAIMS = 1000
 """So many tasks are claimed by one question."""
 
 
@@ -67,44 +67,44 @@ class ShardDriver:
         epoch: The fencing token of its owner.
         known: The epoch, and the server's timeline, as of which its attempts are known: what one
             of them writes by itself is fenced by both.
-        born: The shard's own row, until it is in the store.
+        new_shard: The shard's own row, until it is in the store.
         sagas: Its open sagas, by number.
         opens: Sagas to be opened.
         reports: Attempts that are finished, and to be reported.
         aborts: Aborts to be asked.
-        sent: Sagas that the engine was asked to open, and that are not known to be stored.
-        reporting: Lots that were reported, and are not known to be stored.
-        aborting: Aborts that were asked, and are not known to be stored.
+        opens_sent: Sagas that the engine was asked to open, and that are not known to be stored.
+        reports_sent: Lots that were reported, and are not known to be stored.
+        aborts_sent: Aborts that were asked, and are not known to be stored.
         events: How many events the store has of it, or will have.
         opened: How many sagas it has opened.
         reserved: Those, and those that are to be opened here.
         is_full: Whether it had no room for a saga, and takes no more.
-        unwritten: How many batches are on their way to the store.
-        hungry: Whether the engine may have tasks.
-        asked: What the engine is about to answer.
+        commits_in_flight: How many batches are on their way to the store.
+        may_have_tasks: Whether the engine may have tasks.
+        unanswered: What the engine is about to answer.
     """
 
     __slots__ = (
         "identity",
         "state",
         "epoch",
-        "known",
-        "born",
+        "fence",
+        "new_shard",
         "sagas",
         "opens",
         "reports",
         "aborts",
-        "sent",
-        "reporting",
-        "aborting",
+        "opens_sent",
+        "reports_sent",
+        "aborts_sent",
         "events",
         "opened",
         "reserved",
         "is_full",
-        "unwritten",
-        "hungry",
-        "asked",
-        "_more",
+        "commits_in_flight",
+        "may_have_tasks",
+        "unanswered",
+        "_next_claims",
     )
 
     def __init__(
@@ -113,28 +113,28 @@ class ShardDriver:
         self.identity = identity
         self.state = state
         self.epoch = epoch
-        self.known: tuple[int, str] = (-1, "")
-        self.born: Born | None = None
+        self.fence: tuple[int, str] = (-1, "")
+        self.new_shard: NewShard | None = None
         self.sagas: dict[int, SagaInstance] = {}
         self.opens: deque[SagaInstance] = deque()
         self.reports: dict[Attempt, None] = {}
         self.aborts: list[Abort] = []
-        self.sent: dict[SagaInstance, None] = {}
-        self.reporting: deque[Sequence[Attempt]] = deque()
-        self.aborting: list[Abort] = []
-        self.events = self.unwritten = 0
+        self.opens_sent: dict[SagaInstance, None] = {}
+        self.reports_sent: deque[Sequence[Attempt]] = deque()
+        self.aborts_sent: list[Abort] = []
+        self.events = self.commits_in_flight = 0
         self.opened = self.reserved = opened
         self.is_full = False
-        self.hungry = False
-        self.asked: Question | None = None
-        self._more = 1  # tasks that are asked for next time
+        self.may_have_tasks = False
+        self.unanswered: EngineRequest | None = None
+        self._next_claims = 1  # tasks that are asked for next time
 
     @classmethod
     def created(cls, identity: ShardIdentity, timeline: str = "") -> ShardDriver:
         """Make a shard that the store does not have yet. Its first batch holds its row."""
         driver = cls(identity, ShardState.IDLE, epoch=1)
-        driver.known = (driver.epoch, timeline)
-        driver.born = identity.name, identity.definitions.all()
+        driver.fence = (driver.epoch, timeline)
+        driver.new_shard = identity.name, identity.definitions.all()
         return driver
 
     @property
@@ -149,14 +149,14 @@ class ShardDriver:
 
     # -- its state
 
-    def to(self, state: ShardState) -> None:
+    def set_state(self, state: ShardState) -> None:
         """Let it stand there from now on."""
         if Check.is_on:
             check(SHARD_TRANSITIONS, self.state, state)
         self.state = state
 
     @property
-    def is_known(self) -> bool:
+    def is_current(self) -> bool:
         """Whether what is known of it is what the store has, or will have."""
         return self.state in (ShardState.IDLE, ShardState.STARTING, ShardState.ACTIVE)
 
@@ -168,16 +168,18 @@ class ShardDriver:
     @property
     def is_over(self) -> bool:
         """Whether no saga of it is open, and none is about to be."""
-        is_empty = not (self.sagas or self.unwritten or self.opens or self.sent)
+        is_empty = not (self.sagas or self.commits_in_flight or self.opens or self.opens_sent)
         return is_empty and self.reserved == self.opened
 
-    def unkept(self) -> Iterable[Attempt]:
+    def unstored_reports(self) -> Iterable[Attempt]:
         """The finished attempts whose reports are not known to be stored."""
-        return itertools.chain(self.reports, *self.reporting)
+        return itertools.chain(self.reports, *self.reports_sent)
 
     def is_due(self, may_claim: bool) -> bool:
         """Whether the engine can be asked something now; for tasks only if they may be claimed."""
-        return bool(self.reports or self.opens or self.aborts) or (self.hungry and may_claim)
+        return bool(self.reports or self.opens or self.aborts) or (
+            self.may_have_tasks and may_claim
+        )
 
     # -- what is to be asked
 
@@ -187,14 +189,17 @@ class ShardDriver:
         self.opens.append(saga)
 
     @property
-    def is_undefined(self) -> bool:
+    def has_undefined_open(self) -> bool:
         """Whether a saga is to be opened whose definition the engine does not know."""
-        return bool(self.opens) and self.opens[0].place >= self.identity.definitions.known
+        return (
+            bool(self.opens)
+            and self.opens[0].definition_index >= self.identity.definitions.known_count
+        )
 
     @property
-    def wants_engine(self) -> bool:
+    def needs_new_engine(self) -> bool:
         """Whether another engine has to be started for that."""
-        return self.is_undefined and self.identity.definitions.is_fixed
+        return self.has_undefined_open and self.identity.definitions.is_fixed
 
     def withdraw(self, saga: SagaInstance) -> bool:
         """Do not open a saga here; whether it was not asked for yet."""
@@ -217,28 +222,28 @@ class ShardDriver:
         """Keep why an attempt waits: the batch is its row."""
         effects = self.effects(now)
         suspension_rows.put(effects.batch, attempt, row, self.number)
-        effects.more.suspended.append((attempt, row))
+        effects.rare_effects.suspended.append((attempt, row))
         return effects
 
     def offered(self, attempt: Attempt, now: float) -> Effects:
         """Offer an attempt to external workers: the batch is its row."""
         effects = self.effects(now)
-        effects.batch.more.offers.append(offers.offer(attempt, self.number, now))
-        effects.more.offered.append(attempt)
+        effects.batch.rare_rows.offers.append(offers.offer_row(attempt, self.number, now))
+        effects.rare_effects.offered.append(attempt)
         return effects
 
     def withdrawn(self, attempt: Attempt, now: float) -> Effects:
         """Withdraw an attempt from external workers: the batch changes its row."""
         effects = self.effects(now)
         withdrawal = Withdrawal(attempt.token(), self.number)
-        effects.batch.more.withdrawn.append(withdrawal)
-        effects.more.withdrawn.append((attempt, withdrawal))
+        effects.batch.rare_rows.withdrawn.append(withdrawal)
+        effects.rare_effects.withdrawn.append((attempt, withdrawal))
         return effects
 
     def effects(self, now: float) -> Effects:
         """Make effects with an empty batch, behind all that was asked so far."""
         batch = Batch(self.identity.number, now, self.events, self.epoch)
-        batch.born = self.born
+        batch.new_shard = self.new_shard
         return Effects(batch)
 
     # -- to the engine
@@ -254,41 +259,41 @@ class ShardDriver:
         Returns:
             Lines for the engine; none if nothing is due. `asked` says what they ask.
         """
-        asked = Question()
+        asked = EngineRequest()
         lines: list[str] = []
         if self.aborts:  # first: what is given up because of one has failed behind it
             asked.aborts, self.aborts = self.aborts, []
-            self.aborting += asked.aborts
+            self.aborts_sent += asked.aborts
             lines += [protocol.abort_line(abort.saga.number) for abort in asked.aborts]
         if self.reports:
             asked.reports = self._ask_reports(asked, lines)
-        if asked.aborts or asked.odd:
+        if asked.aborts or asked.deviating:
             self._ask_early(asked, lines)
         if self.opens:
             defines = self.identity.definitions.define_lines()
-            asked.defines = len(defines)
+            asked.definition_count = len(defines)
             lines += defines
             asked.opens = self._ask_opens(lines)
             if any(saga.is_overdue(now) for saga in asked.opens):
                 self._ask_aborts(asked, lines, now)
         if lines:
-            self.hungry = True
-        if self.hungry and free_slots > 0:
-            most = max(len(lines) + 1 + asked.plans, self._more)
-            asked.claims = min(most, free_slots + asked.plans)
-            lines.append(protocol.next_line(asked.claims))
-        if asked.looks:
-            lines += map(protocol.show_line, asked.looks)
-        asked.lines = len(lines)
-        self.asked = asked if lines else None
+            self.may_have_tasks = True
+        if self.may_have_tasks and free_slots > 0:
+            most = max(len(lines) + 1 + asked.expected_plans, self._next_claims)
+            asked.claim_count = min(most, free_slots + asked.expected_plans)
+            lines.append(protocol.next_line(asked.claim_count))
+        if asked.expected_ends:
+            lines += map(protocol.show_line, asked.expected_ends)
+        asked.reply_count = len(lines)
+        self.unanswered = asked if lines else None
         return lines
 
-    def _ask_reports(self, asked: Question, lines: list[str]) -> Sequence[Attempt]:
+    def _ask_reports(self, asked: EngineRequest, lines: list[str]) -> Sequence[Attempt]:
         """A lot of them, the first first."""
         lot, self.reports = [*self.reports], {}
-        if len(lot) > MOST_REPORTS:
-            lot, self.reports = lot[:MOST_REPORTS], dict.fromkeys(lot[MOST_REPORTS:])
-        self.reporting.append(lot)
+        if len(lot) > MAX_REPORTS:
+            lot, self.reports = lot[:MAX_REPORTS], dict.fromkeys(lot[MAX_REPORTS:])
+        self.reports_sent.append(lot)
         odd: list[Attempt] = []
         for attempt in lot:
             saga, outcome = attempt.instance, attempt.outcome
@@ -300,50 +305,50 @@ class ShardDriver:
                 )
             )
             saga.busy.pop(attempt.action.word, None)
-            if saga.odd or not is_good or attempt.kind == "undo":
-                saga.odd = True
+            if saga.has_deviated or not is_good or attempt.kind == "undo":
+                saga.has_deviated = True
                 odd.append(attempt)
         if odd:
-            asked.odd = odd
-            asked.plans, asked.looks = endings.expected(odd)
+            asked.deviating = odd
+            asked.expected_plans, asked.expected_ends = endings.expected_endings(odd)
         return lot
 
-    def _ask_early(self, asked: Question, lines: list[str]) -> None:
+    def _ask_early(self, asked: EngineRequest, lines: list[str]) -> None:
         """Before a saga recovers, commit what was reported of its steps that have not begun, where
         the engine allows it: behind the successes of the lot, and ahead of all else.
         """
         sagas = [abort.saga for abort in asked.aborts]
-        sagas += [one.instance for one in asked.odd if not is_success(one)]
-        asked.early = early_reports.due(sagas, asked.reports)
+        sagas += [one.instance for one in asked.deviating if not is_success(one)]
+        asked.early = early_reports.due_reports(sagas, asked.reports)
         if not asked.early:
             return
         first = len(asked.aborts)
         told = [*zip(asked.reports, lines[first:])]
         told.sort(key=lambda one: not is_success(one[0]))
         if told:
-            asked.reports = self.reporting[-1] = [attempt for attempt, _ in told]
-        asked.goods = sum(map(is_success, asked.reports))
+            asked.reports = self.reports_sent[-1] = [attempt for attempt, _ in told]
+        asked.success_count = sum(map(is_success, asked.reports))
         reports = [line for _, line in told]
-        taken = [protocol.take_lines(one.saga.number, one.word[0]) for one in asked.early]
+        taken = [protocol.take_lines(one.saga.number, one.action_key[0]) for one in asked.early]
         lines[:] = [
-            *reports[: asked.goods],
+            *reports[: asked.success_count],
             *itertools.chain(*taken),
             *lines[:first],
-            *reports[asked.goods :],
+            *reports[asked.success_count :],
         ]
 
     def _ask_opens(self, lines: list[str]) -> Sequence[SagaInstance]:
         """As many as a question may have."""
         lot: list[SagaInstance] = []
         opens, usable = self.opens, self.identity.definitions.usable
-        while opens and opens[0].place < usable and len(lines) < MOST_REPORTS:
+        while opens and opens[0].definition_index < usable and len(lines) < MAX_REPORTS:
             saga = opens.popleft()
-            self.sent[saga], saga.shard = None, self
-            lines.append(protocol.open_line(saga.place, self.opened + len(lot)))
+            self.opens_sent[saga], saga.shard = None, self
+            lines.append(protocol.open_line(saga.definition_index, self.opened + len(lot)))
             lot.append(saga)
         return lot
 
-    def _ask_aborts(self, asked: Question, lines: list[str], now: float) -> None:
+    def _ask_aborts(self, asked: EngineRequest, lines: list[str], now: float) -> None:
         """Abort those that are about to be opened, and whose deadlines have passed. They are
         planned at once, and are expected to be over.
         """
@@ -351,8 +356,8 @@ class ShardDriver:
         late = [(number, saga) for number, saga in late if saga.is_overdue(now)]
         lines += [protocol.abort_line(number) for number, _ in late]
         asked.overdue = [saga for _, saga in late]
-        asked.plans += len(late)
-        asked.looks = [*asked.looks, *(number for number, _ in late)]
+        asked.expected_plans += len(late)
+        asked.expected_ends = [*asked.expected_ends, *(number for number, _ in late)]
 
     # -- from the engine
 
@@ -370,47 +375,49 @@ class ShardDriver:
         Raises:
             Disagrees: The engine knows something else than this program.
         """
-        asked = self.asked
+        asked = self.unanswered
         assert asked
         if asked.effects is not None:
-            reading = Reading(self, asked.effects)
-            for number, reply in zip(asked.shows, replies, strict=True):
+            reading = ReplyReader(self, asked.effects)
+            for number, reply in zip(asked.shown_sagas, replies, strict=True):
                 reading.shown(number, reply)
             return self._answered(asked, asked.effects)
         effects = asked.effects = self.effects(now)
         effects.batch.text = log_text
-        asked.shows = Reading(self, effects).replies(asked, replies)
-        if asked.shows:  # how they ended goes into the same batch
-            return [protocol.show_line(number) for number in asked.shows]
+        asked.shown_sagas = ReplyReader(self, effects).replies(asked, replies)
+        if asked.shown_sagas:  # how they ended goes into the same batch
+            return [protocol.show_line(number) for number in asked.shown_sagas]
         return self._answered(asked, effects)
 
-    def _answered(self, asked: Question, effects: Effects) -> Effects:
+    def _answered(self, asked: EngineRequest, effects: Effects) -> Effects:
         begun = len(effects.dispatch)
-        effects.unclaimed = asked.claims - begun
-        self._more = min(MOST_CLAIMS, 2 * begun) if self.hungry else 1
-        self.events += effects.batch.counted()
-        self.asked = None
+        effects.unclaimed = asked.claim_count - begun
+        self._next_claims = min(MAX_CLAIMS, 2 * begun) if self.may_have_tasks else 1
+        self.events += effects.batch.count_lines()
+        self.unanswered = None
         return effects
 
     # -- to the store, and from there
 
-    def writes(self, effects: Effects) -> None:
+    def begin_commit(self, effects: Effects) -> None:
         """Its batch is on its way to the store, or an answer without rows goes behind one."""
-        if effects.batch or (self.unwritten and (effects.rare.aborted or effects.rare.early)):
+        if effects.batch or (
+            self.commits_in_flight and (effects.rare.aborted or effects.rare.early)
+        ):
             effects.is_written = True
-            self.unwritten += 1
+            self.commits_in_flight += 1
 
     def committed(self, effects: Effects) -> None:
         """Its batch is durable, or was empty: what it says is so."""
         if effects.is_written:
-            self.unwritten -= 1
-            self.born = None
-        if self.reporting and self.reporting[0] is effects.reported:
-            self.reporting.popleft()  # lots are written in the order of their reports
-        if self.aborting:
-            self.aborting = [one for one in self.aborting if one not in effects.rare.aborted]
+            self.commits_in_flight -= 1
+            self.new_shard = None
+        if self.reports_sent and self.reports_sent[0] is effects.reported:
+            self.reports_sent.popleft()  # lots are written in the order of their reports
+        if self.aborts_sent:
+            self.aborts_sent = [one for one in self.aborts_sent if one not in effects.rare.aborted]
         for saga in effects.opened:
-            self.sent.pop(saga, None)
+            self.opens_sent.pop(saga, None)
             saga.committed = True
         for saga in effects.ended:
             self.sagas.pop(saga.number, None)
@@ -418,7 +425,7 @@ class ShardDriver:
     def failed(self, effects: Effects) -> int:
         """Its batch is not durable, as far as is known: as `fail`."""
         if effects.is_written:
-            self.unwritten -= 1
+            self.commits_in_flight -= 1
         return self.fail()
 
     def fail(self) -> int:
@@ -428,41 +435,41 @@ class ShardDriver:
         Returns:
             How many tasks were asked for, and are not answered any more.
         """
-        if self.is_known:
-            self.to(ShardState.STALE)
-        return self.unask()
+        if self.is_current:
+            self.set_state(ShardState.STALE)
+        return self.drop_request()
 
     # -- back from the store (`core.recovery`)
 
-    def loaded(self, rows: Loaded) -> None:
+    def loaded(self, rows: LoadedShard) -> None:
         """Its rows were read: it is the program's under their epoch."""
         if rows.epoch != self.epoch:
-            self.epoch, self.born = rows.epoch, None
+            self.epoch, self.new_shard = rows.epoch, None
 
-    def close_opens(self) -> None:
+    def clear_opens(self) -> None:
         """No saga is to be opened here any more."""
-        self.sent = {}
+        self.opens_sent = {}
         self.opens.clear()
         self.reserved = self.opened
 
-    def restart(self, rows: Loaded) -> None:
+    def restart(self, rows: LoadedShard) -> None:
         """Know no saga any more, and begin behind the event log of the store. Sagas that are to
         be opened stay.
         """
-        self.to(ShardState.ACTIVE)
-        self.known = (rows.epoch, rows.line)
+        self.set_state(ShardState.ACTIVE)
+        self.fence = (rows.epoch, rows.timeline)
         self.events, self.opened = rows.events, rows.opened
-        self.identity.definitions.stored = rows.definitions
+        self.identity.definitions.stored_count = rows.definition_count
         self.reserved = self.opened + len(self.opens)
-        self.sagas, self.reports, self.aborts, self.aborting = {}, {}, [], []
-        self.reporting.clear()
-        self.hungry, self._more = True, 1
+        self.sagas, self.reports, self.aborts, self.aborts_sent = {}, {}, [], []
+        self.reports_sent.clear()
+        self.may_have_tasks, self._next_claims = True, 1
 
-    def unask(self) -> int:
+    def drop_request(self) -> int:
         """The engine does not answer any more.
 
         Returns:
             As `fail`.
         """
-        asked, self.asked = self.asked, None
-        return asked.claims if asked else 0
+        asked, self.unanswered = self.unanswered, None
+        return asked.claim_count if asked else 0

@@ -10,11 +10,11 @@ from __future__ import annotations
 import json
 from typing import Optional
 
-from sagas.core.batch import Spans
+from sagas.core.batch import SpansRow
 from sagas.core.model import QUEUED, RUNNING, SUSPENDED, Attempt
 from sagas.core.states import Suspension
 
-Note = tuple[str, float, Optional[str]]
+SpanNote = tuple[str, float, Optional[str]]
 """What it did, since when, and what was raised."""
 QUEUED_WORD, RUNNING_WORD, PERSON_WORD = "queued", "running", "person"
 """Beside those of `Suspension`. `person`: its outcome is unknown, and a person has to report it."""
@@ -24,11 +24,11 @@ AGAIN_WORD = "again"
 """It runs, and a program that ended may have called it before."""
 SHORT = 1.0
 """Seconds: of one that only waited for its turn, and no longer, nothing is stored."""
-TURNS = frozenset(
+TURN_WORDS = frozenset(
     {QUEUED_WORD, RUNNING_WORD, Suspension.STEP_LIMIT.value, Suspension.FLEET_LIMIT.value}
 )
 CALLED_BEFORE = "called before"
-MOST = 200
+MAX_NOTES = 200
 """Notes of one attempt: of one that goes on for days those behind are not stored."""
 
 
@@ -44,39 +44,43 @@ def word_of(attempt: Attempt) -> str:
 def note(attempt: Attempt, now: float, raised: str | None = None) -> None:
     """Note what it does now, if that is something else than before."""
     extras, word = attempt.rare, word_of(attempt)
-    if extras.noted == CALLED_BEFORE and word == RUNNING_WORD:
+    if extras.last_note == CALLED_BEFORE and word == RUNNING_WORD:
         word = AGAIN_WORD
-    if word != extras.noted and extras.notes < MOST:
-        extras.noted, extras.notes = word, extras.notes + 1
+    if word != extras.last_note and extras.note_count < MAX_NOTES:
+        extras.last_note, extras.note_count = word, extras.note_count + 1
         extras.spans.append((word, now, raised))
 
 
-def called_before(attempt: Attempt) -> None:
+def note_earlier_call(attempt: Attempt) -> None:
     """An earlier program may have called it."""
-    attempt.rare.noted = CALLED_BEFORE
+    attempt.rare.last_note = CALLED_BEFORE
 
 
-def noted(attempt: Attempt, now: float) -> None:
+def note_again(attempt: Attempt, now: float) -> None:
     """As `note`, of one of which something was noted before."""
-    if attempt.extras is not None and attempt.extras.noted and attempt.state in (QUEUED, RUNNING):
+    if (
+        attempt.extras is not None
+        and attempt.extras.last_note
+        and attempt.state in (QUEUED, RUNNING)
+    ):
         note(attempt, now)
 
 
-def taken(attempt: Attempt) -> list[Spans]:
+def taken(attempt: Attempt) -> list[SpansRow]:
     """The row of what was noted since the last one, if any."""
     extras = attempt.extras
     if extras is None or not extras.spans:
         return []
     spans, extras.spans = extras.spans, []
-    follows = extras.notes > len(spans)  # on those that are stored
-    if attempt.state is SUSPENDED or follows or _is_told(attempt, spans):
+    follows = extras.note_count > len(spans)  # on those that are stored
+    if attempt.state is SUSPENDED or follows or _is_worth_storing(attempt, spans):
         return [(*attempt.row, spans[0][1], json.dumps(spans))]
     return []
 
 
-def _is_told(attempt: Attempt, spans: list[Note]) -> bool:
+def _is_worth_storing(attempt: Attempt, spans: list[SpanNote]) -> bool:
     """Whether those of one that has ended say anything."""
-    if any(word not in TURNS for word, _, _ in spans):
+    if any(word not in TURN_WORDS for word, _, _ in spans):
         return True
-    ran = next((at for word, at, _ in spans if word == RUNNING_WORD), attempt.at)
+    ran = next((at for word, at, _ in spans if word == RUNNING_WORD), attempt.finished_at)
     return ran - spans[0][1] >= SHORT

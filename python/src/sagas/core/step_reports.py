@@ -8,7 +8,7 @@ from typing import Any
 
 from sagas.base.errors import ConflictingReport, StepNotWaiting
 from sagas.core.batch import SagaRow
-from sagas.core.early_reports import KINDS
+from sagas.core.early_reports import EARLY_OUTCOMES
 from sagas.core.outcomes import Outcome
 from sagas.core.states import EarlyReason, EnginePhase, OutcomeKind
 from sagas.definition.payloads import PLAIN, Payloads
@@ -17,9 +17,9 @@ RESULTS = "SELECT step, action, event, value FROM attempts WHERE id = ? ORDER BY
 EARLY = """
 SELECT reason, detail FROM suspensions WHERE id = ? AND step = ? AND action = ? AND number = 0
 """
-UNUSED = "a report of it was stored, and the saga ended without the step"
-DONE = ("commit", "ok", "undone")
-OVER = {
+UNUSED_TEXT = "a report of it was stored, and the saga ended without the step"
+SUCCESS_EVENTS = ("commit", "ok", "undone")
+END_TEXTS = {
     "commit": "it has succeeded",
     "ok": "it has succeeded",
     "fail": "it has failed",
@@ -29,20 +29,20 @@ OVER = {
 """What the last event of a step, or of its compensation, says where that is over."""
 
 
-def over_by(rows: Iterable[tuple[Any, ...]], place: int, kind: str) -> str | None:
+def end_text(rows: Iterable[tuple[Any, ...]], place: int, kind: str) -> str | None:
     """In words how a step, or its compensation, ended, by rows of `RESULTS`. None where it has
     not."""
     events = [event for step, action, event, _ in rows if (step, action) == (place, kind)]
-    return OVER.get(events[-1]) if events else None
+    return END_TEXTS.get(events[-1]) if events else None
 
 
-def first_of(rows: Iterable[tuple[Any, ...]], place: int, kind: str) -> Outcome | None:
+def first_outcome(rows: Iterable[tuple[Any, ...]], place: int, kind: str) -> Outcome | None:
     """How a step, or its compensation, ended, by rows of `RESULTS`. None where it has not."""
     found = None
     for step, word, outcome, value in rows:
         if (step, word) != (place, kind):
             continue
-        if outcome in DONE:
+        if outcome in SUCCESS_EVENTS:
             found = Outcome(OutcomeKind.SUCCEEDED, value or "null")
             continue
         told = json.loads(value or "{}")
@@ -53,10 +53,10 @@ def first_of(rows: Iterable[tuple[Any, ...]], place: int, kind: str) -> Outcome 
     return found
 
 
-def early_of(rows: Iterable[tuple[Any, ...]]) -> Outcome | None:
+def early_outcome(rows: Iterable[tuple[Any, ...]]) -> Outcome | None:
     """What was reported of a step that has not begun, by rows of `EARLY`."""
     for reason, text in rows:
-        return Outcome(KINDS[EarlyReason(reason)], text or "null")
+        return Outcome(EARLY_OUTCOMES[EarlyReason(reason)], text or "null")
     return None
 
 

@@ -5,19 +5,19 @@ from __future__ import annotations
 from collections.abc import Awaitable, Callable
 from typing import Any, Protocol
 
-from sagas.base.errors import Lost
+from sagas.base.errors import ShardLost
 from sagas.core.model import Attempt
 from sagas.definition.step import Function
 from sagas.definition.task import Task
 
-Take = Callable[[], Any]
+TakeConnection = Callable[[], Any]
 """What gives a function a connection, where it asks for one."""
 
 
 class StepTransactions(Protocol):
     """Functions that may have a connection are called as others, as long as they ask for none."""
 
-    def enter(self, attempt: Attempt) -> Take | None:
+    def enter(self, attempt: Attempt) -> TakeConnection | None:
         """One is about to be called: what gives it a connection until it first waits. None where
         there is no connection at hand.
         """
@@ -45,7 +45,7 @@ class StepRecord(Protocol):
     def again(self) -> bool:
         """Whether all is rolled back by no fault of the function: it is called again."""
 
-    def lost(self) -> Lost | None:
+    def lost(self) -> ShardLost | None:
         """What to raise where nobody knows whether it was committed."""
 
     def judged(self, error: Any) -> Exception:

@@ -8,7 +8,7 @@ from collections.abc import Callable
 from typing import Any
 
 from sagas.base.logger import logger
-from sagas.core.batch import Wanted
+from sagas.core.batch import RequestRef
 from sagas.core.states import EarlyReason, Suspension
 from sagas.definition import serialization
 from sagas.definition.compiled import Word
@@ -37,7 +37,7 @@ class SuspensionRow:
     error: str | None = None
 
 
-class Subject(enum.Enum):
+class FunctionOption(enum.Enum):
     """What a function of a definition is asked of an attempt: the option that it was given as."""
 
     UNTIL = "until"
@@ -46,7 +46,7 @@ class Subject(enum.Enum):
 
 
 @dataclasses.dataclass(frozen=True, slots=True)
-class Returned:
+class FunctionResult:
     """What such a function returned, or raised."""
 
     value: Any = None
@@ -77,19 +77,19 @@ class AttemptExtras:
     """See `Attempt.offered`."""
     limit_key: str | None = None
     """The key by which the limits of its step count it, as JSON."""
-    asked: str = ""
+    called_options: str = ""
     """The functions of its definition that are called now, as they are declared."""
-    returned: dict[Subject, Returned] = dataclasses.field(default_factory=dict)
+    returned: dict[FunctionOption, FunctionResult] = dataclasses.field(default_factory=dict)
     """What they returned, until that is used."""
     control: Control | None = None
     """What its function hears and tells, once one of them was asked for."""
-    request: Wanted = None
+    request: RequestRef = None
     """The operator's command that finished it."""
     spans: list[tuple[str, float, str | None]] = dataclasses.field(default_factory=list)
     """What was noted of it and is not stored (`core.spans`)."""
-    noted: str = ""
+    last_note: str = ""
     """The word that was noted last."""
-    notes: int = 0
+    note_count: int = 0
     """How often something was noted."""
 
 
@@ -97,9 +97,9 @@ class AttemptExtras:
 class SagaExtras:
     """What only a saga has in which something failed, or waits."""
 
-    missed_at: dict[Word, float] = dataclasses.field(default_factory=dict)
+    failed_at: dict[Word, float] = dataclasses.field(default_factory=dict)
     """When the last attempt of each action failed that is retried."""
-    pauses: dict[Word, float | None] = dataclasses.field(default_factory=dict)
+    retry_pauses: dict[Word, float | None] = dataclasses.field(default_factory=dict)
     """Seconds that it wants behind that (`RetryAfter`)."""
     final: set[Word] = dataclasses.field(default_factory=set)
     """The actions that failed permanently."""
@@ -109,11 +109,11 @@ class SagaExtras:
     """What is kept of its shape, once it was read."""
     numbering: ShapeValues | None = None
     """The numbers and keys of its items, once its shape is not held any more."""
-    due: dict[Word, float] = dataclasses.field(default_factory=dict)
+    wait_ends: dict[Word, float] = dataclasses.field(default_factory=dict)
     """Of waits: until when; 0 once that is over."""
-    early: dict[Word, tuple[EarlyReason, str]] = dataclasses.field(default_factory=dict)
+    early_reports: dict[Word, tuple[EarlyReason, str]] = dataclasses.field(default_factory=dict)
     """What is reported of steps that have not begun: which kind, and its text as it is stored."""
-    drains: bool = False
+    may_cancel_work: bool = False
     """See `SagaInstance.drains`."""
     tenant: str | None = None
     """Whose it is, as JSON; None until that is asked."""

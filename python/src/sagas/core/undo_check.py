@@ -25,7 +25,7 @@ class CompletedChild(NamedTuple):
     child: str
 
 
-def by_shard(
+def children_by_shard(
     rows: Iterable[tuple[Any, ...]], definitions: Iterable[tuple[Any, ...]]
 ) -> dict[int, list[CompletedChild]]:
     """Return completed children by the shards of the open sagas above them.
@@ -45,7 +45,9 @@ def by_shard(
     return found
 
 
-def lacking(kind_of: Callable[[str], Kind], completed: Iterable[CompletedChild]) -> str | None:
+def missing_compensation(
+    kind_of: Callable[[str], Kind], completed: Iterable[CompletedChild]
+) -> str | None:
     """Return what a program lacks to undo completed children; None if it lacks nothing.
 
     A child is looked at if its parent may undo it: the parent is open, or may be undone itself.

@@ -70,7 +70,7 @@ def path() -> pathlib.Path | None:
     release of the checkout that this is in.
     """
     told = os.environ.get("SAGAS_LIBRARY")
-    places = [pathlib.Path(told)] if told else program.released("libsagas.so")
+    places = [pathlib.Path(told)] if told else program.release_paths("libsagas.so")
     return next((place for place in places if place.is_file()), None)
 
 
@@ -121,8 +121,8 @@ def _by_program(command: str, texts: Sequence[bytes]) -> tuple[int, bytes]:
     """The same of the program: its status, and what it prints, or with status 3 its line on
     standard error.
     """
-    with contextlib.closing(program.Texts(texts)) as given:
-        done = program.finished([program.path(), command, *given.paths], given.files)
+    with contextlib.closing(program.TextFiles(texts)) as given:
+        done = program.run_to_end([program.path(), command, *given.paths], given.files)
     if done.returncode not in (OK, REJECTED, INVALID, NO_MEMORY):
         raise EngineError(
             f"sagas {command} ended with {done.returncode}: "
@@ -131,7 +131,7 @@ def _by_program(command: str, texts: Sequence[bytes]) -> tuple[int, bytes]:
     return done.returncode, done.stderr if done.returncode == INVALID else done.stdout
 
 
-def _asked(command: str, texts: Sequence[Text]) -> Verdict:
+def _verdict(command: str, texts: Sequence[Text]) -> Verdict:
     """What a command answers to texts. `InvalidText` where one is not of its form, `MemoryError`
     where memory was refused.
     """
@@ -178,7 +178,7 @@ def plan(definition: Text, case: Text) -> Verdict:
         >>> sagas.check(definition, case, answer.text)
         Verdict(yes=True, text='least 4')
     """
-    return _asked("plan", [definition, case])
+    return _verdict("plan", [definition, case])
 
 
 def check(definition: Text, case: Text, answer: Text) -> Verdict:
@@ -197,7 +197,7 @@ def check(definition: Text, case: Text, answer: Text) -> Verdict:
         EngineError: Neither the library nor the program `sagas` can be run here.
         MemoryError: The system refused memory.
     """
-    return _asked("check", [definition, case, answer])
+    return _verdict("check", [definition, case, answer])
 
 
 def audit(log: Text, definition: Text, *more: Text) -> Verdict:
@@ -216,4 +216,4 @@ def audit(log: Text, definition: Text, *more: Text) -> Verdict:
         EngineError: Neither the library nor the program `sagas` can be run here.
         MemoryError: The system refused memory.
     """
-    return _asked("audit", [log, definition, *more])
+    return _verdict("audit", [log, definition, *more])

@@ -171,8 +171,8 @@ class Plan:
         for choice, state in zip(choices, states):
             decision = choice.detail if self.cost is not None else "stuck"
             lines.append(
-                f"  {choice.step:{wide}}  {state:{found}}  {_shown(choice.cost_to_keep):>12}  "
-                f"{_shown(choice.cost_to_drop):>12}  {decision}"
+                f"  {choice.step:{wide}}  {state:{found}}  {_cost_text(choice.cost_to_keep):>12}  "
+                f"{_cost_text(choice.cost_to_drop):>12}  {decision}"
             )
         return "\n".join(lines)
 
@@ -190,5 +190,5 @@ def _sum(a: Cost, b: Cost) -> Cost:
     return None if a is None or b is None else a + b
 
 
-def _shown(cost: Cost) -> str:
+def _cost_text(cost: Cost) -> str:
     return "never" if cost is None else str(cost)

@@ -28,40 +28,40 @@ class EnginePool(Generic[T]):
     """
 
     def __init__(self, most: int) -> None:
-        self.most = most
+        self.capacity = most
         self._up: dict[T, None] = {}
-        self.wanted: dict[T, None] = {}
+        self.waiting: dict[T, None] = {}
         """The shards that wait for one."""
 
-    def up(self) -> Iterable[T]:
+    def borrowers(self) -> Iterable[T]:
         """The shards that have one, or are about to."""
         return self._up
 
-    def want(self, borrower: T) -> None:
+    def request_engine(self, borrower: T) -> None:
         """Calls `granted` once the shard may have one."""
         if borrower in self._up:
             borrower.granted()
         else:
-            self.wanted[borrower] = None
-            self.turn()
+            self.waiting[borrower] = None
+            self.lend()
 
-    def gone(self, borrower: T) -> None:
+    def release(self, borrower: T) -> None:
         """Its process is gone, or it wants none any more."""
-        self.wanted.pop(borrower, None)
+        self.waiting.pop(borrower, None)
         if borrower in self._up:
             del self._up[borrower]
-            self.turn()
+            self.lend()
 
-    def turn(self) -> None:
+    def lend(self) -> None:
         """Takes processes from shards that rest, for those that wait."""
-        for borrower in list(self._up) if self.wanted and len(self._up) >= self.most else ():
-            if len(self._up) < self.most:
+        for borrower in list(self._up) if self.waiting and len(self._up) >= self.capacity else ():
+            if len(self._up) < self.capacity:
                 break
             if borrower.rests():
                 del self._up[borrower]
                 borrower.sleep()
-        while self.wanted and len(self._up) < self.most:
-            borrower = next(iter(self.wanted))
-            del self.wanted[borrower]
+        while self.waiting and len(self._up) < self.capacity:
+            borrower = next(iter(self.waiting))
+            del self.waiting[borrower]
             self._up[borrower] = None
             borrower.granted()

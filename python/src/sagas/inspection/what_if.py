@@ -5,7 +5,7 @@ from __future__ import annotations
 import dataclasses
 import json
 
-from sagas.core.history import MISSES
+from sagas.core.history import FAILURE_EVENTS
 from sagas.definition import listed_steps
 from sagas.engine import library
 from sagas.engine.plan import Plan
@@ -66,7 +66,7 @@ def _failed(view: SagaView) -> dict[str, str]:
     final = {
         (one.step, one.undo)
         for one in view.attempts
-        if one.outcome in MISSES and (one.value or {}).get("final")
+        if one.outcome in FAILURE_EVENTS and (one.value or {}).get("final")
     }
     ends = {("waiting", False): "failed", ("committed", True): "undo_failed"}
     return {

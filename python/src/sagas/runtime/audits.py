@@ -6,8 +6,8 @@ import asyncio
 from collections.abc import Callable
 
 from sagas.base import program
-from sagas.base.errors import EngineError, Lost, SagasError
-from sagas.base.events import Teller
+from sagas.base.errors import EngineError, ShardLost, SagasError
+from sagas.base.events import EventEmitter
 from sagas.core import protocol
 from sagas.core.batch import Batch
 from sagas.core.shard import ShardDriver
@@ -35,7 +35,7 @@ async def verdict(where: str, text: str, definitions: list[str]) -> tuple[bool, 
         program.run, "audit", [protocol.HEADER + text, *definitions], where
     )
     said = (done.stdout + done.stderr).strip()
-    if done.returncode < 0 or done.returncode == program.CANNOT:
+    if done.returncode < 0 or done.returncode == program.SYSTEM_ERROR_STATUS:
         raise EngineError(f"sagas audit ended with {done.returncode}: {said or 'it was killed'}")
     return done.returncode == 0, said
 
@@ -49,7 +49,7 @@ class Auditor:
         program: str,
         commits: CommitQueue,
         clock: Callable[[], float],
-        teller: Teller,
+        teller: EventEmitter,
     ) -> None:
         self._store, self._program, self._commits = store, program, commits
         self._clock, self._teller = clock, teller
@@ -63,15 +63,15 @@ class Auditor:
         while True:
             try:
                 await self._close(driver)
-            except Lost:  # it is another node's
+            except ShardLost:  # it is another node's
                 return
             except (SagasError, OSError) as fault:
                 detail = f"shard {driver.name} could not be closed yet: {fault}"
-                self._teller.tell("commit_failed", detail=detail)
+                self._teller.emit("commit_failed", detail=detail)
                 await asyncio.sleep(pause)
                 pause = min(MOST_PAUSE, 2 * pause)
             else:
-                self._teller.tell("shard_closed", detail=driver.name)
+                self._teller.emit("shard_closed", detail=driver.name)
                 return
 
     async def _close(self, driver: ShardDriver) -> None:
@@ -79,9 +79,9 @@ class Auditor:
             text = await self._store.text(driver.number)
             is_good, said = await verdict(self._program, text, driver.identity.definitions.texts)
         if not is_good:
-            self._teller.tell("audit_failed", detail=f"shard {driver.name}: {said}")
+            self._teller.emit("audit_failed", detail=f"shard {driver.name}: {said}")
         batch = Batch(driver.number, self._clock(), epoch=driver.epoch)
-        batch.more.closed = 1 if is_good else 2, said
+        batch.rare_rows.closed = 1 if is_good else 2, said
         await self._commits.kept(batch)
 
     async def all_shards(self) -> dict[str, str]:

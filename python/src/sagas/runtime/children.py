@@ -12,7 +12,7 @@ from sagas.base.errors import (
     InvalidResult,
     KeyConflict,
     MissingStep,
-    Moved,
+    SagaMoved,
     NoSuchSaga,
     SagasError,
     TemporaryError,
@@ -141,14 +141,14 @@ class Children:
             except (CannotDecode, MissingStep) as error:
                 outcome = outcomes.parked(str(error))
                 break
-            except (TemporaryError, Moved, NoSuchSaga) as error:
+            except (TemporaryError, SagaMoved, NoSuchSaga) as error:
                 logger.info("child of %r is looked at again: %s", attempt.key, error)
                 await asyncio.sleep(AGAIN)
             except Exception as error:  # nobody else would report the attempt
                 logger.error("child of %r is looked at again", attempt.key, exc_info=error)
                 await asyncio.sleep(AGAIN)
         self.gone(attempt)
-        is_here = attempt.instance.busy.get(attempt.word) is attempt
+        is_here = attempt.instance.busy.get(attempt.action_key) is attempt
         if is_here and attempt.state is SUSPENDED and attempt.reason is Suspension.CHILD:
             self._reports.ended(attempt, outcome)
 
@@ -156,7 +156,7 @@ class Children:
         """Start its child, if it is not there, and wait for what that comes to."""
         try:
             found = await self._begun(attempt)
-        except (TemporaryError, Moved, NoSuchSaga):
+        except (TemporaryError, SagaMoved, NoSuchSaga):
             raise
         except (CannotDecode, MissingStep):
             raise
@@ -169,7 +169,7 @@ class Children:
         while True:
             self._news.clear()
             ended = await self._carried.end(found)
-            outcome = children.outcome(ended.end, ended.kind, ended.results)
+            outcome = children.child_outcome(ended.end, ended.kind, ended.results)
             if outcome is not None:
                 if attempt.undo and outcome.kind is SUCCEEDED:
                     return Outcome(SUCCEEDED, "null")
@@ -245,7 +245,7 @@ class Children:
         token = tokens.saga_token(name, ended.id % SHARD_CAPACITY)
         earlier = await self._earlier(attempt)
         before = [(await self._carried.end(one)).end.states for one in earlier]
-        done = children.left_by(ended.end.states, before)
+        done = children.undone_steps(ended.end.states, before)
         return kind, children.undo_input(
             undone, token, ended.kind, text, ended.results, done, earlier
         )
@@ -311,7 +311,7 @@ class Children:
         undoes = attempt.undo or child_keys.undoes_child(attempt.key)
         if undoes or attempt not in self._there:
             return
-        if not attempt.instance.drains:
+        if not attempt.instance.may_cancel_work:
             return
         if attempt.instance.aborted and attempt not in self._aborts:
             self._aborts[attempt] = self._host.spawn(self._abort(attempt))
@@ -326,7 +326,7 @@ class Children:
                 return
             except Closed:
                 return
-            except (TemporaryError, Moved, NoSuchSaga) as error:
+            except (TemporaryError, SagaMoved, NoSuchSaga) as error:
                 logger.info("child %r is aborted in a moment: %s", key, error)
                 await asyncio.sleep(AGAIN)
 
@@ -340,7 +340,7 @@ class Children:
                 return
             except (Closed, NoSuchSaga, CannotDecode):
                 return
-            except (TemporaryError, Moved) as error:
+            except (TemporaryError, SagaMoved) as error:
                 logger.info("child of %r is looked at again: %s", attempt.key, error)
                 await asyncio.sleep(AGAIN)
 
@@ -356,7 +356,7 @@ def _others(attempt: Attempt) -> Iterator[Attempt]:
     """
     instance = attempt.instance
     assert instance.shard
-    for one in (*instance.busy.values(), *instance.shard.unkept()):
+    for one in (*instance.busy.values(), *instance.shard.unstored_reports()):
         is_child = one.state is SUSPENDED and one.reason is Suspension.CHILD
         if one.instance is instance and not is_child:
             yield one

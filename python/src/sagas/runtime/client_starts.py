@@ -14,7 +14,7 @@ from sagas.base.errors import (
     StoreUnavailable,
 )
 from sagas.base.logger import logger
-from sagas.core.batch import Batch, Start
+from sagas.core.batch import Batch, PendingStart
 from sagas.core.model import SagaInstance
 from sagas.definition import undo_sagas
 from sagas.definition.saga import Saga
@@ -117,7 +117,11 @@ class Starts:
         """
         if not self._doubt.settle():
             return None
-        begun = [saga.start for saga in self._sagas.by_key.values() if saga.start is not None]
+        begun = [
+            saga.client_start
+            for saga in self._sagas.by_key.values()
+            if saga.client_start is not None
+        ]
         return [*begun, *self._fitted]
 
     def _left_now(self) -> list[int]:
@@ -126,7 +130,7 @@ class Starts:
         self._left = {id: until for id, until in self._left.items() if until > now}
         return [*self._left]
 
-    async def _open(self, row: Start) -> None:
+    async def _open(self, row: PendingStart) -> None:
         """Open a start, or leave it to other nodes if this one cannot decode its input."""
         try:
             await self._begin(row)
@@ -142,10 +146,10 @@ class Starts:
             )
             await self._store.give_back(id, None)
 
-    async def _begin(self, row: Start) -> None:
+    async def _begin(self, row: PendingStart) -> None:
         id, key, saga, version, text, *_ = row
         by_key = self._sagas.by_key
-        if id in self._fitted or (key in by_key and by_key[key].start == id):
+        if id in self._fitted or (key in by_key and by_key[key].client_start == id):
             return
         there = await self._store.find(key)
         if self._host.closed:
@@ -160,7 +164,7 @@ class Starts:
             error = await conflict_there(
                 self._store, key, declared, text, there.saga, there.input, payloads
             )
-            batch.more.begun.append((id, there.id if error is None else None))
+            batch.rare_rows.begun.append((id, there.id if error is None else None))
             await self._commits.kept(batch)
             return
         try:
@@ -184,7 +188,7 @@ class Starts:
         wrong = InvalidInput(f"saga {saga!r}: {type(error).__name__} for this input")
         return Fitted(None, None, wrong)
 
-    async def _fit(self, row: Start, declared: Saga, value: str) -> None:
+    async def _fit(self, row: PendingStart, declared: Saga, value: str) -> None:
         """Begin one whose steps come from its input."""
         definitions = self._definitions
         try:
@@ -202,7 +206,7 @@ class Starts:
         finally:
             self._fitted.discard(row[0])
 
-    async def _put(self, row: Start, fitted: Fitted) -> None:
+    async def _put(self, row: PendingStart, fitted: Fitted) -> None:
         """Begin one of this definition; or refuse it, if its input gives it none."""
         id, key, _, _, text, labels, deadline, traceparent = row
         kind, shape, wrong = fitted
@@ -215,5 +219,5 @@ class Starts:
             return
         options = StartOptions(labels, deadline, shape=shape, traceparent=traceparent)
         instance = self._sagas.add(key, text, kind, options)
-        instance.start = id
+        instance.client_start = id
         self._place(instance)

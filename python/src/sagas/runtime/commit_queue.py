@@ -6,12 +6,12 @@ import asyncio
 from collections.abc import Sequence
 from typing import Protocol
 
-from sagas.base.errors import Lost, SagasError, StoreUnavailable
-from sagas.base.events import Teller
+from sagas.base.errors import ShardLost, SagasError, StoreUnavailable
+from sagas.base.events import EventEmitter
 from sagas.base.logger import logger
 from sagas.core.batch import Batch
 from sagas.core.effects import Effects
-from sagas.core.group_commit import GroupCommitPolicy, half
+from sagas.core.group_commit import GroupCommitPolicy, first_half
 from sagas.storage.interface import CommitWriter
 
 
@@ -63,7 +63,7 @@ class Waiter:
         if self._over.done():
             return
         if fault is None:
-            fault = Lost(f"shard {effects.batch.log}")
+            fault = ShardLost(f"shard {effects.batch.shard}")
         is_ours = isinstance(fault, SagasError)
         self._over.set_exception(fault if is_ours else StoreUnavailable(f"{self._path}: {fault}"))
 
@@ -81,7 +81,7 @@ class CommitQueue:
     """Writes batches in the order in which they come, one transaction at a time."""
 
     def __init__(
-        self, store: CommitWriter, load: Load, teller: Teller, loop: asyncio.AbstractEventLoop
+        self, store: CommitWriter, load: Load, teller: EventEmitter, loop: asyncio.AbstractEventLoop
     ) -> None:
         self._store, self._load, self._teller, self._loop = store, load, teller, loop
         self._policy = GroupCommitPolicy()
@@ -101,7 +101,7 @@ class CommitQueue:
         """Return how many of so many functions that are called now are told of at once: half,
         where the server would have nothing to do until all were over.
         """
-        return half(ready) if self._store.takes and not self.is_writing else ready
+        return first_half(ready) if self._store.takes and not self.is_writing else ready
 
     # -- to be written
 
@@ -115,7 +115,7 @@ class CommitQueue:
                 hear before this returns.
         """
         if self._store.takes:
-            self._policy.came(self._loop.time())
+            self._policy.batch_arrived(self._loop.time())
         self._queue.append((effects, owner))
         if self._is_under_way:
             return
@@ -148,7 +148,7 @@ class CommitQueue:
 
     def drop(self, shards: Sequence[int]) -> None:
         """Do not write what waits of these shards."""
-        self._queue = [entry for entry in self._queue if entry[0].batch.log not in shards]
+        self._queue = [entry for entry in self._queue if entry[0].batch.shard not in shards]
 
     # -- written
 
@@ -174,7 +174,7 @@ class CommitQueue:
         if self._load.is_alone():
             return False
         policy, now = self._policy, self._loop.time()
-        holds = policy.holds(self._load.coming(), _rows_of(self._queue), takes, now)
+        holds = policy.should_wait(self._load.coming(), _rows_of(self._queue), takes, now)
         if self._timer and not holds:
             self._timer.cancel()
             self._timer = None
@@ -206,7 +206,7 @@ class CommitQueue:
                 self.write()
         for effects, owner in entries:
             if owner is not None:
-                _tell(effects, owner, fault, fault is not None or effects.batch.log in lost)
+                _tell(effects, owner, fault, fault is not None or effects.batch.shard in lost)
         if takes:
             self._policy.committed(self._load.calls(), self._loop.time())
         if self._queue:
@@ -221,9 +221,9 @@ class CommitQueue:
         be written either.
         """
         if fault is not None:
-            self._teller.tell("commit_failed", detail=str(fault))
-        shards = {effects.batch.log for effects, _ in entries} if fault else lost
-        behind = [entry for entry in self._queue if entry[0].batch.log in shards]
+            self._teller.emit("commit_failed", detail=str(fault))
+        shards = {effects.batch.shard for effects, _ in entries} if fault else lost
+        behind = [entry for entry in self._queue if entry[0].batch.shard in shards]
         self.drop(list(shards))
         return [*entries, *behind]
 
@@ -231,9 +231,9 @@ class CommitQueue:
 def _tell(effects: Effects, owner: Owner, fault: BaseException | None, is_lost: bool) -> None:
     try:
         if is_lost:
-            owner.failed(effects, None if isinstance(fault, Lost) else fault)
+            owner.failed(effects, None if isinstance(fault, ShardLost) else fault)
         else:
             owner.committed(effects)
     except Exception as error:  # the others have to hear of theirs
-        logger.exception("shard %d: an error after a commit", effects.batch.log)
+        logger.exception("shard %d: an error after a commit", effects.batch.shard)
         owner.broken(error)

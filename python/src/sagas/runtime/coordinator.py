@@ -11,11 +11,11 @@ from concurrent.futures import ThreadPoolExecutor
 from typing import Any
 
 from sagas.base.errors import Closed, InvalidStore, SagasError
-from sagas.base.events import Teller
-from sagas.base.fork_guard import private
+from sagas.base.events import EventEmitter
+from sagas.base.fork_guard import private_descriptors
 from sagas.base.logger import logger
 from sagas.core import undo_check
-from sagas.core.batch import Batch, LogRow
+from sagas.core.batch import Batch, ShardRow
 from sagas.core.limits import Slots
 from sagas.core.shard import ShardDriver
 from sagas.core.undo_check import CompletedChild
@@ -71,14 +71,14 @@ class Coordinator:
         threads: int,
         engine_processes: int,
         idle: float,
-        teller: Teller,
+        teller: EventEmitter,
         clock: Callable[[], float],
         context: Any = None,
         tracer: Tracer | None = None,
     ) -> None:
         self.store, self.shelf, self.teller, self.clock = store, shelf, teller, clock
         self.loop = asyncio.get_running_loop()
-        self.forks = private.forks
+        self.forks = private_descriptors.forks
         self.closed: SagasError | None = None
         self.refusal: asyncio.Future[InvalidStore] = self.loop.create_future()
         """Why it cannot execute anything, and will not be able to."""
@@ -164,7 +164,7 @@ class Coordinator:
             if lacks:
                 return f"saga {kind.name!r} (version {kind.version}) has open sagas, but {lacks}"
         try:
-            return undo_check.lacking(self.shelf.kind, completed)
+            return undo_check.missing_compensation(self.shelf.kind, completed)
         except (ValueError, LookupError, TypeError, SagasError):  # a text of another shard
             return None
 
@@ -194,7 +194,7 @@ class Coordinator:
         """
         self.shards.lapsed(is_older)
 
-    def taken(self, rows: list[LogRow]) -> None:
+    def taken(self, rows: list[ShardRow]) -> None:
         """Shards that another node had are this one's."""
         self.shards.taken(rows)
         self.look()
@@ -331,7 +331,7 @@ class Coordinator:
         self._threads.shutdown(wait=not late, cancel_futures=True)
         self.declared.close()
         if engines:
-            await asyncio.wait([engine.buried for engine in engines], timeout=QUIET)
+            await asyncio.wait([engine.reaped for engine in engines], timeout=QUIET)
 
     async def _late(self, shutdown_timeout: float | None) -> set[asyncio.Task[None]]:
         """Wait for the functions that run; return the tasks of those that are not over in time."""

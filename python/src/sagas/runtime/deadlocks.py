@@ -78,7 +78,7 @@ class Waits:
         )
 
     def _no_place(self, attempt: Attempt, key: str) -> str:
-        most = self._owner.slots.most
+        most = self._owner.slots.capacity
         return (
             f"step {attempt.name!r} of saga {attempt.instance.key!r} waits for saga "
             f"{key!r}, and all {most} slots of the store's concurrency are taken by steps "
@@ -91,7 +91,7 @@ class Waits:
         needs a place. It has to be so twice in a row."""
         slots = self._owner.slots
         if (
-            len(self._waits) < slots.most
+            len(self._waits) < slots.capacity
             or len(self._waits) < slots.running
             or not all(map(self._needs_a_place, self._waits.values()))
         ):
@@ -114,7 +114,7 @@ class Waits:
             return False
         if not live.busy:
             runner = self._owner.runner(live.shard) if live.shard else None
-            return runner is not None and self._owner.slots.is_starved(runner)
+            return runner is not None and self._owner.slots.is_shard_waiting(runner)
         return any(
             one in self._waits or self._owner.slots.is_waiting(one) for one in live.busy.values()
         )
@@ -123,6 +123,6 @@ class Waits:
         """Whether nothing of the saga's shard is on its way, which might end it."""
         shard = live.shard
         is_here = shard is not None and shard.state in (ShardState.ACTIVE, ShardState.IDLE)
-        if shard is None or not is_here or shard.unwritten or shard.asked:
+        if shard is None or not is_here or shard.commits_in_flight or shard.unanswered:
             return False
         return not (shard.reports or shard.aborts)

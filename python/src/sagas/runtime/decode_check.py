@@ -11,7 +11,7 @@ from collections.abc import AsyncIterator, Sequence
 from typing import Protocol, cast
 
 from sagas.base.logger import logger
-from sagas.core.batch import Loaded
+from sagas.core.batch import LoadedShard
 from sagas.core.model import RUNNING
 from sagas.core.shard import ShardDriver
 from sagas.definition.blobs import Reference
@@ -35,7 +35,7 @@ class Checked(Protocol):
     has_unread: bool
 
 
-async def faults(kinds: Sequence[Kind], rows: Loaded, store: Database) -> AsyncIterator[str]:
+async def faults(kinds: Sequence[Kind], rows: LoadedShard, store: Database) -> AsyncIterator[str]:
     """Of each open saga of a shard yield the first thing that cannot be read. What is in a blob
     store is not looked at: a function that needs it reads it.
     """
@@ -64,7 +64,7 @@ async def faults(kinds: Sequence[Kind], rows: Loaded, store: Database) -> AsyncI
             yield f"saga {kind.name!r}, key {key!r}, {why}"
 
 
-async def is_left(shard: Checked, rows: Loaded, store: Database) -> bool:
+async def is_left(shard: Checked, rows: LoadedShard, store: Database) -> bool:
     """Return whether a shard that is taken up is left to another node, which may be able to read
     what this one cannot. Else that is told, once.
     """

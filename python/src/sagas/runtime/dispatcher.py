@@ -192,7 +192,7 @@ class Dispatcher:
         told, self._told = self._told, time.monotonic()
         if self._told - told > LONG:  # else none of them took so long
             for attempt in over:
-                self._look(attempt, attempt.took or 0.0)
+                self._look(attempt, attempt.call_seconds or 0.0)
         if over:
             self._done(over)
 
@@ -240,7 +240,7 @@ class Dispatcher:
             self._turns = _Turns()
             rest = _whole(_Rest(turns, waits_for, context))
             return self._late(attempt, function, began, task, rest)
-        value, attempt.took = waits_for.pop(), time.monotonic() - began
+        value, attempt.call_seconds = waits_for.pop(), time.monotonic() - began
         try:
             attempt.outcome = outcomes.succeeded(value, task)
         except outcomes.Unawaited:

@@ -5,7 +5,7 @@ from __future__ import annotations
 import asyncio
 from collections.abc import Callable
 
-from sagas.base.errors import Moved, SagasError
+from sagas.base.errors import SagaMoved, SagasError
 from sagas.core import early_reports
 from sagas.core.early_reports import EarlyReport, Refusal
 from sagas.core.model import SagaInstance
@@ -26,7 +26,7 @@ class EarlyReports:
 
     def put(self, report: EarlyReport | Refusal) -> asyncio.Future[None]:
         """Return a future that is done once a report is in the store, or what a refusal rests on.
-        It fails with `Moved` where its caller has to look again.
+        It fails with `SagaMoved` where its caller has to look again.
 
         Raises:
             Moved: The saga is not driven here.
@@ -35,8 +35,8 @@ class EarlyReports:
         shard = report.saga.shard
         runner = self._host.runner(shard) if shard else None
         if shard is None or runner is None:
-            raise Moved(f"saga {report.saga.key!r}")
-        effects = early_reports.effects(shard, report, self._clock()) if shard.is_known else None
+            raise SagaMoved(f"saga {report.saga.key!r}")
+        effects = early_reports.effects(shard, report, self._clock()) if shard.is_current else None
         future = self._waiting[report] = self._host.loop.create_future()
         if effects:
             runner.keep(effects)
@@ -45,7 +45,7 @@ class EarlyReports:
     def waiting(self, saga: SagaInstance, word: Word) -> asyncio.Future[None] | None:
         """Return the future of a report of this step that is on its way; None if there is none."""
         for one, future in self._waiting.items():
-            if isinstance(one, EarlyReport) and one.saga is saga and one.word == word:
+            if isinstance(one, EarlyReport) and one.saga is saga and one.action_key == word:
                 return future
         return None
 
@@ -59,7 +59,7 @@ class EarlyReports:
         for report in [one for one in self._waiting if _number(one) == shard]:
             future = self._waiting.pop(report)
             if not future.done():
-                future.set_exception(error or Moved(f"saga {report.saga.key!r}"))
+                future.set_exception(error or SagaMoved(f"saga {report.saga.key!r}"))
                 future.exception()  # whoever waited may be gone
 
 

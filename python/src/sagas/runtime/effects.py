@@ -6,9 +6,9 @@ from collections.abc import Collection, Sequence
 from typing import Protocol
 
 from sagas.base.errors import SagasError
-from sagas.base.events import Teller
+from sagas.base.events import EventEmitter
 from sagas.core import early_reports
-from sagas.core.effects import NOTHING_RARE, Abort, Effects, RareEffects
+from sagas.core.effects import NO_RARE_EFFECTS, Abort, Effects, RareEffects
 from sagas.core.model import Attempt, SagaInstance
 from sagas.core.recovery import Recovery
 from sagas.core.states import saga_phase, undo_failures
@@ -59,7 +59,7 @@ class EffectHandler:
     """Does what effects say: at once, and once their batch is durable."""
 
     def __init__(
-        self, executor: Executor, sagas: Instances, teller: Teller, home: Home, offers: Offers
+        self, executor: Executor, sagas: Instances, teller: EventEmitter, home: Home, offers: Offers
     ) -> None:
         self._executor, self._slots, self._sagas = executor, executor.slots, sagas
         self._teller, self._home, self._offers = teller, home, offers
@@ -85,7 +85,7 @@ class EffectHandler:
         rare = effects.rare
         if effects.reported:
             self._executor.reported(effects.reported)
-        if rare is not NOTHING_RARE:
+        if rare is not NO_RARE_EFFECTS:
             self._kept(rare)
         if effects.opened:
             self._opened(effects.opened)
@@ -151,13 +151,13 @@ class EffectHandler:
             self._sagas.tell_started(saga)
         for saga in found.gone:
             self._home.leave(saga, None)
-            if saga.start is not None:
+            if saga.client_start is not None:
                 self._home.doubt()
         for attempt in found.forgotten:
             self._executor.forget(attempt)
         for abort in found.aborted:
             self._sagas.answer_abort(abort)
-        self._executor.early.look_again(found.effects.batch.log)
+        self._executor.early.look_again(found.effects.batch.shard)
 
     def resume(self, found: Recovery) -> None:
         """Go on with its attempts."""
@@ -173,29 +173,29 @@ class EffectHandler:
         saga = abort.saga
         if abort.done:
             self._executor.drain(saga)
-            self._teller.tell("saga_aborted", key=saga.key, saga=saga.kind.name)
+            self._teller.emit("saga_aborted", key=saga.key, saga=saga.kind.name)
         self._sagas.answer_abort(abort)
 
     def _overdue(self, saga: SagaInstance) -> None:
         """A saga is aborted, because its deadline had passed."""
-        self._teller.tell("saga_overdue", key=saga.key, saga=saga.kind.name)
+        self._teller.emit("saga_overdue", key=saga.key, saga=saga.kind.name)
         self._executor.drain(saga)
-        self._teller.tell("saga_aborted", key=saga.key, saga=saga.kind.name)
+        self._teller.emit("saga_aborted", key=saga.key, saga=saga.kind.name)
 
     def _opened(self, sagas: Sequence[SagaInstance]) -> None:
-        tells = self._teller.wants("saga_started")
+        tells = self._teller.is_wanted("saga_started")
         for saga in sagas:
             self._sagas.tell_started(saga)
             if tells:
-                self._teller.tell("saga_started", key=saga.key, saga=saga.kind.name)
+                self._teller.emit("saga_started", key=saga.key, saga=saga.kind.name)
 
     def _ended(self, sagas: Sequence[SagaInstance]) -> None:
-        tells = self._teller.wants("saga_ended")
+        tells = self._teller.is_wanted("saga_ended")
         for saga in sagas:
             self._sagas.tell_ended(saga)
             if tells or saga.phase != "ended":
                 self._tell_end(saga)
-            if saga.odd and saga.phase == "ended" and (steps := undo_failures(saga.end)):
+            if saga.has_deviated and saga.phase == "ended" and (steps := undo_failures(saga.end)):
                 self._tell_undo_failed(saga, steps)
             if unused := early_reports.unused(saga):
                 self._tell_unused(saga, unused)
@@ -208,13 +208,13 @@ class EffectHandler:
         if saga.phase != "stuck":
             recovered = (saga.answer or {}).get("kind") == "plan"
             detail = saga_phase(saga.phase, recovered, None).value
-        self._teller.tell(f"saga_{saga.phase}", key=saga.key, saga=saga.kind.name, detail=detail)
+        self._teller.emit(f"saga_{saga.phase}", key=saga.key, saga=saga.kind.name, detail=detail)
 
     def _tell_unused(self, saga: SagaInstance, steps: Sequence[int]) -> None:
         """A saga ended without reports that were accepted: what steps did elsewhere is there."""
         names = " and ".join(saga.kind.names[step] for step in steps)
         detail = f"{names}: a success was reported before the step began, and was not used"
-        self._teller.tell("saga_unused_report", key=saga.key, saga=saga.kind.name, detail=detail)
+        self._teller.emit("saga_unused_report", key=saga.key, saga=saga.kind.name, detail=detail)
         self._sagas.unused()
 
     def _tell_undo_failed(self, saga: SagaInstance, steps: Sequence[int]) -> None:
@@ -225,4 +225,4 @@ class EffectHandler:
             "as resolved"
         )
         detail = f"{' and '.join(stands)}: {told}"
-        self._teller.tell("saga_undo_failed", key=saga.key, saga=saga.kind.name, detail=detail)
+        self._teller.emit("saga_undo_failed", key=saga.key, saga=saga.kind.name, detail=detail)

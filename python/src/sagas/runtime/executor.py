@@ -9,12 +9,12 @@ import logging
 from collections.abc import Callable, Sequence
 from concurrent.futures import Executor as Threads
 
-from sagas.base.errors import Closed, Lost, Moved, SagasError, StepNotWaiting
+from sagas.base.errors import Closed, ShardLost, SagaMoved, SagasError, StepNotWaiting
 from sagas.core import exhaustion, outcomes, spans
 from sagas.core.attempts import AttemptMachine
-from sagas.core.batch import Wanted
+from sagas.core.batch import RequestRef
 from sagas.core.decisions import Decision, Do
-from sagas.core.declared_values import Question
+from sagas.core.declared_values import OptionCalls
 from sagas.core.effects import Effects
 from sagas.core.limits import Slots
 from sagas.core.model import CLAIMED, FINISHED, QUEUED, SUSPENDED, Attempt, SagaInstance
@@ -95,9 +95,9 @@ class Executor:
             if attempt.action.simple is not None
             and attempt.attempt == 1
             and not attempt.instance.draining
-            and not attempt.lacks()
+            and not attempt.lacks_values()
         ]
-        count = 0 if self.closing else self.slots.take(len(simple))
+        count = 0 if self.closing else self.slots.take_slots(len(simple))
         if count < len(attempts):
             called = set(simple[:count])
             for attempt in attempts:
@@ -112,8 +112,8 @@ class Executor:
 
     def resume(self, attempt: Attempt) -> None:
         """Go on with one of a shard that was recovered."""
-        if attempt.state is CLAIMED and not attempt.fresh and not attempt.has_row:
-            spans.called_before(attempt)
+        if attempt.state is CLAIMED and not attempt.is_uncalled and not attempt.has_row:
+            spans.note_earlier_call(attempt)
         decision = self.machine.resume(attempt, self._clock())
         if decision.do is Do.REPORT_AGAIN:
             self._report_again(attempt)
@@ -168,15 +168,15 @@ class Executor:
     def _go_on(self, attempt: Attempt) -> None:
         """Its values are held by now, and its questions are answered."""
         if not self.closing:
-            self._do(attempt, self.machine.go_on(attempt, self._clock()))
+            self._do(attempt, self.machine.decide_again(attempt, self._clock()))
 
     def _ask(self, attempt: Attempt, decision: Decision, go_on: Callable[[Attempt], None]) -> None:
         """Call functions of its definition, and go on with it."""
-        assert decision.question
-        self._host.spawn(self._asked(attempt, decision.question, go_on))
+        assert decision.option_calls
+        self._host.spawn(self._asked(attempt, decision.option_calls, go_on))
 
     async def _asked(
-        self, attempt: Attempt, question: Question, go_on: Callable[[Attempt], None]
+        self, attempt: Attempt, question: OptionCalls, go_on: Callable[[Attempt], None]
     ) -> None:
         if await self._host.declared.answer(attempt, question):
             go_on(attempt)
@@ -185,17 +185,17 @@ class Executor:
     def _unread(self, attempt: Attempt, error: BlobUnavailable) -> None:
         """Its values cannot be read now."""
         if not self.closing:
-            self._do(attempt, self.machine.unread(attempt, error, self._clock()))
+            self._do(attempt, self.machine.values_unavailable(attempt, error, self._clock()))
 
     def _note(self, attempt: Attempt, row: SuspensionRow | None = None) -> None:
         """For its history. Of what others do the table of external attempts tells."""
-        is_first = not (attempt.extras and attempt.extras.noted)
+        is_first = not (attempt.extras and attempt.extras.last_note)
         if not (is_first and attempt.reason is Suspension.EXTERNAL):
             spans.note(attempt, self._clock(), row.error if row else None)
 
     def _set_timer(self, attempt: Attempt) -> None:
         self._drop_timer(attempt)
-        delay = self.machine.delay(attempt, self._clock())
+        delay = self.machine.timer_delay(attempt, self._clock())
         if delay is not None:
             self._timers[attempt] = self._loop.call_later(delay, self._rang, attempt)
 
@@ -210,7 +210,7 @@ class Executor:
 
     def _put(self, attempt: Attempt, row: SuspensionRow) -> None:
         """Put into the store what keeps it from going on, so that another program knows it."""
-        attempt.has_row, attempt.pending = True, row
+        attempt.has_row, attempt.pending_row = True, row
         if runner := self._runner(attempt):
             if row.reason is Suspension.CANNOT_DECODE:
                 runner.has_unread = True
@@ -220,7 +220,7 @@ class Executor:
         """Go on with one whose row is in the store. Where a later one is on its way, that is
         waited for.
         """
-        if attempt.pending is not row:
+        if attempt.pending_row is not row:
             return
         self._do(attempt, self.machine.stored(attempt))
         if attempt.state is not FINISHED:
@@ -235,7 +235,7 @@ class Executor:
         """Call it when it has what its limits ask for."""
         if self.closing:
             return
-        decision = self.machine.limit(attempt, self._clock())
+        decision = self.machine.decide_limits(attempt, self._clock())
         if decision.do is Do.READ:
             self._host.spawn(self.values.then(attempt, self.enter))
             return
@@ -286,9 +286,9 @@ class Executor:
         now = self._clock()
         for attempt in self.calls.news():
             shard, control = attempt.instance.shard, attempt.control
-            if shard and shard.is_known and control.progress:
+            if shard and shard.is_current and control.progress:
                 effects = shards.setdefault(shard, shard.effects(now))
-                effects.batch.more.progress.append((*attempt.row, *control.progress, now))
+                effects.batch.rare_rows.progress.append((*attempt.row, *control.progress, now))
         for shard, effects in shards.items():
             if runner := self._host.runner(shard):
                 runner.keep(effects)
@@ -297,7 +297,7 @@ class Executor:
         """Finish one that somebody reported."""
         self._do(attempt, self.machine.finish(attempt, outcome, self._clock()))
 
-    async def retry(self, attempt: Attempt, request: Wanted) -> None:
+    async def retry(self, attempt: Attempt, request: RequestRef) -> None:
         """Call one again that waits, as somebody asks, and wait until that is in the store."""
         if request is not None:
             attempt.rare.request = request
@@ -311,7 +311,7 @@ class Executor:
         """
         if attempt.state is not FINISHED or attempt.outcome is None:
             return False
-        if self._runner(attempt) and attempt.is_unkept:
+        if self._runner(attempt) and attempt.is_report_unstored:
             with contextlib.suppress(SagasError):  # the store shows it
                 await self.kept.wait(attempt)
         return True
@@ -320,7 +320,7 @@ class Executor:
         """No worker has it, and none gets it."""
         self._do(attempt, self.machine.withdrawn(attempt, self._clock()))
 
-    def lost(self, attempt: Attempt, fault: Lost) -> None:
+    def lost(self, attempt: Attempt, fault: ShardLost) -> None:
         """Nobody knows whether its transaction was committed: its shard is recovered, which
         tells.
         """
@@ -375,8 +375,8 @@ class Executor:
         finally:
             self._doubted.discard(attempt)
         shard = attempt.instance.shard
-        is_gone = shard is None or not shard.is_known  # it comes again
-        if is_gone or attempt.instance.busy.get(attempt.word) is not attempt:
+        is_gone = shard is None or not shard.is_current  # it comes again
+        if is_gone or attempt.instance.busy.get(attempt.action_key) is not attempt:
             return
         if done:
             where = f"saga {attempt.key!r}, step {attempt.name!r}"
@@ -395,7 +395,7 @@ class Executor:
 
     def reported(self, attempts: Sequence[Attempt]) -> None:
         """Their reports are in the store, each with its event."""
-        tells = self._teller.wants("step_succeeded")
+        tells = self._teller.is_wanted("step_succeeded")
         is_awaited = self.kept.futures
         for attempt in attempts:
             if is_awaited:
@@ -416,10 +416,10 @@ class Executor:
             return
         name = "step_failed" if final else MISSED.get(attempt.event, "step_failed")
         level = None if outcome.called else logging.INFO
-        if not self._teller.wants(name):
+        if not self._teller.is_wanted(name):
             return
-        doubt = outcomes.doubt(outcome.error, attempt.manner)
-        detail = f"{outcomes.fault(outcome)}{doubt}"
+        doubt = outcomes.unknown_hint(outcome.error, attempt.manner)
+        detail = f"{outcomes.error_text(outcome)}{doubt}"
         self.tell(attempt, name, detail, level, outcome.error if name == "step_failed" else None)
 
     def tell(
@@ -431,8 +431,8 @@ class Executor:
         error: BaseException | None = None,
     ) -> None:
         """Tell an event of an attempt."""
-        took = None if attempt.took is None else round(attempt.took, 6)
-        self._teller.tell(
+        took = None if attempt.call_seconds is None else round(attempt.call_seconds, 6)
+        self._teller.emit(
             name,
             level=level,
             error=error,
@@ -450,7 +450,7 @@ class Executor:
         """Tell of a plan that was adopted."""
         answer = instance.answer or {}
         detail = f"cost {answer['cost']}" if "cost" in answer else "blocked"
-        self._teller.tell("plan_adopted", key=instance.key, saga=instance.kind.name, detail=detail)
+        self._teller.emit("plan_adopted", key=instance.key, saga=instance.kind.name, detail=detail)
 
     # -- forget
 
@@ -460,7 +460,7 @@ class Executor:
         """
         self._drop_timer(attempt)
         self._gone(attempt)
-        self.kept.tell(attempt, Moved(f"saga {attempt.key!r}"))
+        self.kept.tell(attempt, SagaMoved(f"saga {attempt.key!r}"))
         self.changes.tell(attempt)
         attempt.forget()
         self.calls.forget(attempt)

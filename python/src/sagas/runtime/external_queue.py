@@ -15,7 +15,7 @@ from sagas.base.errors import CannotDecode, LeaseLost, SagasError, StoreUnavaila
 from sagas.base.logger import logger
 from sagas.core.lease_signature import Signer
 from sagas.core.model import Attempt
-from sagas.core.offers import task_name, task_of
+from sagas.core.offers import task_name, offered_task_name
 from sagas.core.suspensions import Lease
 from sagas.definition.blobs import BlobUnavailable
 from sagas.definition.compiled import Kind
@@ -104,7 +104,7 @@ class ExternalQueue(ExternalReports):
     def offer(self, attempt: Attempt) -> None:
         """It waits for a worker, or for the one that has it."""
         self._withdrawing.discard(attempt)  # its commit was not made, or nobody knows
-        if self.owner.closed or attempt.pending:
+        if self.owner.closed or attempt.pending_row:
             return
         if attempt.offered is not None:
             attempt.rare.offered = None
@@ -126,7 +126,7 @@ class ExternalQueue(ExternalReports):
             return
         if attempt.instance.draining:
             self.owner.executor.drain(attempt.instance)
-        self.wake(task_of(attempt))
+        self.wake(offered_task_name(attempt))
 
     def withdraw(self, attempt: Attempt) -> None:
         """Its saga is being undone: it is taken back, unless a worker has it. That is a commit of
@@ -163,7 +163,7 @@ class ExternalQueue(ExternalReports):
         """Its row is in the store, with the lease for a message; where it has been reported
         already, that is told."""
         number, attempt.rare.offered = attempt.offered, None
-        while attempt.pending:  # a commit has one word for its row
+        while attempt.pending_row:  # a commit has one word for its row
             await self.owner.executor.changes.wait(attempt)
         committed = self._dispatched[attempt] = self.owner.loop.create_future()
         try:
@@ -311,13 +311,13 @@ class ExternalQueue(ExternalReports):
         else:
             kind = attempt.instance.kind
             attempt.rare.lease = Lease(claim.lease, worker, now, now + claim.seconds)
-            attempt.fresh = False
+            attempt.is_uncalled = False
             await self.owner.executor.values.fill(attempt)
             task = attempt.task()
             attempt.instance.release()
         if claim.cancelled is not None:
             task.cancelled.set(claim.cancelled)
-        self.owner.teller.tell(
+        self.owner.teller.emit(
             "step_started",
             key=task.key,
             saga=task.saga,

@@ -24,7 +24,7 @@ from sagas.base.errors import (
 )
 from sagas.base.logger import logger
 from sagas.core import outcomes
-from sagas.core.exhaustion import RETRIED
+from sagas.core.exhaustion import RETRYABLE
 from sagas.core.lease_signature import Signer
 from sagas.core.model import FINISHED, SUSPENDED, Attempt
 from sagas.core.outcomes import CANNOT_DECODE, FAILED, PERMANENT, SUCCEEDED, UNKNOWN, Outcome
@@ -90,8 +90,8 @@ class ExternalReports:
         busy = saga.busy.get(word)
         if busy is not None and busy.attempt == count:
             return busy
-        for one in shard.unkept():  # finished
-            if one.instance is saga and one.word == word and one.attempt == count:
+        for one in shard.unstored_reports():  # finished
+            if one.instance is saga and one.action_key == word and one.attempt == count:
                 return one
         return None
 
@@ -125,11 +125,11 @@ class ExternalReports:
         """The value of an outcome, as the table has it: a result is encoded."""
         payloads = self.owner.shelf.payloads
         is_result = payloads.codec is not None and outcome.kind is SUCCEEDED
-        return outcomes.stored(payloads, outcome.value) if is_result else outcome.value
+        return outcomes.encode_result(payloads, outcome.value) if is_result else outcome.value
 
     def _delivered(self, outcome: OutcomeKind, value: str) -> Outcome:
         """What was reported, by what the table has."""
-        found = outcomes.delivered(outcome, value)
+        found = outcomes.read_report(outcome, value)
         return found._replace(encoded=self.owner.shelf.payloads.is_encoded(value))
 
     async def park(self, token: str, number: int, why: CannotDecode | BlobUnavailable) -> None:
@@ -157,13 +157,13 @@ class ExternalReports:
         """Whether what was reported of an attempt that is under way here could be said of it
         now."""
         outcome = self._delivered(OutcomeKind(report.outcome), report.value)
-        if attempt.pending:
+        if attempt.pending_row:
             return False
         if (waiting := self._reports.get(report.attempt)) is not None:
             if not waiting.done():
                 waiting.set_result(outcome)
             return True
-        is_known = attempt.reason in RETRIED
+        is_known = attempt.reason in RETRYABLE
         if attempt.state is not SUSPENDED or not (is_known or is_out(attempt)):
             return False
         if outcome.kind in (UNKNOWN, CANNOT_DECODE) and attempt.lease:

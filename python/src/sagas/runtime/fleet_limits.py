@@ -164,7 +164,7 @@ class Gate:
 
     def _hand_out(self, asking: list[tuple[Attempt, asyncio.Future[bool]]], grant: Grant) -> None:
         asking = [(attempt, future) for attempt, future in asking if not future.done()]
-        places = deque(grant.places)
+        places = deque(grant.slots)
         for number, (attempt, future) in enumerate(asking):
             if number < grant.calls and places:
                 self._places[attempt] = places.popleft()

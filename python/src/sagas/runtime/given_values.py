@@ -33,5 +33,5 @@ def text_of(task: Task[Any]) -> str:
 
 def failure(error: Exception) -> Outcome:
     """Return what the attempt comes to: the worker was not asked."""
-    said = f"given= raised {outcomes.described(error)}"
+    said = f"given= raised {outcomes.describe_error(error)}"
     return outcomes.failure(said, final=isinstance(error, Fail))

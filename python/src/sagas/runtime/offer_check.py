@@ -87,12 +87,12 @@ class OfferCheck:
 
     def _waiting(self, shard: ShardDriver) -> Iterator[Attempt]:
         """The attempts of a shard whose rows are open, as far as this program knows."""
-        if not shard.is_known:
+        if not shard.is_current:
             return
         for saga in shard.sagas.values():
             if saga.kind.has_external:
                 for attempt in saga.busy.values():
-                    if is_out(attempt) and not attempt.pending and not self._is_moving(attempt):
+                    if is_out(attempt) and not attempt.pending_row and not self._is_moving(attempt):
                         yield attempt
 
     def offered(self, attempt: Attempt) -> None:

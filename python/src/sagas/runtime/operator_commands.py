@@ -7,10 +7,10 @@ import functools
 import json
 from typing import TYPE_CHECKING, Any, Protocol
 
-from sagas.base.errors import Closed, Moved, SagasError, StoreUnavailable
+from sagas.base.errors import Closed, SagaMoved, SagasError, StoreUnavailable
 from sagas.base.logger import logger
-from sagas.core.batch import Batch, Request, Wanted
-from sagas.core.outcomes import Outcome, reported
+from sagas.core.batch import Batch, PendingRequest, RequestRef
+from sagas.core.outcomes import Outcome, reported_outcome
 from sagas.core.states import OutcomeKind
 from sagas.definition.payloads import Payloads
 
@@ -28,7 +28,7 @@ class Carrier(Protocol):
     id of the saga that is meant.
     """
 
-    async def abort(self, key: str, request: Wanted, of: int | None = None) -> bool:
+    async def abort(self, key: str, request: RequestRef, of: int | None = None) -> bool:
         """As `Store.abort`."""
 
     async def report(
@@ -37,14 +37,14 @@ class Carrier(Protocol):
         step: str,
         outcome: Outcome,
         undo: bool,
-        request: Wanted,
+        request: RequestRef,
         of: int | None = None,
         early: bool = True,
     ) -> None:
         """As `Store.complete` and `Store.fail`."""
 
     async def retry(
-        self, key: str, step: str, undo: bool, request: Wanted, of: int | None = None
+        self, key: str, step: str, undo: bool, request: RequestRef, of: int | None = None
     ) -> None:
         """As `Store.retry`."""
 
@@ -52,7 +52,9 @@ class Carrier(Protocol):
 class Compensations(Protocol):
     """What has reports undone that were not used."""
 
-    async def compensate(self, key: str, step: str, request: Wanted, of: int | None = None) -> None:
+    async def compensate(
+        self, key: str, step: str, request: RequestRef, of: int | None = None
+    ) -> None:
         """As `Store.compensate`."""
 
 
@@ -111,7 +113,7 @@ class Requests:
             if not self._again:
                 return
 
-    def _begin(self, row: Request) -> None:
+    def _begin(self, row: PendingRequest) -> None:
         if row[0] not in self._doing:
             job = self._doing[row[0]] = self._loop.create_task(self._do(*row))
             job.add_done_callback(functools.partial(self._done, row[0]))
@@ -124,14 +126,14 @@ class Requests:
     async def _do(self, id: int, key: str, what: str, value: str | None, of: int | None) -> None:
         try:
             answer = await self._ask(id, key, what, json.loads(value or "null"), of)
-        except (Closed, Moved):  # the next program, or the node that has the saga, answers
+        except (Closed, SagaMoved):  # the next program, or the node that has the saga, answers
             return
         except SagasError as error:
             answer = {"error": f"{type(error).__name__}: {error}"}
         except (TypeError, ValueError, KeyError, RecursionError) as error:
             answer = {"error": f"invalid request: {error}"}
         batch = Batch(-1, self._owner.clock())
-        batch.more.answers.append((json.dumps(answer), id))
+        batch.rare_rows.answers.append((json.dumps(answer), id))
         self._owner.commits.put_alone(batch)
 
     async def _ask(self, id: int, key: str, what: str, told: Any, of: int | None) -> Any:
@@ -140,7 +142,7 @@ class Requests:
         if what in ("complete", "fail"):
             error = str(told["error"]) if what == "fail" else None
             result = self._owner.shelf.payloads.decode_value(told.get("result"))
-            outcome = reported(result, error)
+            outcome = reported_outcome(result, error)
             undo, early = told.get("kind") == "undo", told.get("early") is not False
             await self._carrier.report(key, told["step"], outcome, undo, id, of, early)
             return True

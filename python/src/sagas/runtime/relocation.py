@@ -6,8 +6,8 @@ import asyncio
 from collections.abc import Callable, Coroutine
 from typing import TYPE_CHECKING, Protocol
 
-from sagas.base.errors import KeyConflict, Moved, SagasError
-from sagas.core.batch import Batch, Loaded, SagaRow
+from sagas.base.errors import KeyConflict, SagaMoved, SagasError
+from sagas.core.batch import Batch, LoadedShard, SagaRow
 from sagas.core.model import SagaInstance
 from sagas.core.shard import ShardDriver
 from sagas.definition import input_equality, mismatches
@@ -109,7 +109,7 @@ class Relocation:
         """It is not driven here: who waits looks into the store; who started it hears why it is
         not that saga.
         """
-        self._sagas.leave(saga, error, Moved("this node does not execute the saga"))
+        self._sagas.leave(saga, error, SagaMoved("this node does not execute the saga"))
         for attempt in saga.busy.values():
             self._executor.changes.tell(attempt)
 
@@ -123,8 +123,8 @@ class Relocation:
         ):  # it may be the same under other types
             self._spawn(self._move(saga))
             return
-        if saga.start is not None:
-            self._spawn(self._begun(saga.start, None if error else row.id))
+        if saga.client_start is not None:
+            self._spawn(self._begun(saga.client_start, None if error else row.id))
         self.leave(saga, error)
 
     def meet(self, saga: SagaInstance) -> None:
@@ -149,30 +149,30 @@ class Relocation:
     async def _begun(self, start: int, saga: int | None) -> None:
         """A client's start is a saga that was there, or none: it is to be begun by nobody."""
         batch = Batch(-1, self._clock())
-        batch.more.begun.append((start, saga))
+        batch.rare_rows.begun.append((start, saga))
         try:
             await self._commits.kept(batch)
         except SagasError:
             self._home.doubt()
 
-    async def find_elsewhere(self, driver: ShardDriver, rows: Loaded) -> None:
+    async def find_elsewhere(self, driver: ShardDriver, rows: LoadedShard) -> None:
         """Of the sagas that were asked to be opened in a shard, take out those whose keys are
         other sagas': of another shard, or over in this one.
         """
         there = {key for _, key, *_ in rows.open}
-        asked = [one for one in driver.sent if not one.committed and one.key not in there]
+        asked = [one for one in driver.opens_sent if not one.committed and one.key not in there]
         others = await asyncio.gather(*(self._store.find(saga.key) for saga in asked))
         for saga, other in zip(asked, others):
             if other is not None and (other.id >= 0 or saga.guessed):
-                driver.sent.pop(saga, None)
+                driver.opens_sent.pop(saga, None)
                 saga.number, saga.shard = -1, None
                 self.found(saga, other)
 
     def let_go(self, driver: ShardDriver) -> None:
         """A shard is another node's: what was begun here is stopped, and who waits looks there."""
-        moved = Moved("the saga moved to another node")
-        sagas, opens = list(driver.sagas.values()), [*driver.sent, *driver.opens]
-        attempts = dict.fromkeys(driver.unkept())
+        moved = SagaMoved("the saga moved to another node")
+        sagas, opens = list(driver.sagas.values()), [*driver.opens_sent, *driver.opens]
+        attempts = dict.fromkeys(driver.unstored_reports())
         attempts |= {attempt: None for saga in sagas for attempt in saga.busy.values()}
         for attempt in attempts:
             self._executor.kept.tell(attempt, moved)
@@ -181,7 +181,7 @@ class Relocation:
         for saga in sagas:
             if saga.committed:
                 self.leave(saga, None)
-        driver.close_opens()
+        driver.clear_opens()
         for saga in opens:
             if not saga.committed:
                 saga.forget()
@@ -191,7 +191,7 @@ class Relocation:
     def tell_closed(self, driver: ShardDriver, error: SagasError) -> None:
         """The store is closed: who waits for a step of a shard hears so."""
         self._executor.early.look_again(driver.number, error)
-        for attempt in driver.unkept():
+        for attempt in driver.unstored_reports():
             self._executor.kept.tell(attempt, error)
         for saga in driver.sagas.values():
             for attempt in saga.busy.values():
@@ -205,7 +205,7 @@ class Relocation:
         row = await until_answered(lambda: self._whole(saga.key))
         if self._sagas.by_key.get(saga.key) is not saga:
             return
-        if row is not None and (row.id >= 0 or saga.start is None):
+        if row is not None and (row.id >= 0 or saga.client_start is None):
             self.found(saga, row, is_whole=True)
         else:
             self._home.place(saga)

@@ -211,7 +211,7 @@ async def keep(
             if blobs is not None:  # behind the rows that referred to them
                 await blobs.delete(gone.blobs)
             if gone.logs:
-                owner.teller.tell(
+                owner.teller.emit(
                     "shards_pruned",
                     detail=f"{number(len(gone.logs), 'shard')}, {number(gone.sagas, 'saga')}",
                 )

@@ -95,7 +95,7 @@ class Scheduler:
         if times and one.catch_up == timing.CatchUp.ALL and first > one.next_at:
             said = f"{one.name}: only the last {one.max:,} missed times are started"
             await self._advance(one, first, None, said)  # the first node that does so counts
-            self._owner.teller.tell("schedule_missed", saga=one.saga, detail=said)
+            self._owner.teller.emit("schedule_missed", saga=one.saga, detail=said)
             return 0.0
         last = error = None
         for at in times:
@@ -103,7 +103,7 @@ class Scheduler:
             if await self._is_open(one, before):
                 if one.overlap == timing.Overlap.SKIP:
                     said = f"{one.name}: the saga of the time before is open"
-                    self._owner.teller.tell("schedule_missed", saga=one.saga, detail=said)
+                    self._owner.teller.emit("schedule_missed", saga=one.saga, detail=said)
                     continue
                 if last is None:
                     return AGAIN
@@ -116,7 +116,7 @@ class Scheduler:
                 break
             last, error = at, await self._try(one, timing.key_of(one.name, at))
         if not times:
-            self._owner.teller.tell("schedule_missed", saga=one.saga, detail=one.name)
+            self._owner.teller.emit("schedule_missed", saga=one.saga, detail=one.name)
         await self._advance(one, next_at, last, error)
         return next_at - self._owner.clock()
 
@@ -143,7 +143,7 @@ class Scheduler:
         if self._left.get(name) != why:
             self._left[name] = why
             detail = f"{name}: {why}"
-            self._owner.teller.tell("schedule_failed", saga=saga, detail=detail)
+            self._owner.teller.emit("schedule_failed", saga=saga, detail=detail)
 
     async def _is_still(self, one: Schedule) -> bool:
         """Whether nobody has paused, removed or changed it, and no node has advanced it."""
@@ -160,6 +160,6 @@ class Scheduler:
             raise
         except (SagasError, TypeError, ValueError) as fault:
             error = f"{type(fault).__name__}: {fault}"
-            self._owner.teller.tell("schedule_failed", key=key, saga=one.saga, detail=error)
+            self._owner.teller.emit("schedule_failed", key=key, saga=one.saga, detail=error)
             return error
         return None

@@ -8,8 +8,8 @@ from collections.abc import Callable, Coroutine
 from typing import TYPE_CHECKING, Protocol
 
 from sagas.base.errors import DamagedShard, SagasError
-from sagas.base.events import Teller
-from sagas.core.batch import Loaded
+from sagas.base.events import EventEmitter
+from sagas.core.batch import LoadedShard
 from sagas.core.limits import Slots
 from sagas.core.shard import ShardDriver
 from sagas.engine.pool import EnginePool
@@ -45,12 +45,14 @@ class Shards(Protocol):
     def trouble(self, runner: ShardRunner, error: SagasError) -> None:
         """It could not be taken up."""
 
-    async def find_elsewhere(self, driver: ShardDriver, rows: Loaded) -> None:
+    async def find_elsewhere(self, driver: ShardDriver, rows: LoadedShard) -> None:
         """Of the sagas that were asked to be opened in a shard, take out those whose keys are
         other sagas': of another shard, or over in this one.
         """
 
-    def reopen(self, driver: ShardDriver, rows: Loaded | None, fault: BaseException | None) -> None:
+    def reopen(
+        self, driver: ShardDriver, rows: LoadedShard | None, fault: BaseException | None
+    ) -> None:
         """Open sagas again that were to be opened in a shard and are not there, or refuse them."""
 
     def changed(self, runner: ShardRunner) -> None:
@@ -65,7 +67,7 @@ class Parts:
     program: str
     loop: asyncio.AbstractEventLoop
     clock: Callable[[], float]
-    teller: Teller
+    teller: EventEmitter
     sagas: Instances
     slots: Slots
     commits: CommitQueue

@@ -7,11 +7,11 @@ import time
 from sagas.base.errors import DamagedShard, SagasError
 from sagas.base.logger import logger
 from sagas.core import recovery
-from sagas.core.batch import Loaded
+from sagas.core.batch import LoadedShard
 from sagas.core.effects import Abort, Effects
 from sagas.core.model import Attempt
-from sagas.core.replies import Disagrees
-from sagas.core.shard import MOST_REPORTS, ShardDriver
+from sagas.core.replies import EngineDisagrees
+from sagas.core.shard import MAX_REPORTS, ShardDriver
 from sagas.core.states import ShardState
 from sagas.core.suspensions import SuspensionRow
 from sagas.engine.process import EngineProcess
@@ -53,7 +53,7 @@ class ShardRunner:
         self._effects, self._clock, self._loop = parts.effects, parts.clock, parts.loop
         self._woke = self._pause = 0.0
         self._is_scheduled = self._is_coming = False
-        self._rows: Loaded | None = None  # that it is recovered from
+        self._rows: LoadedShard | None = None  # that it is recovered from
         self._overdue: list[int] = []  # the sagas that are aborted as it is recovered
 
     # -- what it is told
@@ -79,36 +79,36 @@ class ShardRunner:
         that might bring more, or if there is a lot."""
         if self.driver.state is ACTIVE:
             assert self.engine
-            if self.engine.asked:  # when it has answered, it is asked what is due
+            if self.engine.unanswered:  # when it has answered, it is asked what is due
                 return
             running = self._slots.running
-            if at_once and (not running or len(self.driver.reports) >= MOST_REPORTS):
+            if at_once and (not running or len(self.driver.reports) >= MAX_REPORTS):
                 self._turn(waits=not running)
             elif not self._is_scheduled:
                 self._is_scheduled = True
                 self._loop.call_soon(self._turn)
         elif self.driver.state is IDLE:
-            self._engines.want(self)
+            self._engines.request_engine(self)
 
     def _turn(self, waits: bool = False) -> None:
         """Ask what is due. `waits`: nothing else could be done here until the answer comes."""
         self._is_scheduled = False
         engine = self.engine
-        if self.driver.state is not ACTIVE or engine is None or engine.asked:
+        if self.driver.state is not ACTIVE or engine is None or engine.unanswered:
             return
-        if self._engines.wanted and time.monotonic() - self._woke > TURN:
+        if self._engines.waiting and time.monotonic() - self._woke > TURN:
             self._loop.call_soon(self.give_up_engine)
-            if not self.driver.unwritten:
+            if not self.driver.commits_in_flight:
                 return
         self._shards.abort_overdue()
         self._shards.fill(self)
-        if self.driver.state is not ACTIVE or engine.asked:  # another shard took its engine
+        if self.driver.state is not ACTIVE or engine.unanswered:  # another shard took its engine
             return
-        lines = [] if self.driver.wants_engine else self._requests()
+        lines = [] if self.driver.needs_new_engine else self._requests()
         if not lines:
-            if self.driver.wants_engine:  # also: a definition was too long for a request
+            if self.driver.needs_new_engine:  # also: a definition was too long for a request
                 self._renew()
-            elif self._engines.wanted:
+            elif self._engines.waiting:
                 self._offer()
             return
         self.used = time.monotonic()
@@ -118,20 +118,20 @@ class ShardRunner:
 
     def _renew(self) -> None:
         """Its engine makes way for one that knows all definitions, once all it said is stored."""
-        if not self.driver.unwritten:
+        if not self.driver.commits_in_flight:
             self._stop_engine()
             self.engine = None
-            self.driver.to(IDLE)
-            self.driver.to(STARTING)
+            self.driver.set_state(IDLE)
+            self.driver.set_state(STARTING)
             self._parts.spawn(self._start())
 
     def _requests(self) -> list[str]:
         is_closing, driver = self._shards.is_closing, self.driver
-        lines = driver.requests(0 if is_closing else self._slots.free(), self._clock())
-        if (asked := driver.asked) and asked.claims:
-            self._slots.reserve(asked.claims)
-        elif driver.hungry and not is_closing:
-            self._slots.starve(self)
+        lines = driver.requests(0 if is_closing else self._slots.free_count(), self._clock())
+        if (asked := driver.unanswered) and asked.claim_count:
+            self._slots.reserve(asked.claim_count)
+        elif driver.may_have_tasks and not is_closing:
+            self._slots.add_waiting_shard(self)
         return lines
 
     def answered(self, replies: list[str], log_text: str) -> None:
@@ -141,7 +141,7 @@ class ShardRunner:
             return
         try:
             found = self.driver.replies(replies, log_text, self._clock())
-        except Disagrees as error:
+        except EngineDisagrees as error:
             logger.warning("shard %s: %s. Recovering", self.driver.name, error)
             self.fail(None)
         except Exception as error:
@@ -158,21 +158,21 @@ class ShardRunner:
         """What is due is asked before the commit of what was answered: a commit may be made here,
         and meanwhile the engine decides.
         """
-        self.driver.writes(effects)  # so it keeps its engine until then
+        self.driver.begin_commit(effects)  # so it keeps its engine until then
         try:
             self._effects.at_once(effects)
             if self._is_due():
                 self._turn()
         finally:
             self._commit(effects, at_once=True)
-        if self._engines.wanted:
+        if self._engines.waiting:
             self._offer()
 
     # -- to the store, and from there
 
     def keep(self, effects: Effects) -> None:
         """Make effects durable that no answer came to."""
-        self.driver.writes(effects)
+        self.driver.begin_commit(effects)
         self._commit(effects, at_once=False)
 
     def _commit(self, effects: Effects, at_once: bool) -> None:
@@ -191,7 +191,7 @@ class ShardRunner:
 
     def failed(self, effects: Effects, fault: BaseException | None) -> None:
         """The batch is not durable, as far as is known: the engine is thrown away."""
-        was_known = self.driver.is_known
+        was_known = self.driver.is_current
         unanswered = self.driver.failed(effects)
         self._effects.lost(effects)
         self._fail(fault, was_known, unanswered)
@@ -203,37 +203,42 @@ class ShardRunner:
 
     def _settle(self) -> None:
         """Nothing of it may be on its way to the store any more."""
-        if not self.driver.unwritten:
+        if not self.driver.commits_in_flight:
             if self.driver.state is STALE:
                 self._load_soon()
-            if self.driver.wants_engine:
+            if self.driver.needs_new_engine:
                 self.poke()
-            if self._engines.wanted:
+            if self._engines.waiting:
                 self._offer()
             self._shards.changed(self)
 
     # -- its engine
 
     def _is_due(self) -> bool:
-        may_claim = not (self in self._slots.starved or self._shards.is_closing)
+        may_claim = not (self in self._slots.waiting_shards or self._shards.is_closing)
         return self.driver.is_due(may_claim)
 
     def asked(self) -> int:
         """How much its engine is about to answer."""
         if self.driver.state is not ACTIVE:
             return 0
-        return len(self.driver.reports) + (self.engine.asked if self.engine else 0)
+        return len(self.driver.reports) + (self.engine.unanswered if self.engine else 0)
 
     def owes(self) -> bool:
         """Whether something is on its way to the store, and the store takes it."""
         driver = self.driver
-        has_more = driver.reports or driver.reporting or driver.opens or driver.sent
-        return bool(driver.unwritten or (has_more and not self.fault and not self._pause))
+        has_more = driver.reports or driver.reports_sent or driver.opens or driver.opens_sent
+        return bool(driver.commits_in_flight or (has_more and not self.fault and not self._pause))
 
     def rests(self) -> bool:
         """Whether its engine may go: nothing is on its way, and all it knows is in the store."""
         engine = self.engine
-        if self.driver.state is not ACTIVE or self.driver.unwritten or not engine or engine.asked:
+        if (
+            self.driver.state is not ACTIVE
+            or self.driver.commits_in_flight
+            or not engine
+            or engine.unanswered
+        ):
             return False
         return not self._is_due() or time.monotonic() - self._woke > TURN
 
@@ -251,25 +256,25 @@ class ShardRunner:
         """Another one may have its engine, if it rests."""
         if self.rests():
             self.sleep()
-            self._engines.gone(self)
+            self._engines.release(self)
 
     def sleep(self) -> None:
         """Let its engine go."""
         self._stop_engine()
-        self.driver.to(IDLE)
+        self.driver.set_state(IDLE)
         if self._is_due():
             self._loop.call_soon(self.poke)
 
     def granted(self) -> None:
         """It may have an engine."""
         if self.driver.state is STALE:
-            self.driver.to(LOADING)
+            self.driver.set_state(LOADING)
             self._parts.spawn(self._load())
         elif self.driver.state is IDLE:
-            self.driver.to(STARTING)
+            self.driver.set_state(STARTING)
             self._parts.spawn(self._start())
         else:
-            self._engines.gone(self)
+            self._engines.release(self)
 
     async def _start(self) -> None:
         """Start an engine on the shard, as far as nobody else has written it meanwhile."""
@@ -286,7 +291,7 @@ class ShardRunner:
         except Exception as error:
             self.fail(named(error))
             return
-        driver.to(ACTIVE)
+        driver.set_state(ACTIVE)
         self.used = self._woke = time.monotonic()
         self.poke()
 
@@ -300,7 +305,7 @@ class ShardRunner:
             return
         if self.driver.state is ACTIVE:
             detail = f"shard {self.driver.name}: {last}"
-            self._parts.teller.tell("engine_died", detail=detail)
+            self._parts.teller.emit("engine_died", detail=detail)
             self.fail(None)
         else:  # while the shard was taken up
             self.engine = self._rows = None
@@ -313,7 +318,7 @@ class ShardRunner:
 
     def fail(self, fault: BaseException | None) -> None:
         """What is in the store is all that is known; it is loaded again, after longer pauses."""
-        self._fail(fault, self.driver.is_known, self.driver.fail())
+        self._fail(fault, self.driver.is_current, self.driver.fail())
 
     def _fail(self, fault: BaseException | None, was_known: bool, unanswered: int) -> None:
         self._slots.release(unanswered)
@@ -328,8 +333,8 @@ class ShardRunner:
         """What the engine knows beyond the store is thrown away with it."""
         self._stop_engine()
         self.engine = self._rows = None
-        self._engines.gone(self)
-        if not self.driver.unwritten:
+        self._engines.release(self)
+        if not self.driver.commits_in_flight:
             self._load_soon()
 
     def _load_soon(self) -> None:
@@ -347,14 +352,14 @@ class ShardRunner:
 
     def _want(self) -> None:
         self._is_coming = False
-        if self.driver.state is STALE and not self.driver.unwritten:
-            self._engines.want(self)
+        if self.driver.state is STALE and not self.driver.commits_in_flight:
+            self._engines.request_engine(self)
 
     async def _load(self) -> None:
         """Read the shard from the store, and start an engine on it."""
         driver = self.driver
         try:
-            rows = await self._parts.store.load(driver.number, driver.epoch, driver.born)
+            rows = await self._parts.store.load(driver.number, driver.epoch, driver.new_shard)
             if driver.state is not LOADING:
                 return
             if rows is not None and (damage := recovery.damage_of(rows, driver)):
@@ -379,7 +384,7 @@ class ShardRunner:
         self._rows, self._overdue = rows, recovery.overdue(rows, self._clock())
         self.engine.ask(recovery.requests(rows, self._overdue))
 
-    def _recover(self, rows: Loaded, replies: list[str], log_text: str) -> None:
+    def _recover(self, rows: LoadedShard, replies: list[str], log_text: str) -> None:
         """Make its driver what the store has, and go on with what was begun."""
         self._rows, driver, store = None, self.driver, self._parts.store
         known = self._parts.sagas.by_key
@@ -400,15 +405,15 @@ class ShardRunner:
 
     def stop(self) -> None:
         """End its engine; it is not used again."""
-        self.driver.to(CLOSED)
+        self.driver.set_state(CLOSED)
         self._stop_engine()
-        self._slots.release(self.driver.unask())
-        self._engines.gone(self)
-        self._slots.sate(self)
+        self._slots.release(self.driver.drop_request())
+        self._engines.release(self)
+        self._slots.remove_waiting_shard(self)
 
     def _trouble(self, fault: SagasError) -> None:
         """It could not be taken up: that is tried again."""
         self.fault = fault
         self._shards.trouble(self, fault)
-        self.driver.to(STALE)
+        self.driver.set_state(STALE)
         self._recover_soon()

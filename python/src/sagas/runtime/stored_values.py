@@ -68,7 +68,7 @@ class ValueReader:
         """Read what an attempt lacks, and go on with it, unless something became of it meanwhile.
         Its values are held no longer than that takes, if it waits then.
         """
-        is_same, fault = attempt.pausing(), None
+        is_same, fault = attempt.pause_guard(), None
         async with self._places:
             try:
                 await self._fill(attempt)
@@ -79,7 +79,7 @@ class ValueReader:
             attempt.instance.release()
 
     async def _fill(self, attempt: Attempt) -> None:
-        if not attempt.lacks():
+        if not attempt.lacks_values():
             return
         self.count += 1
         instance = attempt.instance

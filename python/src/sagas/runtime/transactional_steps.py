@@ -15,7 +15,7 @@ from typing import TYPE_CHECKING, Any
 
 import psycopg
 
-from sagas.base.errors import Lost, Unknown
+from sagas.base.errors import ShardLost, Unknown
 from sagas.core import outcomes
 from sagas.core.batch import Tail
 from sagas.core.model import RUNNING
@@ -34,7 +34,7 @@ if TYPE_CHECKING:
     from concurrent.futures import Executor
 
     from sagas.core.model import Attempt
-    from sagas.core.step_transactions import Take
+    from sagas.core.step_transactions import TakeConnection
 
 PLAIN = frozenset((type(None), bool, int, float, str, dict, list))
 """What is not to be awaited, most of the time."""
@@ -66,7 +66,7 @@ async def _called(function: Function, task: Task[Any]) -> Any:
 
 def text_of(attempt: Attempt, value: Any) -> str:
     """What a function returned, as it is stored."""
-    return outcomes.stored(attempt.instance.kind.payloads, outcomes.succeeded(value).value)
+    return outcomes.encode_result(attempt.instance.kind.payloads, outcomes.succeeded(value).value)
 
 
 @dataclasses.dataclass(slots=True)
@@ -88,10 +88,10 @@ class Record:
     again: bool = False
     """The server did not know that statement, so all is rolled back: it is called again."""
 
-    def lost(self) -> Lost | None:
+    def lost(self) -> ShardLost | None:
         """What to say where nobody knows whether it was committed."""
         return (
-            Lost(f"{self.where}: it is unknown whether {self.attempt.token()} was committed")
+            ShardLost(f"{self.where}: it is unknown whether {self.attempt.token()} was committed")
             if self.begun and not self.done
             else None
         )
@@ -125,14 +125,14 @@ class Record:
         it has the same epoch."""
         shard = self.attempt.instance.shard
         assert shard
-        epoch, self.line = shard.known
+        epoch, self.line = shard.fence
         return Fence(shard.number, self.node, epoch, self.line, self.tail)
 
     def check(self) -> None:
-        """Raises `Lost` where the attempt was let go, since its log was taken up without it. What
+        """Raises `ShardLost` where the attempt was let go, since its log was taken up without it. What
         ended before that, and is sent later, has the epoch of before."""
         if self.attempt.state is not RUNNING:
-            raise Lost(f"{self.where}: {self.attempt.token()} does not exist any more")
+            raise ShardLost(f"{self.where}: {self.attempt.token()} does not exist any more")
 
     def text(self, link: AsyncStepLink | StepLink, value: str) -> str:
         """What is written of a result, and the commit."""
@@ -157,7 +157,7 @@ class Transactions:
         self._pool = Pool(url, most, self._prepares)
         self._timer: asyncio.TimerHandle | None = None
         self._entered: Attempt | None = None
-        self._take: Take = self._taken_at_once
+        self._take: TakeConnection = self._taken_at_once
 
     async def close(self) -> None:
         """Ends their connections."""
@@ -186,7 +186,7 @@ class Transactions:
         """As `calling.call`; where the function did nothing over its connection, there is
         nothing to commit, and no record.
 
-        Raises `Lost` where nobody knows whether it was committed, or where the log is another
+        Raises `ShardLost` where nobody knows whether it was committed, or where the log is another
         node's: then it is looked up.
         """
         function = manner.function
@@ -222,7 +222,7 @@ class Transactions:
         finally:
             loan.leave()
 
-    def enter(self, attempt: Attempt) -> Take | None:
+    def enter(self, attempt: Attempt) -> TakeConnection | None:
         """As `callers.Inside`: one that asks for no connection before it first waits costs
         little more than without a transaction.
         """

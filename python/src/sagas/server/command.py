@@ -309,7 +309,7 @@ def listen_of(text: str) -> tuple[str, int]:
 def loaded(option: str, place: str) -> Any:
     """What a module has by a name. Raises `Trouble`."""
     try:
-        return module_values.loaded(option, place)
+        return module_values.load_reference(option, place)
     except ValueError as error:
         raise Trouble(str(error)) from error
 

@@ -23,14 +23,14 @@ from typing import TYPE_CHECKING, Any, Optional, Protocol
 from sagas.base.errors import InvalidStore
 from sagas.core.batch import (
     Batch,
-    Born,
+    NewShard,
     Grant,
-    Known,
-    Loaded,
-    LogRow,
-    Request,
+    StoredSaga,
+    LoadedShard,
+    ShardRow,
+    PendingRequest,
     SagaRow,
-    Start,
+    PendingStart,
     Tail,
 )
 from sagas.core.step_transactions import StepTransactions
@@ -112,7 +112,7 @@ class Watcher(Protocol):
         be another's now, or be otherwise. `is_older`: what was told may be missing there.
         """
 
-    def taken(self, rows: list[LogRow]) -> None:
+    def taken(self, rows: list[ShardRow]) -> None:
         """Logs that are this node's from now on."""
 
     def vacant(self) -> None:
@@ -180,10 +180,10 @@ class StoreReader(Protocol):
     async def text(self, log: int) -> str:
         """A log's lines, which may be many megabytes."""
 
-    async def known(self, row: SagaRow) -> Known:
+    async def known(self, row: SagaRow) -> StoredSaga:
         """What the store has of a saga. Raises `NoSuchSaga` where it was let go meanwhile."""
 
-    async def history(self, row: SagaRow) -> Known:
+    async def history(self, row: SagaRow) -> StoredSaga:
         """As `known`, with its log's chunks."""
 
     def reader(self) -> Reader:
@@ -222,7 +222,7 @@ class Database(CommitWriter, StoreReader, Protocol):
 
     # -- opening and closing
 
-    async def open(self, drives: Drives) -> list[LogRow]:
+    async def open(self, drives: Drives) -> list[ShardRow]:
         """Makes or migrates the tables; gives the logs that are not closed and that this program
         drives from now on, in order.
 
@@ -274,7 +274,7 @@ class Database(CommitWriter, StoreReader, Protocol):
     async def find(self, key: str) -> SagaRow | None:
         """The saga with this key. Its input may be a reference to a value outside."""
 
-    async def load(self, log: int, epoch: int, born: Born | None) -> Loaded | None:
+    async def load(self, log: int, epoch: int, born: NewShard | None) -> LoadedShard | None:
         """A log as a pump takes it up; None where it is another node's, or is not there. What of
         it was on its way to the database is written now, or never will be. `born`: its row,
         until a commit is known to hold it: then it may not be there, and is empty.
@@ -297,13 +297,13 @@ class Database(CommitWriter, StoreReader, Protocol):
         No lines of it may be on their way.
         """
 
-    async def requests(self, after: int, most: int) -> list[Request]:
+    async def requests(self, after: int, most: int) -> list[PendingRequest]:
         """What was asked of the sagas of this program's logs, and has no answer: `most` of it at
         once, behind the request with the number `after`."""
 
     async def starts(
         self, most: int, under_way: Sequence[int] | None, left: Sequence[int] = ()
-    ) -> list[Start]:
+    ) -> list[PendingStart]:
         """Sagas that clients started: they are this program's to open, `most` at once. With
         `under_way` also those that were, and are not among these. Those of `left` stay where they
         are.

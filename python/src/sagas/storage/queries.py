@@ -13,8 +13,8 @@ from typing import Any
 
 from sagas.base.errors import NoSuchSaga
 from sagas.core import undo_check
-from sagas.core.batch import Known, LogRow, SagaRow
-from sagas.core.held_values import LARGE
+from sagas.core.batch import StoredSaga, ShardRow, SagaRow
+from sagas.core.held_values import LARGE_VALUE
 from sagas.core.undo_check import CompletedChild
 from sagas.definition import arguments
 from sagas.definition.capacity import SHARD_CAPACITY
@@ -31,7 +31,7 @@ HELD = "h.id, h.step, h.action, h.number, h.reason, h.count, h.since, h.until, h
 def small(column: str) -> str:
     """A stored value, unless it is large: of open sagas such values are read when a function needs
     them."""
-    return f"CASE WHEN length({column}) > {LARGE} THEN '{ABSENT}' ELSE {column} END"
+    return f"CASE WHEN length({column}) > {LARGE_VALUE} THEN '{ABSENT}' ELSE {column} END"
 
 
 OPEN = "s.id >= ? AND s.id < ? AND s.phase IS NULL"
@@ -258,12 +258,12 @@ class Rows:
         """Rows of a query."""
         raise NotImplementedError
 
-    def open_logs(self) -> list[LogRow]:
+    def open_logs(self) -> list[ShardRow]:
         """The logs that are not closed, in order."""
         found = self.rows(f"{LOGS} WHERE closed = 0 ORDER BY shard")
         texts = texts_of(self.rows(TEXTS, found[0][0], found[-1][0]) if found else [])
         return [
-            LogRow(log, name, texts.get(log, []), opened, open, note=note)
+            ShardRow(log, name, texts.get(log, []), opened, open, note=note)
             for log, name, note, opened, open in found
         ]
 
@@ -274,7 +274,7 @@ class Rows:
     def completed_children(self) -> dict[int, list[CompletedChild]]:
         """The completed children below the open sagas of each log."""
         rows = self.rows(COMPLETED_IN_FILE)
-        return undo_check.by_shard(rows, self.rows(ALL_DEFINITIONS)) if rows else {}
+        return undo_check.children_by_shard(rows, self.rows(ALL_DEFINITIONS)) if rows else {}
 
     def find_now(self, key: str) -> SagaRow | None:
         """The saga with this key."""
@@ -307,7 +307,7 @@ def known_words(id: int, history: bool) -> tuple[Any, ...]:
     return HISTORY, id, id, id, log, f'%"saga":{number},%', f'%"saga":{number}}}%'
 
 
-def known(rows: Sequence[tuple[Any, ...]], key: str) -> Known:
+def known(rows: Sequence[tuple[Any, ...]], key: str) -> StoredSaga:
     """What these say. Raises `NoSuchSaga` where it was let go since its row was read."""
     parts: tuple[list[Any], ...] = [], [], [], []
     for row in sorted(rows, key=lambda row: row[:4]):
@@ -317,7 +317,7 @@ def known(rows: Sequence[tuple[Any, ...]], key: str) -> Known:
     ((*_, text, _),) = parts[0]
     chunks = [(at, chunk) for _, _, _, _, chunk, at in parts[2]]
     shape = parts[3][0][4] if parts[3] else None
-    return Known(text, parts[1], chunks, shape)
+    return StoredSaga(text, parts[1], chunks, shape)
 
 
 class Questions:
@@ -339,10 +339,10 @@ class Questions:
         """A log's lines."""
         return joined(await self.read_long(LINES, log))[0]
 
-    async def known(self, row: SagaRow) -> Known:
+    async def known(self, row: SagaRow) -> StoredSaga:
         """What the store has of a saga. Raises `NoSuchSaga` where it was let go meanwhile."""
         return known(await self.read(*known_words(row.id, history=False)), row.key)
 
-    async def history(self, row: SagaRow) -> Known:
+    async def history(self, row: SagaRow) -> StoredSaga:
         """As `known`, with its log's chunks."""
         return known(await self.read_long(*known_words(row.id, history=True)), row.key)

@@ -10,7 +10,7 @@ from collections.abc import Callable
 from typing import Any, Protocol
 
 from sagas.base.errors import WrongStore
-from sagas.core.dispatch import Begun, Order, Position, id_of
+from sagas.core.dispatch import AttemptTexts, Order, Position, saga_id
 from sagas.core.outcomes import Outcome
 from sagas.definition.payloads import PLAIN
 from sagas.definition.step import Function
@@ -33,7 +33,7 @@ OPEN = (None, "unknown", "suspended")
 class Desk(Protocol):
     """A worker's connection to the store, for one thread."""
 
-    def begin(self, order: Order) -> Begun | None:
+    def begin(self, order: Order) -> AttemptTexts | None:
         """The texts of an attempt; None where it is settled: the message is late, or came twice.
         Raises `WrongStore`, also where the saga was deleted meanwhile, and `StoreUnavailable`.
         """
@@ -63,7 +63,7 @@ def desk_of(store: str) -> Desk:
 
 def fetched(
     order: Order, rows: list[tuple[Any, ...]], one: Callable[..., str], where: str
-) -> Begun | None:
+) -> AttemptTexts | None:
     """What `BEGIN` found, with the texts that the order does not carry."""
     if not rows:
         raise WrongStore(
@@ -74,7 +74,7 @@ def fetched(
     shard, attempt, outcome = rows[0]
     if attempt is None or outcome not in OPEN:
         return None
-    id = id_of(shard, order.number)
+    id = saga_id(shard, order.number)
 
     def whole(text: str | Position) -> str:
         return stored(RESULT, id, text.step) if isinstance(text, Position) else text
@@ -83,7 +83,7 @@ def fetched(
         return PLAIN.decode(one(*query))
 
     results = {name: whole(text) for name, text in order.results.items()}
-    return Begun(
+    return AttemptTexts(
         stored(INPUT, id) if order.input is None else order.input,
         results,
         None if order.result is None else whole(order.result),

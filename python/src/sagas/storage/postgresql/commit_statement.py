@@ -17,7 +17,7 @@ import json
 from collections.abc import Callable, Iterable, Mapping, Sequence
 from typing import Any
 
-from sagas.core.batch import Batch, Ended, HeldRow, Opened, Rare, Tail
+from sagas.core.batch import Batch, EndedRow, StoredSuspension, OpenedRow, RareRows, Tail
 from sagas.core.states import EarlyReason
 from sagas.definition import tokens
 from sagas.definition.capacity import SHARD_CAPACITY
@@ -118,7 +118,7 @@ def _free(name: str) -> str:
     return f"NOT EXISTS (SELECT 1 FROM taken WHERE taken.shard = {name}.shard)"
 
 
-def _attempts(rare: Rare, part: str) -> Sequence[Sequence[Any]]:
+def _attempts(rare: RareRows, part: str) -> Sequence[Sequence[Any]]:
     """The rows of a part, each of which is about an attempt that others do."""
     if part not in EXTERNAL:
         return ()
@@ -128,7 +128,7 @@ def _attempts(rare: Rare, part: str) -> Sequence[Sequence[Any]]:
     return rows
 
 
-def _undone(row: HeldRow) -> HeldRow:
+def _undone(row: StoredSuspension) -> StoredSuspension:
     """The row of a report of which nothing is left to be undone."""
     is_report = row[3] == 0 and row[4] == EarlyReason.RESULT
     return (*row[:4], EarlyReason.UNDONE.value, *row[5:]) if is_report else row
@@ -164,7 +164,7 @@ EXTERNAL = ("offers", "suspended", "withdrawn", "settled")
 """The parts of what others do, each row of which is about one attempt: the last one counts, since a
 statement changes a row once, whatever the order of its parts. `settled` is always the last.
 """
-PLAIN: dict[str, Callable[[int, Rare], Iterable[Any]]] = {
+PLAIN: dict[str, Callable[[int, RareRows], Iterable[Any]]] = {
     "shapes": lambda log, rare: rare.shapes,
     "labels": lambda log, rare: rare.labels,
     "children": lambda log, rare: rare.children,
@@ -200,11 +200,11 @@ class Commit:
     ) -> None:
         self.batches = batches
         self.tails = tails
-        self.epochs = {batch.log: batch.epoch for batch in batches if batch.log >= 0}
+        self.epochs = {batch.shard: batch.epoch for batch in batches if batch.shard >= 0}
         self.events: dict[int, int] = {}
         self._before = events
         self.parts: dict[str, Sequence[Any]] = {}
-        self.rare: list[tuple[int, Rare]] = []
+        self.rare: list[tuple[int, RareRows]] = []
         self.has_moved = False
         if len(batches) == 1:
             self._put_one(batches[0])
@@ -232,16 +232,16 @@ class Commit:
     def _put_one(self, batch: Batch) -> None:
         rows = self.parts
         if batch.text:
-            rows["lines"] = [(batch.log, self._lines(batch), batch.at, batch.text, batch.epoch)]
+            rows["lines"] = [(batch.shard, self._lines(batch), batch.at, batch.text, batch.epoch)]
         if batch.opened or batch.ended:
             self._put_sagas(batch.opened, batch.ended)
         if batch.results:
             rows["results"] = batch.results
-        if batch.guessed:
-            rows["guessed"] = [(batch.log, key) for key in batch.guessed]
+        if batch.unchecked_keys:
+            rows["guessed"] = [(batch.shard, key) for key in batch.unchecked_keys]
         if batch.rare:
-            self.rare.append((batch.log, batch.rare))
-        if batch.rare or batch.born:
+            self.rare.append((batch.shard, batch.rare))
+        if batch.rare or batch.new_shard:
             self._others()
 
     def _put_many(self, batches: Sequence[Batch]) -> None:
@@ -249,23 +249,23 @@ class Commit:
         for batch in batches:
             if batch.text:
                 had = self._lines(batch)
-                chunks.setdefault(batch.log, (had, batch.at, []))[2].append(batch.text)
+                chunks.setdefault(batch.shard, (had, batch.at, []))[2].append(batch.text)
         rows: dict[str, Sequence[Any]] = {
             "lines": [
                 (log, first, at, "".join(texts), self.epochs[log])
                 for log, (first, at, texts) in chunks.items()
             ],
             "results": [row for batch in batches for row in batch.results],
-            "guessed": [(batch.log, key) for batch in batches for key in batch.guessed],
+            "guessed": [(batch.shard, key) for batch in batches for key in batch.unchecked_keys],
         }
         self.parts.update((part, found) for part, found in rows.items() if found)
         opened = [row for batch in batches for row in batch.opened]
         self._put_sagas(opened, [row for batch in batches for row in batch.ended])
-        self.rare += [(batch.log, batch.rare) for batch in batches if batch.rare]
-        if self.rare or any(batch.born for batch in batches):
+        self.rare += [(batch.shard, batch.rare) for batch in batches if batch.rare]
+        if self.rare or any(batch.new_shard for batch in batches):
             self._others()
 
-    def _put_sagas(self, opened: Sequence[Opened], ended: Sequence[Ended]) -> None:
+    def _put_sagas(self, opened: Sequence[OpenedRow], ended: Sequence[EndedRow]) -> None:
         ends = {row[-1]: row for row in ended} if opened else {}
         if over := [(*row, *ends[row[0]][:-1]) for row in opened if row[0] in ends]:
             self.parts["opened_over"] = over
@@ -275,7 +275,7 @@ class Commit:
         self._put_opened(opened)
         self._put_ended(ended)
 
-    def _put_opened(self, rows: Sequence[Opened]) -> None:
+    def _put_opened(self, rows: Sequence[OpenedRow]) -> None:
         for row in rows:
             if row[6] is not None or row[7] is not None:
                 self.parts["opened_with"] = rows
@@ -283,7 +283,7 @@ class Commit:
         if rows:
             self.parts["opened"] = [row[:6] for row in rows]
 
-    def _put_ended(self, rows: Sequence[Ended]) -> None:
+    def _put_ended(self, rows: Sequence[EndedRow]) -> None:
         for row in rows:
             if row[2] or row[3]:
                 self.parts["ended_with"] = rows
@@ -293,7 +293,7 @@ class Commit:
 
     def _lines(self, batch: Batch) -> int:
         """How many events its log has before it."""
-        log = batch.log
+        log = batch.shard
         had = self.events[log] if log in self.events else self._before(log)
         if batch.first != had:
             raise ValueError(f"shard {log}: event {batch.first} behind {had}")
@@ -302,7 +302,7 @@ class Commit:
 
     def _held(self) -> None:
         """The last word of each held attempt."""
-        held: dict[tuple[int, int, str], dict[int, HeldRow]] = {}
+        held: dict[tuple[int, int, str], dict[int, StoredSuspension]] = {}
         freed: dict[tuple[int, int, str], int] = {}
         for _, rare in self.rare:
             for row in rare.held:
@@ -330,7 +330,7 @@ class Commit:
         has = {part for _, rare in self.rare for part in rare.parts}
         if "held" in has or "freed" in has:
             self._held()
-        if "defined" in has or any(batch.born for batch in self.batches):
+        if "defined" in has or any(batch.new_shard for batch in self.batches):
             self._definitions()
         if "cancelled" in has or not has.isdisjoint(EXTERNAL):
             self._external()
@@ -346,7 +346,7 @@ class Commit:
             self.parts[part] = rows
 
     def _definitions(self) -> None:
-        born = {batch.log: batch.born for batch in self.batches if batch.born}
+        born = {batch.shard: batch.new_shard for batch in self.batches if batch.new_shard}
         self._put("born", [(log, name) for log, (name, _) in born.items()])
         defined = {(log, *one) for log, (_, of) in born.items() for one in of}
         defined |= {(log, *one) for log, rare in self.rare for one in rare.defined}

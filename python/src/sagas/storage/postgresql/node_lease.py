@@ -23,7 +23,7 @@ import tomllib
 from sagas.base.logger import logger
 from sagas.base.wording import number
 from sagas.core import undo_check
-from sagas.core.batch import LogRow
+from sagas.core.batch import ShardRow
 from sagas.core.undo_check import CompletedChild
 from sagas.definition.capacity import SHARD_CAPACITY
 from sagas.definition.compiled import version_of
@@ -304,7 +304,7 @@ class Lease:
         self._told_of_codec = True
         logger.error("%s. This node does nothing more", missing(self._asker.where))
 
-    async def take(self, drives: Drives, mine: list[int]) -> list[LogRow] | None:
+    async def take(self, drives: Drives, mine: list[int]) -> list[ShardRow] | None:
         """A lot of the logs that nobody has: those of it whose functions this program has. None
         where there are no more, or others take them.
         """
@@ -337,9 +337,9 @@ class Lease:
         if not rows:
             return {}
         digests = [*{digest for _, _, one, _, other in rows for digest in (one, other)}]
-        return undo_check.by_shard(rows, await self._asker.read(TEXTS_OF, digests=digests))
+        return undo_check.children_by_shard(rows, await self._asker.read(TEXTS_OF, digests=digests))
 
-    async def _has(self, drives: Drives, taken: list[int]) -> list[LogRow]:
+    async def _has(self, drives: Drives, taken: list[int]) -> list[ShardRow]:
         """What is in the logs that were just taken: a saga of theirs, which was opened
         meanwhile, may need a function that is not here.
         """
@@ -348,7 +348,7 @@ class Lease:
             for (text,) in await self._asker.read(TAKEN, node=self.node, logs=taken)
         ]
         fit = await self._fit(drives, [(row[0], row[2], row[6], row[5]) for row in found])
-        return [LogRow(*row[:6], *row[7:]) for row in found if row[0] in fit]
+        return [ShardRow(*row[:6], *row[7:]) for row in found if row[0] in fit]
 
     async def end(self) -> None:
         """What this node has is free for others, now."""

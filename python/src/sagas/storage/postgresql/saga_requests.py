@@ -8,7 +8,7 @@ from collections.abc import Sequence
 from typing import Any
 
 from sagas.base.errors import NoSuchSaga, StoreUnavailable
-from sagas.core.batch import Request, SagaRow, Start
+from sagas.core.batch import PendingRequest, SagaRow, PendingStart
 from sagas.core.pending import check_refused
 from sagas.definition.capacity import SHARD_CAPACITY
 from sagas.definition.payloads import Payloads
@@ -53,7 +53,9 @@ WITHDRAW = queries.named(operator_requests.WITHDRAW_START, "id")
 FIND_NOW = queries.named(FIND_ONE.replace("$1", "?"), "key", "key")
 
 
-async def asked_of(asker: connections.Asker, node: str, after: int, most: int) -> list[Request]:
+async def asked_of(
+    asker: connections.Asker, node: str, after: int, most: int
+) -> list[PendingRequest]:
     """What was asked of the sagas of a node's shards, and what any node may do, without an answer:
     `Database.requests`.
     """
@@ -68,7 +70,7 @@ async def take_starts(
     most: int,
     under_way: Sequence[int] | None,
     left: Sequence[int],
-) -> list[Start]:
+) -> list[PendingStart]:
     """Take starts of these sagas that clients left, for a node to open."""
     mine = None if under_way is None else list(under_way)
     words = {"node": node, "sagas": [*sagas], "most": most, "mine": mine, "left": [*left]}

@@ -14,7 +14,7 @@ from typing import Any, NamedTuple
 import psycopg
 
 from sagas.base.errors import StoreUnavailable
-from sagas.core.batch import Born, HeldRow, Loaded, OpenRow, Result, Tail
+from sagas.core.batch import NewShard, StoredSuspension, LoadedShard, OpenSagaRow, ResultRow, Tail
 from sagas.definition.capacity import SHARD_CAPACITY
 from sagas.storage import queries
 from sagas.storage.postgresql import connections
@@ -86,10 +86,10 @@ class Want(NamedTuple):
 
     log: int
     epoch: int
-    born: Born | None
-    came: asyncio.Future[Loaded | None]
+    born: NewShard | None
+    came: asyncio.Future[LoadedShard | None]
 
-    def tell(self, loaded: Loaded | None, fault: Exception | None = None) -> None:
+    def tell(self, loaded: LoadedShard | None, fault: Exception | None = None) -> None:
         """To who wants it, and waits for it still."""
         if not self.came.done():
             self.came.set_exception(fault) if fault else self.came.set_result(loaded)
@@ -155,7 +155,7 @@ class Loads:
             self._record.read((log, epoch, line), read.events, read.text)
         return read
 
-    async def load(self, log: int, epoch: int, born: Born | None) -> Loaded | None:
+    async def load(self, log: int, epoch: int, born: NewShard | None) -> LoadedShard | None:
         """As `Database.load`."""
         want = Want(log, epoch, born, asyncio.get_running_loop().create_future())
         if born:
@@ -167,7 +167,7 @@ class Loads:
                 self._spawn(self._load())
         loaded = await want.came
         if loaded and self._record:
-            self._record.took((log, loaded.epoch, loaded.line), loaded.events, loaded.text)
+            self._record.took((log, loaded.epoch, loaded.timeline), loaded.events, loaded.text)
         return loaded
 
     async def _load(self) -> None:
@@ -224,8 +224,8 @@ class Loads:
                 loaded = None
                 if log in epochs:
                     loaded = _loaded(text or "", opened, json.loads(sagas or "[]"))
-                    loaded.epoch, loaded.line = epochs[log], line
-                    loaded.definitions = defined
+                    loaded.epoch, loaded.timeline = epochs[log], line
+                    loaded.definition_count = defined
                     if tail is not None:
                         first, at, lines = json.loads(tail)
                         loaded.tail = Tail(first, float(at))
@@ -237,7 +237,7 @@ class Loads:
             want.tell(None)
         return locked
 
-    async def _alone(self, want: Want) -> Loaded | None:
+    async def _alone(self, want: Want) -> LoadedShard | None:
         """Row by row, however large it is."""
         low, high = queries.bounds(want.log)
         words = {"low": low, "high": high, "log": want.log, "logs": [want.log], "node": self._node}
@@ -262,13 +262,15 @@ class Loads:
                 await rows(query)
                 for query in (queries.OPEN_SAGAS, queries.OPEN_RESULTS, queries.OPEN_HELD)
             ]
-        loaded = Loaded(text, events, opened, open, results, held, definitions=defined, tail=tail)
+        loaded = LoadedShard(
+            text, events, opened, open, results, held, definition_count=defined, tail=tail
+        )
         loaded.damage = queries.damage_of(text, events)
-        ((loaded.epoch, loaded.line),) = taken
+        ((loaded.epoch, loaded.timeline),) = taken
         return loaded
 
 
-def _born(born: Born) -> dict[str, Any]:
+def _born(born: NewShard) -> dict[str, Any]:
     """A log's name and definitions, as `BORN` has them."""
     name, defined = born
     places, digests, texts = zip(*defined) if defined else ((), (), ())
@@ -281,14 +283,14 @@ def _was_heard(fault: Exception) -> bool:
     return isinstance(cause, TimeoutError) or getattr(cause, "sqlstate", None) is not None
 
 
-def _loaded(text: str, opened: int, sagas: Sequence[Any]) -> Loaded:
+def _loaded(text: str, opened: int, sagas: Sequence[Any]) -> LoadedShard:
     """From its cells. Seconds are written as whole numbers there, where they are."""
-    results: list[Result] = [
+    results: list[ResultRow] = [
         (id, step, kind, attempt, outcome, value, float(at))
         for saga in sagas
         for id, step, kind, attempt, outcome, value, at in saga[5] or ()
     ]
-    held: list[HeldRow] = [
+    held: list[StoredSuspension] = [
         (
             id,
             step,
@@ -303,8 +305,8 @@ def _loaded(text: str, opened: int, sagas: Sequence[Any]) -> Loaded:
         for saga in sagas
         for id, step, kind, attempt, why, count, since, until, error in saga[6] or ()
     ]
-    open: list[OpenRow] = [
+    open: list[OpenSagaRow] = [
         (id, key, place, text, None if deadline is None else float(deadline), traceparent, shape)
         for id, key, place, text, deadline, _, _, traceparent, shape in sagas
     ]
-    return Loaded(text, text.count("\n"), opened, open, results, held)
+    return LoadedShard(text, text.count("\n"), opened, open, results, held)

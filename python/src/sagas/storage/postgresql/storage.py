@@ -9,7 +9,17 @@ from typing import Any
 
 from sagas.base.errors import StoreUnavailable
 from sagas.base.logger import logger
-from sagas.core.batch import Batch, Born, Grant, Known, Loaded, LogRow, Request, SagaRow, Start
+from sagas.core.batch import (
+    Batch,
+    NewShard,
+    Grant,
+    StoredSaga,
+    LoadedShard,
+    ShardRow,
+    PendingRequest,
+    SagaRow,
+    PendingStart,
+)
 from sagas.definition.payloads import Payloads
 from sagas.definition.serialization import cleaned
 from sagas.definition.step import Bounds
@@ -127,7 +137,7 @@ class PostgreSQL(queries.Questions):
 
     # -- opening and closing
 
-    async def open(self, drives: Drives) -> list[LogRow]:
+    async def open(self, drives: Drives) -> list[ShardRow]:
         """Migrates the tables where they are older; gives the logs that nobody has, as far as
         this program drives them. Keeps the lease from now on."""
         self._drives = drives
@@ -141,8 +151,8 @@ class PostgreSQL(queries.Questions):
         self._spawn(self._keep())
         if self.record:
             self.record.moved(self._line)
-        rows: list[LogRow] = []
-        while (taken := await self.lease.take(drives, [row.log for row in rows])) is not None:
+        rows: list[ShardRow] = []
+        while (taken := await self.lease.take(drives, [row.shard for row in rows])) is not None:
             rows += taken
         await self._numbers.fill()
         await self.asker.ask(TIDY)
@@ -252,7 +262,7 @@ class PostgreSQL(queries.Questions):
             rows = await self.lease.take(self._drives, self._watcher.logs())
             if rows is not None:  # the next lot comes behind a beat
                 for row in rows:
-                    self._writer.forget(row.log)
+                    self._writer.forget(row.shard)
                 self._watcher.taken(rows)
                 self._turn.set()
         if asks:
@@ -396,12 +406,14 @@ class PostgreSQL(queries.Questions):
         """As `KeyFinder.find`."""
         return await self._keys.find(key)
 
-    async def load(self, log: int, epoch: int, born: Born | None) -> Loaded | None:
+    async def load(self, log: int, epoch: int, born: NewShard | None) -> LoadedShard | None:
         """A log as a pump takes it up, under a new epoch, which fences what was on its way. None
         where it is another node's, or is not there."""
         line = self._line
         loaded = await self._loads.load(log, epoch, born)
-        self._check_line(loaded.line if loaded else line)  # it may come over a connection of before
+        self._check_line(
+            loaded.timeline if loaded else line
+        )  # it may come over a connection of before
         await self._continuity.compare(log, loaded.events if loaded else None)
         if loaded:
             self._writer.reached(log, loaded.events, loaded.tail)
@@ -427,13 +439,13 @@ class PostgreSQL(queries.Questions):
         self._writer.reached(log, read.events, read.tail)
         return read.text, read.events
 
-    async def requests(self, after: int, most: int) -> list[Request]:
+    async def requests(self, after: int, most: int) -> list[PendingRequest]:
         """What was asked of the sagas of this node's logs."""
         return await saga_requests.asked_of(self.asker, self.lease.node, after, most)
 
     async def starts(
         self, most: int, under_way: Sequence[int] | None, left: Sequence[int] = ()
-    ) -> list[Start]:
+    ) -> list[PendingStart]:
         """Sagas that clients started, and that are this node's to open."""
         node, sagas = self.lease.node, self._sagas
         return await saga_requests.take_starts(self.asker, node, sagas, most, under_way, left)
@@ -462,7 +474,7 @@ class PostgreSQL(queries.Questions):
         """Rows of a query."""
         return await self._questions.rows(queries.for_postgresql(query), *cleaned(words))
 
-    async def known(self, row: SagaRow) -> Known:
+    async def known(self, row: SagaRow) -> StoredSaga:
         """What the store has of a saga, with what others ask in the same moment."""
         return await self._lookups.known(row)
 

@@ -14,7 +14,7 @@ from psycopg.rows import tuple_row
 
 from sagas.base.errors import StoreUnavailable, Unknown
 from sagas.core import outcomes
-from sagas.core.dispatch import Begun, Order, Settled
+from sagas.core.dispatch import AttemptTexts, Order, AlreadyReported
 from sagas.core.outcomes import Outcome
 from sagas.definition import awaitables
 from sagas.definition.step import Function
@@ -55,7 +55,7 @@ class PostgreSQLDesk:
             self.close()
             raise
 
-    def begin(self, order: Order) -> Begun | None:
+    def begin(self, order: Order) -> AttemptTexts | None:
         """The texts that the order does not carry; None where the attempt is settled. Raises
         `WrongStore`, `StoreUnavailable`.
         """
@@ -106,7 +106,7 @@ class PostgreSQLDesk:
                 value = awaitables.whole_now(function(task))
                 recorded = link.execute(RECORD, record(link, value), prepare=False)
                 if not recorded.fetchall():
-                    raise Settled(order.token)
+                    raise AlreadyReported(order.token)
                 link.end(COMMIT, _nothing)
                 link.begun, link.is_set = None, False
             except BaseException as error:  # it may be anywhere in its transaction
@@ -128,7 +128,7 @@ class PostgreSQLDesk:
                 value = await awaitables.whole(await function(task))
                 recorded = await link.execute(RECORD, record(link, value), prepare=False)
                 if not await recorded.fetchall():
-                    raise Settled(order.token)
+                    raise AlreadyReported(order.token)
                 await link.end("COMMIT", _nothing)
             except psycopg.OperationalError as error:
                 raise Unknown(str(error)) from error

@@ -216,8 +216,8 @@ class Writer:
         lost: set[int] = set()
         fault: Exception | None = None
         try:
-            for log in dict.fromkeys(batch.log for batch in batches):
-                lost |= await self._written(log, [batch for batch in batches if batch.log == log])
+            for log in dict.fromkeys(batch.shard for batch in batches):
+                lost |= await self._written(log, [batch for batch in batches if batch.shard == log])
         except Exception as error:
             fault = error
         except asyncio.CancelledError:

@@ -158,7 +158,7 @@ class SqliteExternalAttempts:
         def done(db: sqlite3.Connection) -> None:
             found[:] = [work(db)]
 
-        batch.more.work.append(done)
+        batch.rare_rows.work.append(done)
         await self.write(batch)
         return found[0]
 

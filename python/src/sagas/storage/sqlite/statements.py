@@ -7,7 +7,7 @@ import sqlite3
 from collections.abc import Callable, Iterable, Sequence
 from typing import Any
 
-from sagas.core.batch import Defined, Rare, Withdrawal
+from sagas.core.batch import DefinitionRow, RareRows, Withdrawal
 from sagas.definition.serialization import clean, cleaned
 from sagas.storage import external
 from sagas.storage.sqlite.deliveries import DELIVERIES
@@ -60,7 +60,7 @@ WHERE id = ? AND step = ? AND action = 'run' AND number = 0 AND reason = 'early_
 """
 CLOSED = "UPDATE shards SET closed = ?, audit = ? WHERE shard = ?"
 SET_ASIDE = "UPDATE shards SET audit = ? WHERE shard = ? AND closed = 0"
-RowsOf = Callable[[int, Rare], Sequence[Sequence[Any]]]
+RowsOf = Callable[[int, RareRows], Sequence[Sequence[Any]]]
 """The words of a part of a batch, by the number of its log."""
 PARTS: dict[str, tuple[str, RowsOf]] = {
     "held": (HELD, lambda log, of: [cleaned(row) for row in of.held]),
@@ -88,7 +88,7 @@ PARTS: dict[str, tuple[str, RowsOf]] = {
 themselves; definitions are written before all (`define`)."""
 
 
-def define(db: sqlite3.Connection, logs: Iterable[tuple[int, Sequence[Defined]]]) -> None:
+def define(db: sqlite3.Connection, logs: Iterable[tuple[int, Sequence[DefinitionRow]]]) -> None:
     """Writes definitions of logs, as far as they are not there."""
     rows = [(log, *one) for log, defined in logs for one in defined]
     if rows:

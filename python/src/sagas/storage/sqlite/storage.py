@@ -22,9 +22,17 @@ from sagas.base.errors import (
     StoreLocked,
     StoreUnavailable,
 )
-from sagas.base.fork_guard import private
+from sagas.base.fork_guard import private_descriptors
 from sagas.base.logger import logger
-from sagas.core.batch import Born, Grant, Loaded, LogRow, Request, SagaRow, Start
+from sagas.core.batch import (
+    NewShard,
+    Grant,
+    LoadedShard,
+    ShardRow,
+    PendingRequest,
+    SagaRow,
+    PendingStart,
+)
 from sagas.definition.payloads import Payloads
 from sagas.definition.serialization import cleaned
 from sagas.definition.step import Bounds
@@ -105,7 +113,7 @@ class Sqlite(queries.Questions, queries.Rows):
 
     # -- opening and closing
 
-    async def open(self, drives: Drives) -> list[LogRow]:
+    async def open(self, drives: Drives) -> list[ShardRow]:
         """Takes the lock and makes the tables. Raises `StoreLocked`, `StoreUnavailable`,
         `InvalidStore` or `MissingStep`.
         """
@@ -119,8 +127,8 @@ class Sqlite(queries.Questions, queries.Rows):
         rows = self.open_logs()
         completed = self.completed_children()
         for row in rows:
-            below = completed.get(row.log, [])
-            lacks = drives(row.texts, self.places(row.log), below) if row.open else None
+            below = completed.get(row.shard, [])
+            lacks = drives(row.texts, self.places(row.shard), below) if row.open else None
             if lacks:
                 count = sum(row.open for row in rows)
                 told = (
@@ -243,7 +251,7 @@ class Sqlite(queries.Questions, queries.Rows):
             self._lock = lock
             self._give_up(f"{error} The lock file was deleted while this program held it")
         else:
-            private.discard(lock)
+            private_descriptors.discard(lock)
             os.close(lock)
 
     def _give_up(self, why: str) -> None:
@@ -344,7 +352,7 @@ class Sqlite(queries.Questions, queries.Rows):
         text, self._writer.events[log] = queries.joined(self.rows(queries.LINES, log))
         return text, self._writer.events[log]
 
-    async def load(self, log: int, epoch: int, born: Born | None) -> Loaded:
+    async def load(self, log: int, epoch: int, born: NewShard | None) -> LoadedShard:
         """A log as a pump takes it up. No batch of it may be on its way."""
         within = queries.bounds(log)
         text, events = await self.take_up(log, epoch)
@@ -353,8 +361,8 @@ class Sqlite(queries.Questions, queries.Rows):
             self.rows(query, *within)
             for query in (queries.OPEN_SAGAS, queries.OPEN_RESULTS, queries.OPEN_HELD)
         )
-        loaded = Loaded(text, events, opened, open, results, held, epoch)  # type: ignore[arg-type]
-        loaded.definitions = self.rows(queries.DEFINITIONS, log)[0][0]
+        loaded = LoadedShard(text, events, opened, open, results, held, epoch)  # type: ignore[arg-type]
+        loaded.definition_count = self.rows(queries.DEFINITIONS, log)[0][0]
         loaded.damage = queries.damage_of(text, events)
         return loaded
 
@@ -362,13 +370,13 @@ class Sqlite(queries.Questions, queries.Rows):
         """The saga with this key."""
         return self.find_now(key)
 
-    async def requests(self, after: int, most: int) -> list[Request]:
+    async def requests(self, after: int, most: int) -> list[PendingRequest]:
         """What was asked and has no answer."""
         return self.rows(queries.REQUESTS, after, most)  # type: ignore[return-value]
 
     async def starts(
         self, most: int, under_way: Sequence[int] | None, left: Sequence[int] = ()
-    ) -> list[Start]:
+    ) -> list[PendingStart]:
         """None: who starts a saga has the store open."""
         return []
 

@@ -19,7 +19,7 @@ import time
 from collections.abc import Callable, Iterable, Sequence
 from typing import Any
 
-from sagas.core.batch import Batch, Ended, Rare
+from sagas.core.batch import Batch, EndedRow, RareRows
 from sagas.storage.interface import Then
 from sagas.storage.sqlite import statements
 
@@ -223,10 +223,10 @@ class Writer:
         try:
             self._roll_back()
             self._begin(patient)
-            lost = frozenset(batch.log for batch in batches if self._is_refused(batch))
+            lost = frozenset(batch.shard for batch in batches if self._is_refused(batch))
             if not lost:
                 raise error
-            rest = [batch for batch in batches if batch.log not in lost]
+            rest = [batch for batch in batches if batch.shard not in lost]
             return self._put_rows(rest), lost
         except BaseException:
             self._roll_back()
@@ -238,7 +238,7 @@ class Writer:
         settled = batch.rare.settled if batch.rare else ()
         tokens = [token for token, _, came in settled if came is None]
         is_done = (self._db.execute(statements.DONE, (token,)).fetchone() for token in tokens)
-        return any(map(self._has, batch.guessed)) or any(is_done)
+        return any(map(self._has, batch.unchecked_keys)) or any(is_done)
 
     def _has(self, key: str) -> bool:
         """Whether a saga has the key."""
@@ -289,7 +289,7 @@ class Writer:
             ended = [row for batch in batches for row in batch.ended]
             logs: dict[int, list[Batch]] = {}
             for batch in batches:
-                logs.setdefault(batch.log, []).append(batch)
+                logs.setdefault(batch.shard, []).append(batch)
             for of in logs.values():
                 self._put_lines(of, events)
         if opened:
@@ -300,7 +300,7 @@ class Writer:
             self._put_ended(ended)
         for batch in batches:
             if batch.rare:
-                self._put_rare([(batch.log, batch.rare) for batch in batches if batch.rare])
+                self._put_rare([(batch.shard, batch.rare) for batch in batches if batch.rare])
                 break
         return events
 
@@ -308,11 +308,11 @@ class Writer:
         """Writes the lines of batches of one log, as one row; how many events it has then goes
         into `events`.
         """
-        log = batches[0].log
+        log = batches[0].shard
         had = has = self.events.get(log, 0)
         for batch in batches:
-            if batch.born:
-                name, defined = batch.born
+            if batch.new_shard:
+                name, defined = batch.new_shard
                 statements.define(self._db, [(log, defined)])
                 self._execute("INSERT OR IGNORE INTO shards(shard, name) VALUES(?, ?)", (log, name))
             if batch.text:
@@ -324,7 +324,7 @@ class Writer:
             self._execute(statements.LINES, (log, had, batch.at, text))
             events[log] = has
 
-    def _put_ended(self, rows: Sequence[Ended]) -> None:
+    def _put_ended(self, rows: Sequence[EndedRow]) -> None:
         """Most of them ended in the same way, and at the same time."""
         if len(rows) == 1:
             self._execute(statements.of_rows(statements.ENDED, 1, 1), rows[0])
@@ -335,7 +335,7 @@ class Writer:
         for way, ids in ways.items():
             self._lots(statements.ENDED, 1, ids, way)
 
-    def _put_rare(self, rare: Sequence[tuple[int, Rare]]) -> None:
+    def _put_rare(self, rare: Sequence[tuple[int, RareRows]]) -> None:
         """Of the logs with these numbers."""
         has = {part for _, of in rare for part in of.parts}
         if "defined" in has:
