@@ -21,14 +21,14 @@ usage: sagas store STORE list|show|stats|stuck|..   look at a store, and change 
 HELP = ("-h", "--help", "help")
 
 
-def main(words: list[str] | None = None) -> int:
+def main(arguments: list[str] | None = None) -> int:
     """Runs the command; gives its status."""
-    words = sys.argv[1:] if words is None else words
-    if words[:1] == ["store"]:
+    arguments = sys.argv[1:] if arguments is None else arguments
+    if arguments[:1] == ["store"]:
         from sagas.cli import store_command
 
-        return store_command.main(words[1:])
-    if words[:1] in (["serve"], ["token"]):
+        return store_command.main(arguments[1:])
+    if arguments[:1] in (["serve"], ["token"]):
         try:
             from sagas.server import command as service
         except ImportError as error:
@@ -37,17 +37,19 @@ def main(words: list[str] | None = None) -> int:
                 file=sys.stderr,
             )
             return 4
-        return service.main(words[1:]) if words[0] == "serve" else service.token(words[1:])
+        return (
+            service.main(arguments[1:]) if arguments[0] == "serve" else service.token(arguments[1:])
+        )
     try:
-        place = program.path()
+        path = program.path()
     except EngineError as error:
         print(f"sagas: {error}", file=sys.stderr)
         return 4
-    if words[:1] in ([word] for word in HELP) or (not words and sys.stdin.isatty()):
+    if arguments[:1] in ([word] for word in HELP) or (not arguments and sys.stdin.isatty()):
         sys.stdout.write(USAGE)
         sys.stdout.flush()
-        words = ["--help"]
-    os.execv(place, ["sagas", *words])
+        arguments = ["--help"]
+    os.execv(path, ["sagas", *arguments])
 
 
 if __name__ == "__main__":

@@ -134,7 +134,7 @@ def test_a_saga_from_its_start_to_its_end() -> None:
         assert (attempt.step, attempt.is_uncalled, saga.busy) == (
             step,
             True,
-            {attempt.word: attempt},
+            {attempt.action_key: attempt},
         )
         attempt.finish(outcomes.Outcome(outcomes.SUCCEEDED, str(step)), NOW)
         shard.report(attempt)

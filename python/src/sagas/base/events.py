@@ -88,8 +88,8 @@ def quoted(value: object) -> str:
     if text.isprintable():
         return text if PLAIN.match(text) else _quoted(text)
     return "".join(
-        one if one.isprintable() else json.dumps(one)[1:-1]
-        for one in json.dumps(text, ensure_ascii=False)
+        character if character.isprintable() else json.dumps(character)[1:-1]
+        for character in json.dumps(text, ensure_ascii=False)
     )
 
 
@@ -130,15 +130,15 @@ class EventEmitter:
         at = self._clock()
         level = LEVELS.get(name, logging.DEBUG) if level is None else level
         if logger.logger.isEnabledFor(level):
-            told = {"name": name, "at": at, "undo": False, **fields}
-            told = {field: value for field, value in told.items() if value is not None}
-            words = [
-                f"{field}={quoted(told[field])}"
+            logged = {"name": name, "at": at, "undo": False, **fields}
+            logged = {field: value for field, value in logged.items() if value is not None}
+            parts = [
+                f"{field}={quoted(logged[field])}"
                 for field in LOGGED_FIELDS
-                if told.get(field) or (field == "index" and field in told)
+                if logged.get(field) or (field == "index" and field in logged)
             ]
             logger.event(
-                level, name, " ".join(words), told, exception_info(error) if error else None
+                level, name, " ".join(parts), logged, exception_info(error) if error else None
             )
         if self._hook is not None:
             event = Event(name, at, **fields)

@@ -63,27 +63,27 @@ class OpenState:
     used nor closed by a process that was forked meanwhile.
     """
 
-    def __init__(self, what: str) -> None:
-        self._what, self._forks = what, -1
+    def __init__(self, subject: str) -> None:
+        self._what, self._forks = subject, -1
 
     @property
     def is_other_process(self) -> bool:
         """Whether the process that opened it is another one."""
         return self._forks not in (-1, private_descriptors.forks)
 
-    def begin(self, where: str) -> None:
+    def begin(self, operation: str) -> None:
         """It is about to be opened. Raises `RuntimeError` where it is open, and as `check`."""
-        self.check(where)
+        self.check(operation)
         if self._forks != -1:
             raise RuntimeError(
-                f"{where}: {self._what} is already open. Enter it once, and share it"
+                f"{operation}: {self._what} is already open. Enter it once, and share it"
             )
         self._forks = private_descriptors.forks
 
     @contextlib.contextmanager
-    def opening(self, where: str) -> Iterator[None]:
+    def opening(self, operation: str) -> Iterator[None]:
         """As `begin`; what fails within it means that it could not be opened."""
-        self.begin(where)
+        self.begin(operation)
         try:
             yield
         except BaseException:
@@ -94,10 +94,10 @@ class OpenState:
         """It is closed, or could not be opened."""
         self._forks = -1
 
-    def check(self, where: str) -> None:
+    def check(self, operation: str) -> None:
         """Raises `Closed` where another process opened it."""
         if self.is_other_process:
             raise Closed(
-                f"{where}: {self._what} was opened in another process, before a fork. Create "
+                f"{operation}: {self._what} was opened in another process, before a fork. Create "
                 "and open one in this process, after the fork"
             )

@@ -28,10 +28,15 @@ class GuardedLogger(logging.LoggerAdapter[logging.Logger]):
         try:
             super().log(level, msg, *args, stacklevel=2, **kwargs)
         except Exception:
-            _say()
+            _print_handler_error()
 
     def event(
-        self, level: int, name: str, words: str, told: dict[str, Any], error: ExceptionInfo | None
+        self,
+        level: int,
+        name: str,
+        text: str,
+        logged_fields: dict[str, Any],
+        error: ExceptionInfo | None,
     ) -> None:
         """Log an event with its fields, as `log` would. Where in this package that was, which each
         line would have to be looked up for, is here for all of them.
@@ -44,17 +49,17 @@ class GuardedLogger(logging.LoggerAdapter[logging.Logger]):
                 __file__,
                 0,
                 "%s %s",
-                (name, words),
+                (name, text),
                 error,
                 "event",
-                {"sagas": told},
+                {"sagas": logged_fields},
             )
             inner.handle(record)
         except Exception:
-            _say()
+            _print_handler_error()
 
 
-def _say() -> None:
+def _print_handler_error() -> None:
     """A handler raised: that goes to standard error."""
     with contextlib.suppress(Exception):
         print(

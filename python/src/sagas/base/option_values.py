@@ -26,29 +26,29 @@ def integer_from(least: int) -> Callable[[str], int]:
 
 def positive(text: str) -> float:
     """A number above 0. Raises `argparse.ArgumentTypeError`."""
-    found = _number(text)
-    if not 0 < found <= MAX_OPTION:
+    value = _number(text)
+    if not 0 < value <= MAX_OPTION:
         raise invalid(text, f"a number above 0, up to {MAX_OPTION}")
-    return found
+    return value
 
 
 def not_negative(text: str) -> float:
     """A number of 0 or more. Raises `argparse.ArgumentTypeError`."""
-    found = _number(text)
-    if not 0 <= found <= MAX_OPTION:
+    value = _number(text)
+    if not 0 <= value <= MAX_OPTION:
         raise invalid(text, f"a number from 0 to {MAX_OPTION}")
-    return found
+    return value
 
 
 def age(text: str) -> float:
     """Seconds, of a number and a unit: `30d`, `12h`."""
-    found = re.fullmatch(r"(\d{1,9})([smhdw])", text)
-    if not found:
+    match = re.fullmatch(r"(\d{1,9})([smhdw])", text)
+    if not match:
         raise argparse.ArgumentTypeError(
             f"invalid duration {text!r}: use an integer and a unit s, m, h, d or w, for "
             "example 30d"
         )
-    return float(int(found[1]) * UNITS[found[2]])
+    return float(int(match[1]) * UNITS[match[2]])
 
 
 def _number(text: str) -> float:

@@ -30,19 +30,19 @@ def release_paths(name: str) -> list[pathlib.Path]:
     return [HERE / "bin" / name, *(of_checkout if platform.system() == "Linux" else [])]
 
 
-def path(told: str | None = None) -> str:
+def path(explicit: str | None = None) -> str:
     """Where the program is: as told, or by `$SAGAS_PROGRAM`; else the one that came with the
     package, or the release of the checkout that this is in.
 
     Raises `EngineNotRunnable` where this machine cannot run it."""
-    told = told or os.environ.get("SAGAS_PROGRAM")
-    places = [pathlib.Path(told)] if told else release_paths("sagas")
-    for place in places:
-        if place.is_file():
-            check_runnable(str(place))
-            return str(place)
+    explicit = explicit or os.environ.get("SAGAS_PROGRAM")
+    candidates = [pathlib.Path(explicit)] if explicit else release_paths("sagas")
+    for candidate in candidates:
+        if candidate.is_file():
+            check_runnable(str(candidate))
+            return str(candidate)
     raise EngineError(
-        f"the program sagas does not exist: {places[0]}. Install the package again, "
+        f"the program sagas does not exist: {candidates[0]}. Install the package again, "
         "or set SAGAS_PROGRAM to its path"
     )
 
@@ -92,10 +92,10 @@ def _loader(head: bytes) -> str | None:
     """The loader that a program for Linux asks for; None where it asks for none, or that is not
     in its head."""
     start, size, count = struct.unpack_from("<Q", head, 32)[0], *struct.unpack_from("<HH", head, 54)
-    for at in range(start, min(start + size * count, len(head) - size + 1), size or 1):
+    for offset in range(start, min(start + size * count, len(head) - size + 1), size or 1):
         kind, begin, length = (
-            struct.unpack_from("<I", head, at)[0],
-            *struct.unpack_from("<QQQQ", head, at + 8)[::3],
+            struct.unpack_from("<I", head, offset)[0],
+            *struct.unpack_from("<QQQQ", head, offset + 8)[::3],
         )
         if kind == INTERPRETER:
             return head[begin : begin + length].rstrip(b"\0").decode(errors="replace") or None
@@ -142,22 +142,22 @@ class TextFiles:
         self.files: list[int] = []
         self.paths: list[str] = []
         self._folder: tempfile.TemporaryDirectory[str] | None = None
-        where = descriptors()
+        folder = descriptors()
         try:
-            if where is None:
+            if folder is None:
                 self._folder = tempfile.TemporaryDirectory(prefix="sagas-")
-            for place, text in enumerate(texts):
-                self._add(where, place, text.encode() if isinstance(text, str) else text)
+            for index, text in enumerate(texts):
+                self._add(folder, index, text.encode() if isinstance(text, str) else text)
         except BaseException:
             self.close()
             raise
 
-    def _add(self, where: str | None, place: int, data: bytes) -> None:
+    def _add(self, folder: str | None, index: int, data: bytes) -> None:
         if self._folder is None:
             self.files.append(memory_file("text", data))
-            self.paths.append(f"{where}/{self.files[-1]}")
+            self.paths.append(f"{folder}/{self.files[-1]}")
         else:
-            self.paths.append(os.path.join(self._folder.name, str(place)))
+            self.paths.append(os.path.join(self._folder.name, str(index)))
             pathlib.Path(self.paths[-1]).write_bytes(data)
 
     def close_passed_files(self) -> None:
@@ -177,18 +177,22 @@ def run(
     command: str, texts: Sequence[str], program: str | None = None, *, options: Sequence[str] = ()
 ) -> subprocess.CompletedProcess[str]:
     """Runs `sagas COMMAND OPTIONS` over these texts, in the order of its words."""
-    with contextlib.closing(TextFiles(texts)) as given:
-        done = run_to_end([program or path(), command, *options, *given.paths], given.files)
-    told = done.stdout.decode(), done.stderr.decode()
-    return subprocess.CompletedProcess(done.args, done.returncode, *told)
+    with contextlib.closing(TextFiles(texts)) as text_files:
+        process = run_to_end(
+            [program or path(), command, *options, *text_files.paths], text_files.files
+        )
+    output = process.stdout.decode(), process.stderr.decode()
+    return subprocess.CompletedProcess(process.args, process.returncode, *output)
 
 
-def run_to_end(words: list[str], files: Sequence[int] = ()) -> subprocess.CompletedProcess[bytes]:
+def run_to_end(
+    arguments: list[str], files: Sequence[int] = ()
+) -> subprocess.CompletedProcess[bytes]:
     """As `subprocess.run`, with what the program prints, where other threads may fork. `files`:
     descriptors that are handed to it."""
     with private_descriptors.without_forks():
         child = subprocess.Popen(
-            words,
+            arguments,
             stdin=subprocess.DEVNULL,
             stdout=subprocess.PIPE,
             stderr=subprocess.PIPE,
@@ -196,17 +200,17 @@ def run_to_end(words: list[str], files: Sequence[int] = ()) -> subprocess.Comple
         )
     with child:
         try:
-            told = child.communicate()
+            output = child.communicate()
         except BaseException:
             child.kill()
             raise
-    return subprocess.CompletedProcess(words, child.returncode, *told)
+    return subprocess.CompletedProcess(arguments, child.returncode, *output)
 
 
 def draw(definition: str, case: str | None = None, answer: str | None = None) -> str:
     """A definition's picture as text for Graphviz, with the states of a case and the marks of an
     answer where they are given."""
-    done = run("draw", [text for text in (definition, case, answer) if text is not None])
-    if done.returncode != 0:
-        raise EngineError((done.stdout + done.stderr).strip())
-    return done.stdout
+    process = run("draw", [text for text in (definition, case, answer) if text is not None])
+    if process.returncode != 0:
+        raise EngineError((process.stdout + process.stderr).strip())
+    return process.stdout

@@ -14,5 +14,7 @@ def escaped(text: str) -> str:
     return (
         text
         if text.isprintable()
-        else "".join(one if one.isprintable() else ascii(one)[1:-1] for one in text)
+        else "".join(
+            character if character.isprintable() else ascii(character)[1:-1] for character in text
+        )
     )

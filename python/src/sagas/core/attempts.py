@@ -202,11 +202,11 @@ class AttemptMachine:
             return CALL
         if due is None:
             returned = attempt.take_returned(FunctionOption.UNTIL)
-            is_reportable = callable(step.until) and returned is None
-            if is_reportable and attempt.lacks_values():
+            needs_call = callable(step.until) and returned is None
+            if needs_call and attempt.lacks_values():
                 return READ
             try:
-                if is_reportable:
+                if needs_call:
                     return Decision(Do.ASK, option_calls=until_call(attempt))
                 due = due_time(step.until if returned is None else returned.get(), now)
             except Exception as error:
@@ -223,8 +223,8 @@ class AttemptMachine:
         if isinstance(error, CannotDecode):
             outcome = Outcome(OutcomeKind.CANNOT_DECODE, str(error)[:MAX_TEXT])
             return self._park(attempt, outcome, now)
-        told = f"{type(error).__name__}: {error}"
-        outcome = failure(told, final=isinstance(error, Fail))
+        detail = f"{type(error).__name__}: {error}"
+        outcome = failure(detail, final=isinstance(error, Fail))
         return self.finish(attempt, outcome._replace(error=error), now)
 
     def decide_limits(self, attempt: Attempt, now: float) -> Decision:
@@ -269,10 +269,10 @@ class AttemptMachine:
         """
         if attempt.until is None:
             return None
-        most = MAX_SLEEP
+        longest = MAX_SLEEP
         if attempt.reason in COUNTED_DOWN:
-            most = max(MIN_PAUSE, attempt.manner.backoff.maximum, attempt.rare.pause)
-        return max(0.0, min(most, attempt.until - now))
+            longest = max(MIN_PAUSE, attempt.manner.backoff.maximum, attempt.rare.pause)
+        return max(0.0, min(longest, attempt.until - now))
 
     def timer(self, attempt: Attempt, now: float) -> Decision:
         """Decide how one goes on whose timer rang.
@@ -337,8 +337,8 @@ class AttemptMachine:
         if kind is OutcomeKind.ANSWERED:
             return self.finish(attempt, approval_outcome(outcome), now)
         if kind is OutcomeKind.SUCCEEDED and self._is_approval(attempt):
-            within = attempt.declared.approval_timeout
-            until = None if within is None else now + within.total_seconds()
+            timeout = attempt.declared.approval_timeout
+            until = None if timeout is None else now + timeout.total_seconds()
             return self._suspend(attempt, Suspension.APPROVAL, until, now)
         decision = None if kind is OutcomeKind.SUCCEEDED else after_failure(attempt, outcome, now)
         return decision or self.finish(attempt, outcome, now)
@@ -363,11 +363,11 @@ class AttemptMachine:
         rare.count += 1
         attempt.waiting_since = attempt.waiting_since or now
         attempt.outcome = outcome
-        most = manner.max_unknown
-        if isinstance(most, datetime.timedelta):
-            is_spent = now - attempt.waiting_since >= most.total_seconds()
+        limit = manner.max_unknown
+        if isinstance(limit, datetime.timedelta):
+            is_spent = now - attempt.waiting_since >= limit.total_seconds()
         else:
-            is_spent = most is not None and rare.count > most
+            is_spent = limit is not None and rare.count > limit
         rare.pause = max(MIN_PAUSE, manner.backoff.after(rare.count), yield_seconds(attempt))
         until = None if is_spent else now + rare.pause
         times = f"; {rare.count} times so far" if rare.count > 1 else ""
@@ -389,15 +389,15 @@ class AttemptMachine:
         person. Nothing counts as failed. Where only a blob store does not answer, it is tried again
         after a pause, which is told once.
         """
-        before, attempt.outcome = attempt.outcome, outcome
+        previous, attempt.outcome = attempt.outcome, outcome
         attempt.waiting_since = attempt.waiting_since or now
         is_due = attempt.is_wait and attempt.instance.rare.wait_ends.get(attempt.action_key) == 0
         until = None
         if isinstance(outcome.error, BlobUnavailable):
             attempt.rare.pause = min(MOST_UNREAD, max(LEAST_UNREAD, 2 * attempt.rare.pause))
             until = now + attempt.rare.pause
-            is_told = before is not None and before[:2] == outcome[:2] and attempt.has_row
-            if is_told and attempt.pending_row is None:
+            is_announced = previous is not None and previous[:2] == outcome[:2] and attempt.has_row
+            if is_announced and attempt.pending_row is None:
                 attempt.suspend(Suspension.CANNOT_DECODE, until)
                 return SLEEP
         attempt.suspend(Suspension.CANNOT_DECODE, until)
@@ -419,30 +419,30 @@ class AttemptMachine:
         and what waits for its back-off goes on now. If it was planned meanwhile, nothing is to be
         done. Asked once the commit is answered that has why it drains.
         """
-        found: AttemptDecisions = []
+        decisions: AttemptDecisions = []
         if not instance.draining:
-            return found
+            return decisions
         instance.rare.may_cancel_work = True
         for attempt in list(instance.busy.values()):
             if attempt.state is SUSPENDED and attempt.reason is Suspension.EXTERNAL:
                 if self._may_give_up(attempt):  # unless a worker has it by now
-                    found.append((attempt, WITHDRAW))
+                    decisions.append((attempt, WITHDRAW))
             elif attempt.state in (SUSPENDED, QUEUED) and self._may_give_up(attempt):
                 why = "not called: the saga is being undone"
-                found.append((attempt, self._give_up(attempt, why, now)))
+                decisions.append((attempt, self._give_up(attempt, why, now)))
             elif attempt.reason is Suspension.CHILD and not attempt.pending_row:
-                found.append((attempt, FOLLOW))  # which aborts the child, where that is meant
+                decisions.append((attempt, FOLLOW))  # which aborts the child, where that is meant
             elif attempt.state is not SUSPENDED or attempt.undo:
                 continue
             elif attempt.reason is Suspension.EXHAUSTED and not instance.aborted:
                 continue  # a person was asked, and may have done it by hand
             elif attempt.outcome and attempt.reason in AFTER_FAILURE:
-                found.append((attempt, self.finish(attempt, attempt.outcome, now)))
+                decisions.append((attempt, self.finish(attempt, attempt.outcome, now)))
             elif attempt.until is not None and attempt.reason in COUNTED_DOWN:
                 # its last attempt, or one whose outcome is unknown: to give it up would be a
                 # failure that was none
-                found.append((attempt, self._after_pause(attempt, now)))
-        return found
+                decisions.append((attempt, self._after_pause(attempt, now)))
+        return decisions
 
     def withdrawn(self, attempt: Attempt, now: float) -> Decision:
         """Decide on one that no worker has, and none gets, since its saga drains."""

@@ -122,9 +122,9 @@ class RareRows:
     def __getattr__(self, part: str) -> Any:
         if part.startswith("_"):
             raise AttributeError(part)
-        found: list[Any] = []
-        setattr(self, part, found)
-        return found
+        rows: list[Any] = []
+        setattr(self, part, rows)
+        return rows
 
     @property
     def parts(self) -> Iterable[str]:

@@ -48,11 +48,11 @@ def child_input(attempt: Attempt) -> Callable[[], Any]:
     return functools.partial(function, attempt.task())
 
 
-def _written(value: Any) -> str:
+def _written(end: Any) -> str:
     """A child's end as JSON. It adds levels to those of the child's results, which may have ends of
     children themselves."""
     try:
-        return serialization.write(value)
+        return serialization.write(end)
     except NotSerializable as error:
         return serialization.write({serialization.UNSTORABLE: str(error)})
 
@@ -118,12 +118,12 @@ def child_outcome(end: SagaEnd, kind: Kind, results: Mapping[int, str]) -> Outco
         return None
     if end.phase == SagaPhase.COMPLETED:
         decode = kind.payloads.decode
-        told = {
+        child_results = {
             kind.names[step]: serialization.read(decode(value)) for step, value in results.items()
         }
-        value = {"key": end.key, "phase": end.phase, "results": told}
+        value = {"key": end.key, "phase": end.phase, "results": child_results}
         return Outcome(SUCCEEDED, _written(value))
     aborted = " (aborted)" if end.aborted else ""
     failed = [f"{step}: {error}" for step, error in end.errors.items()]
-    told_errors = f". {'; '.join(failed)}" if failed else ""
-    return failure(f"child saga {end.key!r} has not completed: {end.phase}{aborted}{told_errors}")
+    error_text = f". {'; '.join(failed)}" if failed else ""
+    return failure(f"child saga {end.key!r} has not completed: {end.phase}{aborted}{error_text}")

@@ -38,12 +38,12 @@ def has_nothing_to_undo(attempt: Attempt) -> bool:
     if not step.is_collected and step.child is None:
         return False
     try:
-        own = attempt.own
+        stored_result = attempt.own
     except CannotDecode:  # the attempt is suspended for that when its values are read
         return False
-    if own is None:
+    if stored_result is None:
         return False
-    result = serialization.read(own)
+    result = serialization.read(stored_result)
     if step.child is not None:
         return child_results.is_none(result)
     return serialization.failed(result) is not None
@@ -68,8 +68,8 @@ def _undone_before(attempt: Attempt) -> Sequence[str]:
     """The steps of the child that its saga need not undo, as its input says."""
     instance = attempt.instance
     try:
-        given = serialization.read(instance.kind.payloads.decode(instance.text))
+        saga_input = serialization.read(instance.kind.payloads.decode(instance.text))
     except CannotDecode:  # the attempt is suspended for that when its values are read
         return ()
-    undone: Sequence[str] = given.get("undone", ()) if isinstance(given, dict) else ()
+    undone: Sequence[str] = saga_input.get("undone", ()) if isinstance(saga_input, dict) else ()
     return undone

@@ -58,13 +58,13 @@ def until_call(attempt: Attempt) -> OptionCalls:
 def limit_subjects(attempt: Attempt) -> list[FunctionOption]:
     """Return what has to be asked before the limits of a step can count an attempt: the tenant of
     its saga, and the key of the limits."""
-    found, instance, extras = list[FunctionOption](), attempt.instance, attempt.extras
+    options, instance, extras = list[FunctionOption](), attempt.instance, attempt.extras
     if instance.kind.fair_by is not None and instance.tenant is None:
-        found.append(FunctionOption.TENANT)
+        options.append(FunctionOption.TENANT)
     is_keyed = not attempt.undo and attempt.declared.concurrency_by is not None
     if is_keyed and (extras is None or extras.limit_key is None):
-        found.append(FunctionOption.LIMIT_KEY)
-    return found
+        options.append(FunctionOption.LIMIT_KEY)
+    return options
 
 
 def limit_calls(attempt: Attempt, subjects: Iterable[FunctionOption]) -> OptionCalls:
@@ -107,6 +107,6 @@ def due_time(until: Until | Any, now: float) -> float:
         return until.timestamp()
     is_text, is_naive = isinstance(until, str), isinstance(until, datetime.datetime)
     remedy = ". Convert the text with datetime.datetime.fromisoformat" if is_text else ""
-    told = "a datetime without a time zone" if is_naive else type(until).__name__
+    description = "a datetime without a time zone" if is_naive else type(until).__name__
     rule = "it must be a timedelta or a datetime with a time zone"
-    raise TypeError(f"until returned {told}: {rule}{remedy}")
+    raise TypeError(f"until returned {description}: {rule}{remedy}")

@@ -84,17 +84,17 @@ class Order:
         return {field.name: getattr(self, field.name) for field in dataclasses.fields(self)}
 
     @classmethod
-    def read(cls, told: OrderMessage) -> Order:
+    def read(cls, message: OrderMessage) -> Order:
         """What `written` wrote. Raises `KeyError` or `TypeError` where it is no order."""
-        results = {name: _of(value) for name, value in told["results"].items()}
-        declared = told.get("declared")
-        made: OrderMessage = {"results": results, "result": _of(told["result"])}
-        made["declared"] = Declared(*declared) if declared else None
-        return cls(**told | made)
+        results = {name: _of(value) for name, value in message["results"].items()}
+        declared = message.get("declared")
+        fields: OrderMessage = {"results": results, "result": _of(message["result"])}
+        fields["declared"] = Declared(*declared) if declared else None
+        return cls(**message | fields)
 
 
-def _of(told: Any) -> Any:
-    return Position(*told) if isinstance(told, list) else told
+def _of(value: Any) -> Any:
+    return Position(*value) if isinstance(value, list) else value
 
 
 def saga_id(log: int, number: int) -> int:

@@ -109,7 +109,7 @@ def stored(saga: SagaInstance, word: Word) -> Outcome | None:
     return Outcome(EARLY_OUTCOMES[reason], text)
 
 
-def due_reports(sagas: Iterable[SagaInstance], lot: Iterable[Attempt]) -> list[DueReport]:
+def due_reports(sagas: Iterable[SagaInstance], attempts: Iterable[Attempt]) -> list[DueReport]:
     """Return the reports that are committed before their sagas begin to recover: then they are
     compensated as any other. What needs such a step is due behind it.
 
@@ -117,23 +117,25 @@ def due_reports(sagas: Iterable[SagaInstance], lot: Iterable[Attempt]) -> list[D
         sagas: The sagas that are about to recover, as far as is known.
         lot: The attempts that are reported before that.
     """
-    found: list[DueReport] = []
+    reports: list[DueReport] = []
     for saga in dict.fromkeys(sagas):
         if not saga.has_early or saga.aborted or saga.draining or saga.answer is not None:
             continue
         done = {*saga.results}
         done |= {
-            one.step for one in lot if one.instance is saga and is_success(one) and not one.undo
+            attempt.step
+            for attempt in attempts
+            if attempt.instance is saga and is_success(attempt) and not attempt.undo
         }
         left = [word for word in saga.rare.early_reports if _may_begin(saga, word)]
         while ready := [word for word in left if done >= {*saga.kind.below[word[0]]}]:
             for word in ready:
                 reason, text = saga.rare.early_reports[word]
                 if reason is EarlyReason.RESULT:
-                    found.append(DueReport(saga, word, Outcome(SUCCEEDED, text, encoded=True)))
+                    reports.append(DueReport(saga, word, Outcome(SUCCEEDED, text, encoded=True)))
                     done.add(word[0])
             left = [word for word in left if word not in ready]
-    return found
+    return reports
 
 
 def is_success(attempt: Attempt) -> bool:
@@ -149,15 +151,15 @@ def unused(saga: SagaInstance) -> list[int]:
     """Return the steps of a saga that is over whose success was reported, and not used. An approval
     has nothing to be undone.
     """
-    return [step for step in _left(saga) if not _has_no_effect(saga, step)]
+    return [step for step in _unused_successes(saga) if not _has_no_effect(saga, step)]
 
 
 def steps_without_effect(saga: SagaInstance) -> list[int]:
     """As `unused`, the steps that have nothing to be undone."""
-    return [step for step in _left(saga) if _has_no_effect(saga, step)]
+    return [step for step in _unused_successes(saga) if _has_no_effect(saga, step)]
 
 
-def _left(saga: SagaInstance) -> list[int]:
+def _unused_successes(saga: SagaInstance) -> list[int]:
     early = saga.rare.early_reports if saga.has_early else {}
     return sorted(step for (step, _), (reason, _) in early.items() if reason is EarlyReason.RESULT)
 
@@ -175,14 +177,14 @@ def taken_outcome(attempt: Attempt) -> Outcome | None:
         None where nothing is stored for it; one of the kind `CANNOT_DECODE` where the codec cannot
         read it.
     """
-    found = None if attempt.undo else stored(attempt.instance, attempt.action_key)
-    if found is None:
+    report = None if attempt.undo else stored(attempt.instance, attempt.action_key)
+    if report is None:
         return None
     attempt.has_row = True
-    if found.kind is not SUCCEEDED:
-        return found
+    if report.kind is not SUCCEEDED:
+        return report
     try:
-        return found._replace(value=attempt.instance.kind.payloads.decode(found.value))
+        return report._replace(value=attempt.instance.kind.payloads.decode(report.value))
     except CannotDecode as error:
         return Outcome(OutcomeKind.CANNOT_DECODE, str(error)[:MAX_TEXT])
 
@@ -193,9 +195,9 @@ def effects(driver: ShardDriver, report: EarlyReport | Refusal, now: float) -> E
     Raises:
         NotSerializable: The codec failed.
     """
-    found = driver.effects(now)
+    result = driver.effects(now)
     if isinstance(report, EarlyReport):
-        found.batch.rare_rows.held.append(report.row(now))
-        found.batch.answer(report.request, "true")
-    found.rare_effects.early.append(report)
-    return found
+        result.batch.rare_rows.held.append(report.row(now))
+        result.batch.answer(report.request, "true")
+    result.rare_effects.early.append(report)
+    return result

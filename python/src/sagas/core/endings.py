@@ -13,7 +13,7 @@ from sagas.core.model import Attempt, SagaInstance
 from sagas.core.outcomes import SUCCEEDED
 
 
-def expected_endings(lot: Sequence[Attempt]) -> tuple[int, list[int]]:
+def expected_endings(attempts: Sequence[Attempt]) -> tuple[int, list[int]]:
     """Return what is expected to follow these reports.
 
     Args:
@@ -25,22 +25,22 @@ def expected_endings(lot: Sequence[Attempt]) -> tuple[int, list[int]]:
     """
     planned: set[SagaInstance] = set()
     over: dict[int, None] = {}
-    undone: dict[SagaInstance, int] = {}
-    for attempt in lot:
+    undone_counts: dict[SagaInstance, int] = {}
+    for attempt in attempts:
         saga, action, outcome = attempt.instance, attempt.action, attempt.outcome
         is_good = outcome is not None and outcome.kind is SUCCEEDED
         if is_good and action.undo:
-            undone[saga] = undone.get(saga, 0) + 1
+            undone_counts[saga] = undone_counts.get(saga, 0) + 1
         if saga.busy:
             continue
         is_last = attempt.attempt >= saga.kind.tries[attempt.kind][attempt.step]
         if saga.draining or (is_last and not is_good):
             planned.add(saga)
-        standing = len(saga.results) - undone.get(saga, 0)
+        committed = len(saga.results) - undone_counts.get(saga, 0)
         if is_good and not action.undo:
-            is_over = standing + 1 == len(saga.kind.names)
+            is_over = committed + 1 == len(saga.kind.names)
         else:
-            is_over = standing <= len((saga.answer or {}).get("kept", ()))
+            is_over = committed <= len((saga.answer or {}).get("kept", ()))
         if is_over:
             over[saga.number] = None
     return len(planned), [*over]

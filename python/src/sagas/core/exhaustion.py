@@ -36,19 +36,19 @@ def after_failure(attempt: Attempt, outcome: Outcome, now: float) -> Decision | 
         return None
     if attempt.instance.draining and not attempt.undo:
         return None
-    made = attempt.attempt + attempt.failures
-    repeats = manner.on_exhausted == "retry" or made < (manner.max_attempts or tries)
+    attempts_made = attempt.attempt + attempt.failures
+    repeats = manner.on_exhausted == "retry" or attempts_made < (manner.max_attempts or tries)
     if manner.on_exhausted == "fail" and (is_final or not repeats):
         return None
-    told = json.loads(outcome.value)
-    detail = str(told.get("error", ""))[:MAX_TEXT]
+    failure = json.loads(outcome.value)
+    detail = str(failure.get("error", ""))[:MAX_TEXT]
     attempt.rare.failures += 1
     attempt.waiting_since, attempt.outcome = attempt.waiting_since or now, outcome
     if is_final or not repeats:
         attempt.suspend(Suspension.EXHAUSTED)
         row = SuspensionRow(Suspension.EXHAUSTED, None, detail)
         return Decision(Do.SUSPEND, row, event=("step_exhausted", detail))
-    pause = told.get("retry_after", manner.backoff.after(made))
+    pause = failure.get("retry_after", manner.backoff.after(attempts_made))
     attempt.rare.pause = max(MIN_PAUSE, pause)
     attempt.suspend(Suspension.RETRY, now + attempt.rare.pause)
     row = SuspensionRow(Suspension.RETRY, attempt.until, detail)
@@ -57,15 +57,15 @@ def after_failure(attempt: Attempt, outcome: Outcome, now: float) -> Decision | 
 
 def backoff_seconds(attempt: Attempt, now: float) -> float:
     """Seconds until it is called; where the clock jumped back, no more than the pause."""
-    missed = attempt.instance.rare.failed_at.get(attempt.action_key)
-    if missed is None:
+    failed_at = attempt.instance.rare.failed_at.get(attempt.action_key)
+    if failed_at is None:
         return 0.0
-    wanted = attempt.instance.rare.retry_pauses.get(attempt.action_key)
-    if wanted is None:
-        wanted = attempt.manner.backoff.after(attempt.attempt - 1)
+    pause = attempt.instance.rare.retry_pauses.get(attempt.action_key)
+    if pause is None:
+        pause = attempt.manner.backoff.after(attempt.attempt - 1)
     else:
-        attempt.rare.pause = wanted
-    return min(wanted, missed + wanted - now)
+        attempt.rare.pause = pause
+    return min(pause, failed_at + pause - now)
 
 
 def yield_seconds(attempt: Attempt) -> float:

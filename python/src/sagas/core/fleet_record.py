@@ -119,47 +119,61 @@ class ShardRecord:
             ends: The edges at which ends of sagas were acknowledged, each with the number of
                 events that the end rests on.
         """
-        left, places = deque(chunks), deque(self._completed(takeovers, chunks))
-        times = {timeline, *(one.timeline for one in takeovers)}
-        times |= {line.timeline for line in self._unplaced}
-        for time in sorted(time for time in times if time <= timeline):
-            while places and places[0].timeline == time:
-                one = places.popleft()
-                self._write_before(one, left, time)
+        unplaced, pending = deque(chunks), deque(self._completed(takeovers, chunks))
+        timelines = {timeline, *(takeover.timeline for takeover in takeovers)}
+        timelines |= {line.timeline for line in self._unplaced}
+        for server_timeline in sorted(
+            server_timeline for server_timeline in timelines if server_timeline <= timeline
+        ):
+            while pending and pending[0].timeline == server_timeline:
+                takeover = pending.popleft()
+                self._write_before(takeover, unplaced, server_timeline)
                 self._begin(
-                    one.epoch, time, self._unplaced.pop(SessionName(one.run, one.epoch, time), None)
+                    takeover.epoch,
+                    server_timeline,
+                    self._unplaced.pop(
+                        SessionName(takeover.run, takeover.epoch, server_timeline), None
+                    ),
                 )
             if self._sessions:  # what is there was written before another server took over
-                self._write_before(places[0] if places else None, left, time)
-            if time != timeline and self._is_known(time):
-                self._move(time)
+                self._write_before(pending[0] if pending else None, unplaced, server_timeline)
+            if server_timeline != timeline and self._is_known(server_timeline):
+                self._move(server_timeline)
         self._end(ends)
 
     def _completed(self, takeovers: Sequence[Takeover], chunks: Sequence[Chunk]) -> list[Takeover]:
         """The takeovers, and of each what was before it. Of one that did not look it is what its
         node read; if that is not recorded, all that is older by its epoch, and before the next one.
         """
-        found, bound = list[Takeover](), NO_SESSION
-        for one in reversed(takeovers):
-            last = one.last
+        completed, next_last = list[Takeover](), NO_SESSION
+        for takeover in reversed(takeovers):
+            last = takeover.last
             if last is None:
-                notes = self._unplaced.get(SessionName(one.run, one.epoch, one.timeline), ())
-                read = next((note.number for note in notes if note.event == "took"), None)
+                notes = self._unplaced.get(
+                    SessionName(takeover.run, takeover.epoch, takeover.timeline), ()
+                )
+                events_read = next((note.number for note in notes if note.event == "took"), None)
                 last = NO_CHUNK
                 for chunk in chunks:
-                    is_before = chunk.epoch < one.epoch if read is None else chunk.end <= read
-                    if not is_before or chunk.first > bound:
+                    is_before = (
+                        chunk.epoch < takeover.epoch
+                        if events_read is None
+                        else chunk.end <= events_read
+                    )
+                    if not is_before or chunk.first > next_last:
                         break
                     last = chunk.first
-            bound = last
-            found.append(one._replace(last=last))
-        return found[::-1]
+            next_last = last
+            completed.append(takeover._replace(last=last))
+        return completed[::-1]
 
-    def _write_before(self, one: Takeover | None, left: deque[Chunk], timeline: str) -> None:
+    def _write_before(
+        self, takeover: Takeover | None, unplaced: deque[Chunk], timeline: str
+    ) -> None:
         """Place the chunks that the database has before a takeover; all, if there is none."""
-        last = NO_SESSION if one is None or one.last is None else one.last
-        while left and left[0].first <= last:
-            self._place_chunk(left.popleft(), timeline)
+        last = NO_SESSION if takeover is None or takeover.last is None else takeover.last
+        while unplaced and unplaced[0].first <= last:
+            self._place_chunk(unplaced.popleft(), timeline)
 
     def _is_known(self, timeline: str) -> bool:
         """Whether anything is known of a server's time."""
@@ -180,8 +194,8 @@ class ShardRecord:
         has one.
         """
         read, digest = len(self._ends) - 1, self._digests[-1]
-        if first := next((one for one in notes or () if one.event == "took"), None):
-            read, digest = self._chunks(first.number), first.digest
+        if start := next((note for note in notes or () if note.event == "took"), None):
+            read, digest = self._chunks(start.number), start.digest
         session = _Session(len(self._sessions), read, notes or deque())
         self._sessions.append(session)
         self._by_epoch[epoch, timeline] = session
@@ -255,9 +269,11 @@ class ShardRecord:
         self._lines.append(f"heard {session.number}")
         session.known, session.requested, session.stage = known, 0, "idle"
 
-    def _acknowledge(self, session: _Session | None, telling: Acknowledgement) -> None:
-        self._lines.append(f"told {session.number if session else NO_SESSION} {telling.chunks}")
-        self._acknowledgements.append(telling)
+    def _acknowledge(self, session: _Session | None, acknowledgement: Acknowledgement) -> None:
+        self._lines.append(
+            f"told {session.number if session else NO_SESSION} {acknowledgement.chunks}"
+        )
+        self._acknowledgements.append(acknowledgement)
 
     def _place_unknown(self, line: SessionName, notes: Iterable[RecordNote]) -> None:
         """A session that the database does not have: no program may have an answer that it began,
@@ -273,18 +289,20 @@ class ShardRecord:
         """Return how many chunks hold these events; one more than all if they do not."""
         return bisect.bisect_left(self._ends, events)
 
-    def _place_end(self, telling: Acknowledgement) -> None:
+    def _place_end(self, acknowledgement: Acknowledgement) -> None:
         """An end that was acknowledged: it is known to the first session that has it; or to the
         one that wrote it, since the database has shown it as done.
         """
-        known = (one for one in self._sessions if one.known >= telling.chunks)
+        known = (
+            candidate for candidate in self._sessions if candidate.known >= acknowledgement.chunks
+        )
         session = next(known, None)
         if session is None:
-            last = [one for one in self._sessions if one.stage == "done"]
-            session = last[-1] if last else None
+            finished = [candidate for candidate in self._sessions if candidate.stage == "done"]
+            session = finished[-1] if finished else None
             if session:
                 self._place_heard(session)
-        self._acknowledge(session, telling)
+        self._acknowledge(session, acknowledgement)
 
     # -- another server
 
@@ -292,7 +310,7 @@ class ShardRecord:
         """Another server takes over, which has what is placed so far. What programs heard of the
         one before beyond that stands before it.
         """
-        had, epoch = len(self._ends) - 1, self._epoch
+        chunk_count, epoch = len(self._ends) - 1, self._epoch
         for session in self._sessions:
             self._lose(session)
         lines = [line for line in self._unplaced if line.timeline == timeline]
@@ -304,12 +322,16 @@ class ShardRecord:
             for between in range(self._epoch + 1, line.epoch):  # no program noted them
                 self._begin(between, timeline, None)
             self._lose(self._begin(line.epoch, timeline, notes))
-        self._lines.append(f"moved {had} {epoch}")
-        if lost := [one for one in self._acknowledgements if one.chunks > had]:
-            self.losses.append(Loss(had, lost))
+        self._lines.append(f"moved {chunk_count} {epoch}")
+        if lost := [
+            acknowledgement
+            for acknowledgement in self._acknowledgements
+            if acknowledgement.chunks > chunk_count
+        ]:
+            self.losses.append(Loss(chunk_count, lost))
         self._acknowledgements = []
         self._epoch = epoch
-        del self._ends[had + 1 :], self._digests[had + 1 :]
+        del self._ends[chunk_count + 1 :], self._digests[chunk_count + 1 :]
 
     def _lose(self, session: _Session) -> None:
         """Place what the server confirmed to a session, and the database does not have any more.

@@ -28,18 +28,18 @@ class Signer:
 
     def issue(self, token: str, number: int, holder: str) -> str:
         """The lease of this number, for the attempt with this token, to this holder."""
-        told = f"{token}\n{number}\n{holder}".encode("utf-8", "surrogatepass")
+        signed_text = f"{token}\n{number}\n{holder}".encode("utf-8", "surrogatepass")
         signature = self._keyed.copy()
-        signature.update(told)
+        signature.update(signed_text)
         return f"{number}.{signature.hexdigest()[:SIGNATURE_DIGITS]}"
 
     def number(self, token: str, lease: str, holder: str) -> int:
         """A lease's number. Raises `InvalidLease` where it was not given for this attempt to this
         holder."""
-        found = LEASE_PATTERN.fullmatch(lease)
-        number = int(found[1]) if found else 0
-        good = self.issue(token, number, holder)
-        if found is None or not hmac.compare_digest(good.encode(), lease.encode()):
+        match = LEASE_PATTERN.fullmatch(lease)
+        number = int(match[1]) if match else 0
+        expected = self.issue(token, number, holder)
+        if match is None or not hmac.compare_digest(expected.encode(), lease.encode()):
             raise InvalidLease(
                 "this lease was not issued to you for this task. Nothing was recorded. "
                 "Report the task with the attempt id and the lease of its claim"

@@ -70,9 +70,9 @@ class Slots:
         """Take slots for so many attempts that wait for nothing else, or as many as there are;
         return how many.
         """
-        left = self.capacity - self.running
-        if count > left:
-            count = max(0, left)
+        available = self.capacity - self.running
+        if count > available:
+            count = max(0, available)
         self.running += count
         if self.is_fair:
             self._queued.begin(None, count)
@@ -126,7 +126,7 @@ class Slots:
     def cancel(self, attempt: Attempt) -> None:
         """Let it wait no more; its place under its step's limit is for the next."""
         self._queued.discard(attempt)
-        limit = self._limits.get(at := _limit_of(attempt))
+        limit = self._limits.get(key := _limit_of(attempt))
         if limit is None or attempt not in limit[0]:
             return
         inside, queue = limit
@@ -138,7 +138,7 @@ class Slots:
                 self.request_slot(following)
                 return
         if not inside:
-            del self._limits[at]
+            del self._limits[key]
 
     def is_waiting(self, attempt: Attempt) -> bool:
         """Whether it waits for a slot."""

@@ -83,8 +83,8 @@ def succeeded(value: Any, task: Task[Any] | None = None) -> Outcome:
             return Outcome(ANSWERED, value.written())
         if inspect.isawaitable(value):
             raise Unawaited(value) from None
-        whose = f" key={quoted(task.key)} saga={task.saga} step={task.step}" if task else ""
-        logger.warning("result_unstorable%s detail=%s", whose, quoted(error))
+        subject = f" key={quoted(task.key)} saga={task.saga} step={task.step}" if task else ""
+        logger.warning("result_unstorable%s detail=%s", subject, quoted(error))
         return Outcome(SUCCEEDED, json.dumps({"unstorable": str(error)[:MAX_TEXT]}))
 
 
@@ -108,14 +108,14 @@ def failure(
         called: Whether the function was called; else the attempt was given up.
         retry_after: Seconds until the next attempt, in place of the step's back-off.
     """
-    told: dict[str, Any] = {"error": text[:MAX_TEXT]}
+    detail: dict[str, Any] = {"error": text[:MAX_TEXT]}
     if final:
-        told["final"] = True
+        detail["final"] = True
     if not called:
-        told["called"] = False
+        detail["called"] = False
     if retry_after is not None:
-        told["retry_after"] = retry_after
-    return Outcome(PERMANENT if final else FAILED, serialization.write(told), called)
+        detail["retry_after"] = retry_after
+    return Outcome(PERMANENT if final else FAILED, serialization.write(detail), called)
 
 
 def values_unavailable(error: BlobUnavailable) -> Outcome:
@@ -178,7 +178,7 @@ def classify(error: BaseException, unknown: Unknowns) -> OutcomeKind:
     if isinstance(error, (Unknown, *unknown)):
         return UNKNOWN
     if isinstance(error, BaseExceptionGroup):
-        kinds = {classify(one, unknown) for one in error.exceptions}
+        kinds = {classify(member, unknown) for member in error.exceptions}
         return next(kind for kind in PRECEDENCE if kind in kinds)
     return FAILED if isinstance(error, Exception) else UNKNOWN  # sys.exit() in the middle, say
 
@@ -186,7 +186,7 @@ def classify(error: BaseException, unknown: Unknowns) -> OutcomeKind:
 def describe_error(error: BaseException) -> str:
     """Return an exception as a line; of a group each one."""
     if isinstance(error, BaseExceptionGroup):
-        return "; ".join(describe_error(one) for one in error.exceptions)
+        return "; ".join(describe_error(member) for member in error.exceptions)
     if isinstance(error, SyntaxError) or getattr(error, "__notes__", None):
         return "".join(traceback.format_exception_only(type(error), error)).strip()
     return _line_of(error)
@@ -233,10 +233,10 @@ def unknown_hint(error: BaseException | None, manner: Manner) -> str:
 
 def approval_outcome(outcome: Outcome) -> Outcome:
     """Return how an approval ended whose function decided it."""
-    told = json.loads(outcome.value)
-    if "rejected" in told:
-        return failure(told["rejected"], final=True)
-    value = json.dumps(told["approved"], separators=(",", ":"), sort_keys=True)
+    answer = json.loads(outcome.value)
+    if "rejected" in answer:
+        return failure(answer["rejected"], final=True)
+    value = json.dumps(answer["approved"], separators=(",", ":"), sort_keys=True)
     return Outcome(SUCCEEDED, value)
 
 

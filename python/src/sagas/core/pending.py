@@ -35,15 +35,15 @@ def missing_definition(saga: str, version: int, nodes: Sequence[str]) -> str:
 
 def _wait_text(name: str, undo: bool, reason: str, until: float | None) -> str:
     """A step whose attempt is suspended, and why."""
-    told = f"waits for {WAITS_FOR.get(reason, reason)}"
+    text = f"waits for {WAITS_FOR.get(reason, reason)}"
     if reason == Suspension.UNKNOWN and until is None:
         how = f"complete or fail{' with undo=True' if undo else ''}"
-        told = f"has an unknown outcome and waits for a person ({how})"
+        text = f"has an unknown outcome and waits for a person ({how})"
     elif reason == Suspension.EXHAUSTED:
-        told += f" (retry, complete or fail{' with undo=True' if undo else ''})"
+        text += f" (retry, complete or fail{' with undo=True' if undo else ''})"
     elif reason == Suspension.CANNOT_DECODE:
-        told += " (see attention)"
-    return f"{_of(undo)}{name} {told}"
+        text += " (see attention)"
+    return f"{_of(undo)}{name} {text}"
 
 
 def _of(undo: bool) -> str:
@@ -52,20 +52,20 @@ def _of(undo: bool) -> str:
 
 def live_waits(instance: SagaInstance | None) -> list[str]:
     """Return what a saga waits for that is driven here."""
-    found = []
+    waits = []
     for attempt in instance.busy.values() if instance else ():
         if attempt.state is SUSPENDED:
             reason = str(attempt.reason)
-            found.append(_wait_text(attempt.name, attempt.undo, reason, attempt.until))
+            waits.append(_wait_text(attempt.name, attempt.undo, reason, attempt.until))
         elif attempt.state is RUNNING:
-            found.append(f"{_of(attempt.undo)}{attempt.name} runs")
+            waits.append(f"{_of(attempt.undo)}{attempt.name} runs")
         elif attempt.extras and attempt.extras.called_options:
-            found.append(
+            waits.append(
                 f"{_of(attempt.undo)}{attempt.name} waits for {attempt.extras.called_options}"
             )
         elif attempt.state is QUEUED:
-            found.append(f"{_of(attempt.undo)}{attempt.name} waits for {WAITS_FOR['slot']}")
-    return found
+            waits.append(f"{_of(attempt.undo)}{attempt.name} waits for {WAITS_FOR['slot']}")
+    return waits
 
 
 def stored_waits(names: Sequence[str], rows: Iterable[tuple[Any, ...]]) -> list[str]:

@@ -27,9 +27,11 @@ def _active(attempt: Attempt, now: float) -> ActiveAttempt:
         until = attempt.until
     elif waits == Suspension.EXTERNAL and attempt.lease:
         until = attempt.lease.until
-    told = attempt.extras.control.progress if attempt.extras and attempt.extras.control else None
+    reported = (
+        attempt.extras.control.progress if attempt.extras and attempt.extras.control else None
+    )
     return ActiveAttempt(
-        attempt.name, attempt.undo, attempt.attempt, waits, until, *(told or (None, None))
+        attempt.name, attempt.undo, attempt.attempt, waits, until, *(reported or (None, None))
     )
 
 

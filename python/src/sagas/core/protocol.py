@@ -35,9 +35,9 @@ STATES = ',"states":['
 PLANNED = '"kind":"plan"'
 
 
-def open_line(place: int, number: int) -> str:
+def open_line(definition_index: int, number: int) -> str:
     """Opens the saga of this number, with the definition at this place."""
-    return f'{{"def":{place},"do":"open","saga":{number}}}'
+    return f'{{"def":{definition_index},"do":"open","saga":{number}}}'
 
 
 def define_line(text: str) -> str | None:
@@ -46,11 +46,11 @@ def define_line(text: str) -> str | None:
     return line if len(line) <= MAX_REQUEST else None
 
 
-def is_defined(reply: str, place: int) -> bool:
+def is_defined(reply: str, definition_index: int) -> bool:
     """Whether a definition has this place now. A program that does not know the request, or has no
     room, says otherwise.
     """
-    return reply == f'{{"def":{place}}}'
+    return reply == f'{{"def":{definition_index}}}'
 
 
 def report_line(saga: int, step: int, task: str, attempt: int, ok: bool) -> str:
@@ -76,9 +76,9 @@ def show_line(saga: int) -> str:
     return f'{{"do":"show","saga":{saga}}}'
 
 
-def next_line(most: int) -> str:
+def next_line(count: int) -> str:
     """Takes so many tasks."""
-    return f'{{"do":"next","most":{most}}}'
+    return f'{{"do":"next","most":{count}}}'
 
 
 def event_and_phase(reply: str) -> tuple[str, str] | None:
@@ -100,23 +100,23 @@ def tasks_in(reply: str) -> list[tuple[int, int, str, int]] | None:
     """Of the tasks of a reply to `next`, where there is no plan among them: saga, step, `run` or
     `undo`, attempt.
     """
-    _, there, told = reply.partition(TASKS)
-    if not there or PLAN in told:
+    _, separator, tasks_text = reply.partition(TASKS)
+    if not separator or PLAN in tasks_text:
         return None
-    found = []
-    for task in told[:-3].split("},{"):
-        attempt, _, saga, step, word = task.split(
+    tasks = []
+    for task in tasks_text[:-3].split("},{"):
+        attempt, _, saga, step, task_kind = task.split(
             ","
         )  # a step's name has letters, digits, _ and - alone
-        found.append(
+        tasks.append(
             (
                 int(saga[7:]),
                 int(step[7:]),
-                "undo" if word == UNDO else "run",
+                "undo" if task_kind == UNDO else "run",
                 1 if attempt == FIRST else int(attempt[10:]),
             )
         )
-    return found
+    return tasks
 
 
 def phase_and_end(reply: str) -> tuple[str, str]:

@@ -72,24 +72,24 @@ class Records:
         Raises:
             BadLine: It is none.
         """
-        what, *words = line.split(" ")
-        if what == "sagas-record":
-            if words[:1] != ["1"]:
+        event, *fields = line.split(" ")
+        if event == "sagas-record":
+            if fields[:1] != ["1"]:
                 raise InvalidLine("its format is not 1")
             return
-        if FIELDS.get(what) != 1 + len(words):
+        if FIELDS.get(event) != 1 + len(fields):
             raise InvalidLine("it is no event")
-        if what == SEEN:
-            self.seen.setdefault(_number(words[1]), set()).add(words[2])
+        if event == SEEN:
+            self.seen.setdefault(_number(fields[1]), set()).add(fields[2])
             return
-        run, shard, epoch, timeline, *rest = words
-        at = SessionName(run, _number(epoch), timeline)
-        if what == "told":
-            note = RecordNote(what, _number(rest[0]), edge=rest[1])
+        run, shard, epoch, timeline, *rest = fields
+        session = SessionName(run, _number(epoch), timeline)
+        if event == "told":
+            note = RecordNote(event, _number(rest[0]), edge=rest[1])
         else:
             numbers = [*map(_number, rest), 0, 0]
-            note = RecordNote(what, numbers[0], numbers[1])
-        self._put(_number(shard), at, note)
+            note = RecordNote(event, numbers[0], numbers[1])
+        self._put(_number(shard), session, note)
 
     def shards(self) -> Iterable[int]:
         """Return the shards that have a note."""
@@ -102,21 +102,24 @@ class Records:
 
     def ends(self, first: int, end: int) -> list[tuple[int, str]]:
         """Return the sagas from `first` to before `end` with acknowledged ends, and the edges."""
-        found = ((id, edge) for id, edges in self.seen.items() for edge in sorted(edges))
-        return sorted((id, edge) for id, edge in found if first <= id < end)
+        pairs = ((id, edge) for id, edges in self.seen.items() for edge in sorted(edges))
+        return sorted((id, edge) for id, edge in pairs if first <= id < end)
 
-    def _put(self, shard: int, at: SessionName, note: RecordNote) -> None:
-        notes = self.notes.setdefault(shard, {}).setdefault(at, [])
+    def _put(self, shard: int, session: SessionName, note: RecordNote) -> None:
+        notes = self.notes.setdefault(shard, {}).setdefault(session, [])
         if note.event != "failed":
             notes.append(note)
             return
         # what was sent was not written; meanwhile something may have been acknowledged
-        last = next((at for at in reversed(range(len(notes))) if notes[at].event != "told"), None)
+        last = next(
+            (session for session in reversed(range(len(notes))) if notes[session].event != "told"),
+            None,
+        )
         if last is not None and notes[last].event == "sent":
             del notes[last]
 
 
-def _number(word: str) -> int:
-    if not (word.isascii() and word.isdigit()):
-        raise InvalidLine(f"{word[:20]!r} is not a number")
-    return int(word)
+def _number(text: str) -> int:
+    if not (text.isascii() and text.isdigit()):
+        raise InvalidLine(f"{text[:20]!r} is not a number")
+    return int(text)

@@ -70,15 +70,17 @@ class Recovery:
 def damage_of(rows: LoadedShard, driver: ShardDriver) -> str | None:
     """Return what is wrong with a shard's rows, before an engine is asked."""
     count = len(driver.identity.definitions.kinds)
-    if lacking := [key for _, key, place, *_ in rows.open if place >= count]:
-        return f"the definition of its saga {lacking[0]!r} cannot be read"
+    if undefined := [
+        key for _, key, definition_index, *_ in rows.open if definition_index >= count
+    ]:
+        return f"the definition of its saga {undefined[0]!r} cannot be read"
     return rows.damage
 
 
 def overdue(rows: LoadedShard, now: float) -> list[int]:
     """Return the numbers of the open sagas whose deadlines have passed."""
-    late = (row[0] for row in rows.open if row[4] is not None and row[4] <= now)
-    return [id % SHARD_CAPACITY for id in late]
+    overdue_ids = (row[0] for row in rows.open if row[4] is not None and row[4] <= now)
+    return [id % SHARD_CAPACITY for id in overdue_ids]
 
 
 def requests(rows: LoadedShard, overdue: Sequence[int] = ()) -> list[str]:
@@ -109,20 +111,20 @@ def take_unopened(
         Those that the engine was asked to open, and those that it was not. They are opened again,
         or refused. A saga of a key that is another one's by now is in neither.
     """
-    there = {key for _, key, *_ in rows.open} if rows else set()
-    asked = [
+    stored_keys = {key for _, key, *_ in rows.open} if rows else set()
+    sent = [
         saga
         for saga in driver.opens_sent
-        if not saga.committed and saga.key not in there and known.get(saga.key) is saga
+        if not saga.committed and saga.key not in stored_keys and known.get(saga.key) is saga
     ]
-    for saga in asked:
+    for saga in sent:
         for attempt in saga.busy.values():  # it never began: the saga was not there
             attempt.forget()
         saga.forget()
         saga.number, saga.shard = -1, None
     new = [*driver.opens]
     driver.clear_opens()
-    return asked, new
+    return sent, new
 
 
 def recover(
@@ -152,31 +154,33 @@ def recover(
         What is to be done, in this order: `replaced`, `gone`, `restored`, `forgotten` and
         `aborted`; the commit of `effects`; `resumed`; `draining`.
     """
-    driver, before, old = previous, previous.sagas, _under_way(previous)
-    epoch, line = previous.fence
+    driver, previous_sagas, under_way = previous, previous.sagas, _under_way(previous)
+    epoch, timeline = previous.fence
     aborts = driver.aborts_sent + driver.aborts
     driver.restart(rows)
-    found = Recovery(driver.effects(now))
+    recovery = Recovery(driver.effects(now))
     for row in rows.open:
-        _restore(found, driver, row, known, is_shared)
-    found.gone = [
+        _restore(recovery, driver, row, known, is_shared)
+    recovery.gone = [
         saga
-        for saga in before.values()
+        for saga in previous_sagas.values()
         if saga.committed and saga.number not in driver.sagas and known.get(saga.key) is saga
     ]
     _apply_rows(driver, rows)
-    left = iter(replies)
-    _apply_aborts(found.effects, driver, overdue, left, log_text)
-    busy = json.loads(next(left))["busy"]
-    for number, reply in zip(_deviating(rows, overdue), left, strict=True):
-        _apply_shown(found.effects, driver, number, reply)
-    is_ours = rows.epoch <= epoch + 1 and rows.timeline == line
-    _resume(found, driver, rows, old, busy, is_ours)
+    unread = iter(replies)
+    _apply_aborts(recovery.effects, driver, overdue, unread, log_text)
+    busy = json.loads(next(unread))["busy"]
+    for number, reply in zip(_deviating(rows, overdue), unread, strict=True):
+        _apply_shown(recovery.effects, driver, number, reply)
+    is_ours = rows.epoch <= epoch + 1 and rows.timeline == timeline
+    _resume(recovery, driver, rows, under_way, busy, is_ours)
     for abort in aborts:
-        _abort_again(found, driver, abort)
-    late = found.effects.rare.overdue  # they drain once their aborts are durable
-    found.draining = [one for one in driver.sagas.values() if one.draining and one not in late]
-    return found
+        _abort_again(recovery, driver, abort)
+    late = recovery.effects.rare.overdue  # they drain once their aborts are durable
+    recovery.draining = [
+        saga for saga in driver.sagas.values() if saga.draining and saga not in late
+    ]
+    return recovery
 
 
 def _apply_aborts(
@@ -190,7 +194,7 @@ def _apply_aborts(
     if overdue:
         effects.batch.text = log_text
         driver.events += effects.batch.count_lines()
-        ReplyReader(driver, effects).overdue([driver.sagas[one] for one in overdue], replies)
+        ReplyReader(driver, effects).overdue([driver.sagas[number] for number in overdue], replies)
         for saga in effects.rare.overdue:
             saga.rare.may_cancel_work = (
                 True  # the store has its deadline, so what is called hears of it
@@ -198,32 +202,35 @@ def _apply_aborts(
 
 
 def _under_way(driver: ShardDriver) -> AttemptsUnderWay:
-    attempts = [one for saga in driver.sagas.values() for one in saga.busy.values()]
+    attempts = [attempt for saga in driver.sagas.values() for attempt in saga.busy.values()]
     attempts += driver.unstored_reports()
-    return {(one.instance.number, one.step, one.kind, one.attempt): one for one in attempts}
+    return {
+        (attempt.instance.number, attempt.step, attempt.kind, attempt.attempt): attempt
+        for attempt in attempts
+    }
 
 
 def _restore(
-    found: Recovery,
+    recovery: Recovery,
     driver: ShardDriver,
     row: OpenSagaRow,
     known: Mapping[str, SagaInstance],
     is_shared: bool,
 ) -> None:
     """Take an open saga of the store; the one that this program has, if it is the same."""
-    id, key, place, text, deadline, traceparent, shape = row
+    id, key, definition_index, text, deadline, traceparent, shape = row
     saga = known.get(key)
     if saga is not None and (saga.shard is driver or not is_shared):
         saga.forget()
     else:
         options = StartOptions(deadline=deadline, shape=shape, traceparent=traceparent)
-        kind = driver.identity.definitions.kinds[place]
-        other, saga = saga, SagaInstance(key, text, kind, place, options)
+        kind = driver.identity.definitions.kinds[definition_index]
+        other, saga = saga, SagaInstance(key, text, kind, definition_index, options)
         if other is not None:
-            found.replaced.append((other, saga))
+            recovery.replaced.append((other, saga))
     saga.number, saga.shard, saga.committed = id % SHARD_CAPACITY, driver, True
     driver.sagas[saga.number] = saga
-    found.restored.append(saga)
+    recovery.restored.append(saga)
 
 
 def _apply_rows(driver: ShardDriver, rows: LoadedShard) -> None:
@@ -255,24 +262,24 @@ def _apply_result(
         saga.has_deviated = True
     elif outcome != "ok":
         saga.has_deviated = True
-        told = json.loads(value)
-        called = told.get("called", True)
-        saga.note_error(step, value, called)
-        if called:
-            saga.note_failure((step, kind), at, told)
-        if told.get("final"):
+        failure = json.loads(value)
+        was_called = failure.get("called", True)
+        saga.note_error(step, value, was_called)
+        if was_called:
+            saga.note_failure((step, kind), at, failure)
+        if failure.get("final"):
             saga.rare.final.add((step, kind))
 
 
 def _apply_shown(effects: Effects, driver: ShardDriver, number: int, reply: str) -> None:
-    saga, told = driver.sagas[number], json.loads(reply)
-    saga.has_deviated, saga.aborted, saga.answer = True, told["aborted"], told.get("answer")
-    saga.draining = told["phase"] in (EnginePhase.DRAINING, EnginePhase.PLANNING)
+    saga, state = driver.sagas[number], json.loads(reply)
+    saga.has_deviated, saga.aborted, saga.answer = True, state["aborted"], state.get("answer")
+    saga.draining = state["phase"] in (EnginePhase.DRAINING, EnginePhase.PLANNING)
     ReplyReader(driver, effects).shown(number, reply)
 
 
 def _resume(
-    found: Recovery,
+    recovery: Recovery,
     driver: ShardDriver,
     rows: LoadedShard,
     old: AttemptsUnderWay,
@@ -283,30 +290,30 @@ def _resume(
     an earlier program. `is_ours`: no other node had the shard since this program knew it, and the
     server is the same.
     """
-    held = {row[:4]: row for row in rows.held}
-    kept = {row[:4]: row for row in rows.results if row[4] == "ok"}
+    suspensions = {row[:4]: row for row in rows.held}
+    stored_results = {row[:4]: row for row in rows.results if row[4] == "ok"}
     """The results of transactions, whose reports are not there."""
     for task in busy:
         saga = driver.sagas[task["saga"]]
-        words = task["step"], task["task"], task["attempt"]
-        attempt = old.pop((saga.number, *words), None)
-        row = (driver.number * SHARD_CAPACITY + saga.number, *words)
-        if attempt is not None and attempt.is_recorded and row not in kept:
-            found.forgotten.append(attempt)  # by a server that was there before
-            attempt = Attempt(saga, *words, is_uncalled=False)
+        key = task["step"], task["task"], task["attempt"]
+        attempt = old.pop((saga.number, *key), None)
+        row = (driver.number * SHARD_CAPACITY + saga.number, *key)
+        if attempt is not None and attempt.is_recorded and row not in stored_results:
+            recovery.forgotten.append(attempt)  # by a server that was there before
+            attempt = Attempt(saga, *key, is_uncalled=False)
         elif attempt is None or _is_doubtful(attempt, is_ours):
             if attempt is not None:
-                found.forgotten.append(attempt)
-            attempt = _restored_attempt(saga, words, attempt, is_ours)
-            if row in held:
-                _apply_suspension(attempt, held[row])
+                recovery.forgotten.append(attempt)
+            attempt = _restored_attempt(saga, key, attempt, is_ours)
+            if row in suspensions:
+                _apply_suspension(attempt, suspensions[row])
         attempt.instance = saga
         saga.busy[attempt.action_key] = attempt
-        if row in kept and attempt.state is not FINISHED:
-            *_, value, at = kept[row]
+        if row in stored_results and attempt.state is not FINISHED:
+            *_, value, at = stored_results[row]
             attempt.finish(Outcome(SUCCEEDED, value or "null", encoded=True), at)
-        found.resumed.append(attempt)
-    found.forgotten += old.values()
+        recovery.resumed.append(attempt)
+    recovery.forgotten += old.values()
 
 
 def _is_doubtful(attempt: Attempt, is_ours: bool) -> bool:
@@ -319,10 +326,10 @@ def _is_doubtful(attempt: Attempt, is_ours: bool) -> bool:
 
 
 def _restored_attempt(
-    saga: SagaInstance, words: tuple[int, str, int], before: Attempt | None, is_ours: bool
+    saga: SagaInstance, key: tuple[int, str, int], previous: Attempt | None, is_ours: bool
 ) -> Attempt:
     """An attempt as an earlier program left it, or as one that was given up is decided again."""
-    attempt = Attempt(saga, *words, is_uncalled=before is not None and is_ours)
+    attempt = Attempt(saga, *key, is_uncalled=previous is not None and is_ours)
     if (
         attempt.is_uncalled
         and attempt.manner.external
@@ -354,13 +361,13 @@ def _apply_suspension(attempt: Attempt, row: StoredSuspension) -> None:
         attempt.outcome = Outcome(OutcomeKind(reason.value), error or "")
 
 
-def _abort_again(found: Recovery, driver: ShardDriver, abort: Abort) -> None:
+def _abort_again(recovery: Recovery, driver: ShardDriver, abort: Abort) -> None:
     """It was asked, or was to be: it is asked of a saga that is open and not aborted. Of those of
     an aborted saga, the first one that was not answered counts, unless another one did before.
     """
     if abort.saga.aborted or abort.saga.number not in driver.sagas:
-        is_first = not any(other.saga is abort.saga for other in found.aborted)
+        is_first = not any(other.saga is abort.saga for other in recovery.aborted)
         abort.done = abort.saga.aborted and is_first and not abort.is_repeated
-        found.aborted.append(abort)
+        recovery.aborted.append(abort)
     else:
         driver.abort(abort)

@@ -48,7 +48,7 @@ class ReplyReader:
         self._first = effects.batch.shard * SHARD_CAPACITY  # the id of the shard's first saga
         self._over: dict[int, None] = {}
 
-    def replies(self, asked: EngineRequest, replies: Sequence[str]) -> Sequence[int]:
+    def replies(self, request: EngineRequest, replies: Sequence[str]) -> Sequence[int]:
         """Read the replies to a question.
 
         Returns:
@@ -58,25 +58,25 @@ class ReplyReader:
         Raises:
             Disagrees: The engine knows something else than this program.
         """
-        if asked.reply_count != len(replies):
-            raise EngineDisagrees(f"{len(replies)} replies to {asked.reply_count} requests")
+        if request.reply_count != len(replies):
+            raise EngineDisagrees(f"{len(replies)} replies to {request.reply_count} requests")
         left = iter(replies)
-        if asked.early:
-            self._before_recovery(asked, left)
+        if request.early:
+            self._before_recovery(request, left)
         else:
-            if asked.aborts:
-                self._aborts(asked.aborts, left)
-            if asked.reports:
-                self._reports(asked.reports, left)
-        if asked.definition_count:
-            self._defines(asked, left)
-        if asked.opens:
-            self._opens(asked.opens, left)
-            if asked.overdue:
-                self.overdue(asked.overdue, left)
-        if asked.claim_count:
+            if request.aborts:
+                self._aborts(request.aborts, left)
+            if request.reports:
+                self._reports(request.reports, left)
+        if request.definition_count:
+            self._defines(request, left)
+        if request.opens:
+            self._opens(request.opens, left)
+            if request.overdue:
+                self.overdue(request.overdue, left)
+        if request.claim_count:
             self._next(next(left))
-        for number, reply in zip(asked.expected_ends, left) if asked.expected_ends else ():
+        for number, reply in zip(request.expected_ends, left) if request.expected_ends else ():
             if number in self._over:
                 del self._over[number]
                 self.shown(number, reply)
@@ -86,7 +86,7 @@ class ReplyReader:
 
     def _next(self, reply: str) -> None:
         """What begins now."""
-        driver, begun = self._driver, self._effects.dispatch
+        driver, started = self._driver, self._effects.dispatch
         tasks = protocol.tasks_in(reply)
         if tasks is not None:  # most replies have no plan
             driver.may_have_tasks = not reply.startswith(protocol.SETTLED)
@@ -95,13 +95,13 @@ class ReplyReader:
                 saga = sagas[number]
                 attempt = Attempt(saga, step, word, count, is_uncalled=True)
                 saga.busy[attempt.action.word] = attempt
-                begun.append(attempt)
+                started.append(attempt)
                 if saga.kind.has_external:
                     self._offer(attempt)
             return
-        told = serialization.read(reply)
-        driver.may_have_tasks = "settled" not in told
-        for task in told["tasks"]:
+        tasks_reply = serialization.read(reply)
+        driver.may_have_tasks = "settled" not in tasks_reply
+        for task in tasks_reply["tasks"]:
             saga, word = driver.sagas[task["saga"]], task["task"]
             if word == "plan":
                 saga.has_deviated, saga.draining, saga.answer = True, False, task["answer"]
@@ -110,7 +110,7 @@ class ReplyReader:
             else:
                 attempt = Attempt(saga, task["step"], word, task["attempt"], is_uncalled=True)
                 saga.busy[attempt.action.word] = attempt
-                begun.append(attempt)
+                started.append(attempt)
                 if saga.kind.has_external:
                     self._offer(attempt)
 
@@ -129,11 +129,11 @@ class ReplyReader:
         rows, first = self._batch.results, self._first
         for attempt, reply in zip(attempts, replies):
             saga, outcome = attempt.instance, attempt.outcome
-            told = protocol.event_and_phase(reply)
-            if told is None:  # it is not what is on its way: it is over, or was another's
-                where = f"saga {saga.number}, step {attempt.step}, attempt {attempt.attempt}"
-                raise EngineDisagrees(f"{where}: {reply}")
-            event, phase = told
+            event_phase = protocol.event_and_phase(reply)
+            if event_phase is None:  # it is not what is on its way: it is over, or was another's
+                location = f"saga {saga.number}, step {attempt.step}, attempt {attempt.attempt}"
+                raise EngineDisagrees(f"{location}: {reply}")
+            event, phase = event_phase
             assert outcome
             attempt.event = event
             value = outcome.value
@@ -159,13 +159,13 @@ class ReplyReader:
             self._phase(saga, phase)
         self._effects.reported = attempts
 
-    def _before_recovery(self, asked: EngineRequest, replies: Iterator[str]) -> None:
+    def _before_recovery(self, request: EngineRequest, replies: Iterator[str]) -> None:
         """The successes of a lot, reports of steps that had not begun, the aborts, and the rest of
         the lot. The engine may not take such a step: then its report stays where it is.
         """
-        self._reports(asked.reports[: asked.success_count], replies)
+        self._reports(request.reports[: request.success_count], replies)
         taken, events = list[Attempt](), list[str]()
-        for report in asked.early:
+        for report in request.early:
             task, event = next(replies), next(replies)
             if protocol.event_and_phase(event) is not None:
                 number = serialization.read(task)["attempt"]
@@ -176,9 +176,9 @@ class ReplyReader:
                 events.append(event)
         self._reports(taken, iter(events))
         self._effects.rare_effects.taken = taken
-        self._aborts(asked.aborts, replies)
-        self._reports(asked.reports[asked.success_count :], replies)
-        self._effects.reported = asked.reports
+        self._aborts(request.aborts, replies)
+        self._reports(request.reports[request.success_count :], replies)
+        self._effects.reported = request.reports
 
     def _settle_rows(self, attempt: Attempt) -> None:
         """What else the store has of an attempt that was reported. Of a wait that is retried it
@@ -248,18 +248,18 @@ class ReplyReader:
 
     # -- opens
 
-    def _defines(self, asked: EngineRequest, replies: Iterator[str]) -> None:
+    def _defines(self, request: EngineRequest, replies: Iterator[str]) -> None:
         definitions = self._driver.identity.definitions
-        for _ in range(asked.definition_count):
+        for _ in range(request.definition_count):
             definitions.read_reply(next(replies))
         if definitions.is_fixed:
-            for saga in asked.opens:
+            for saga in request.opens:
                 if saga.definition_index >= definitions.known_count:
                     raise EngineDisagrees(f"definition {definitions.known_count} was to be added")
 
     def _opens(self, sagas: Sequence[SagaInstance], replies: Iterator[str]) -> None:
         driver, batch, first = self._driver, self._batch, self._first
-        there: list[SagaInstance] = []
+        opened_sagas: list[SagaInstance] = []
         is_passed = False
         for saga, reply in zip(sagas, replies):
             if reply.startswith(protocol.EVENT):
@@ -292,14 +292,14 @@ class ReplyReader:
                     batch.rare_rows.defined += definitions.to_store(saga.definition_index)
                 if saga.options.parent is not None:
                     batch.rare_rows.children.append((id, saga.options.parent))
-                there.append(saga)
+                opened_sagas.append(saga)
                 continue
             # those behind one that was passed over have numbers that are not the next ones
             is_passed = is_passed or reply in (SHARD_FULL, LOG_FULL)
             if not is_passed:
                 raise EngineDisagrees(f"saga {driver.opened} was to be opened: {reply}")
             self._not_opened(saga, reply)
-        self._effects.opened = there
+        self._effects.opened = opened_sagas
 
     def _not_opened(self, saga: SagaInstance, reply: str) -> None:
         """The shard is full, and another one takes the saga."""
@@ -347,8 +347,8 @@ class ReplyReader:
         batch, id = self._batch, self._first + saga.number
         batch.ended.append((phase, end, recovered, undo_failed, batch.at, id))
         if saga.kind.hooks:
-            told = announcements.end_deliveries(saga, id, phase, recovered, batch.at)
-            batch.rare_rows.deliveries += told
+            rows = announcements.end_deliveries(saga, id, phase, recovered, batch.at)
+            batch.rare_rows.deliveries += rows
         if saga.has_due:  # a wait that is retried kept its row for an attempt that never came
             freed = [(id, step, kind, LAST_ATTEMPT) for step, kind in saga.rare.wait_ends]
             batch.rare_rows.freed += freed

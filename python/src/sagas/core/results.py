@@ -65,22 +65,22 @@ class SagaEnd(Protocol):
         ...
 
 
-def _result(of: SagaEnd, name: str) -> Any:
+def _result(end: SagaEnd, name: str) -> Any:
     """The result of one step, by its whole name."""
-    if name not in of.results:
-        there = name in of.states
+    if name not in end.results:
+        is_declared = name in end.states
         raise KeyError(
-            f"step {name!r} is not committed: it is {of.states[name]}"
-            if there
-            else f"unknown step {name!r}: the steps are {', '.join(of.states)}"
+            f"step {name!r} is not committed: it is {end.states[name]}"
+            if is_declared
+            else f"unknown step {name!r}: the steps are {', '.join(end.states)}"
         )
-    return serialization.stored(of.results[name], name)
+    return serialization.stored(end.results[name], name)
 
 
 def _compensations(steps: list[str]) -> str:
     """The compensations of these steps, for a line."""
-    one = len(steps) == 1
-    return f"the {'compensation' if one else 'compensations'} of {' and '.join(steps)}"
+    is_single = len(steps) == 1
+    return f"the {'compensation' if is_single else 'compensations'} of {' and '.join(steps)}"
 
 
 class EndQueries:
@@ -127,8 +127,8 @@ class EndQueries:
         Returns:
             The results, by the numbers of the items, or by their keys in a dict.
         """
-        found = self.fan.gather(step, lambda name: name)
-        items = found.items() if isinstance(found, dict) else enumerate(found)
+        names = self.fan.gather(step, lambda name: name)
+        items = names.items() if isinstance(names, dict) else enumerate(names)
         return {
             key: serialization.stored(self.results[name], name)
             for key, name in items
@@ -137,14 +137,14 @@ class EndQueries:
 
     def __str__(self: SagaEnd) -> str:
         """A line, and one for each step, with the first line of what that raised."""
-        stands = [step for step, state in self.states.items() if state == "undo_failed"]
+        undo_failed = [step for step, state in self.states.items() if state == "undo_failed"]
         cost = "" if self.cost is None else f", plan of cost {self.cost}"
-        if stands and self.phase == "recovered":  # what it cost is not known
-            cost = f", but {_compensations(stands)} failed permanently"
+        if undo_failed and self.phase == "recovered":  # what it cost is not known
+            cost = f", but {_compensations(undo_failed)} failed permanently"
         blocking_steps = (
             f", because of {' and '.join(self.blocking_steps)}" if self.blocking_steps else ""
         )
-        said = {
+        error_lines = {
             step: f": {error.strip().splitlines()[0][:MAX_ERROR]}"
             for step, error in self.errors.items()
             if error.strip()
@@ -154,11 +154,14 @@ class EndQueries:
             f"{self.phase}{' (aborted)' if self.aborted else ''}{cost}{blocking_steps}"
         )
         states = {step: state_text(state, is_over=True) for step, state in self.states.items()}
-        wide = max(9, *map(len, states.values()))
+        width = max(9, *map(len, states.values()))
         return "\n".join(
             [
                 head,
-                *(f"  {state:{wide}} {step}{said.get(step, '')}" for step, state in states.items()),
+                *(
+                    f"  {state:{width}} {step}{error_lines.get(step, '')}"
+                    for step, state in states.items()
+                ),
             ]
         )
 
@@ -252,15 +255,15 @@ class SagaResult(EndQueries):
 
     def __getattr__(self, name: str) -> Any:
         """What is not read yet. (Two threads may read it at once: both have the same.)"""
-        mine = vars(self)
-        if (read := mine.get("_read")) is not None:
-            mine.update({**vars(read()), **mine})
-            mine.pop("_read", None)
-        if name not in mine:
+        values = vars(self)
+        if (read := values.get("_read")) is not None:
+            values.update({**vars(read()), **values})
+            values.pop("_read", None)
+        if name not in values:
             raise AttributeError(
                 f"{type(self).__name__!r} object has no attribute {name!r}", name=name, obj=self
             )
-        return mine[name]
+        return values[name]
 
     def __getstate__(self) -> dict[str, Any]:
         """All of it, for a copy and another process."""

@@ -79,12 +79,12 @@ class SagaInstance(AcknowledgedSaga):
         key: str,
         text: str,
         kind: Kind,
-        place: int,
+        definition_index: int,
         options: StartOptions = start_options.NONE,
     ) -> None:
         self.key = key
         self.kind = kind
-        self.definition_index = place
+        self.definition_index = definition_index
         self.hold(text, options)
         self._extras: SagaExtras | None = None
         self.number = -1
@@ -190,10 +190,10 @@ class SagaInstance(AcknowledgedSaga):
         """Whether its key may be another saga's."""
         return self.guessed and not self.committed
 
-    def note_failure(self, word: Word, at: float, told: dict[str, Any]) -> None:
+    def note_failure(self, word: Word, at: float, failure: dict[str, Any]) -> None:
         """Keep when an action failed, and the pause that it wants."""
         self.rare.failed_at[word] = at
-        self.rare.retry_pauses[word] = told.get("retry_after")
+        self.rare.retry_pauses[word] = failure.get("retry_after")
 
     def note_error(self, step: int, value: str, called: bool) -> None:
         """Keep what an attempt raised; what it raised when it was called goes before what is said

@@ -257,45 +257,45 @@ class ShardDriver:
                 opened, before a task of theirs is claimed.
 
         Returns:
-            Lines for the engine; none if nothing is due. `asked` says what they ask.
+            Lines for the engine; none if nothing is due. `request` says what they ask.
         """
-        asked = EngineRequest()
+        request = EngineRequest()
         lines: list[str] = []
         if self.aborts:  # first: what is given up because of one has failed behind it
-            asked.aborts, self.aborts = self.aborts, []
-            self.aborts_sent += asked.aborts
-            lines += [protocol.abort_line(abort.saga.number) for abort in asked.aborts]
+            request.aborts, self.aborts = self.aborts, []
+            self.aborts_sent += request.aborts
+            lines += [protocol.abort_line(abort.saga.number) for abort in request.aborts]
         if self.reports:
-            asked.reports = self._ask_reports(asked, lines)
-        if asked.aborts or asked.deviating:
-            self._ask_early(asked, lines)
+            request.reports = self._ask_reports(request, lines)
+        if request.aborts or request.deviating:
+            self._ask_early(request, lines)
         if self.opens:
             defines = self.identity.definitions.define_lines()
-            asked.definition_count = len(defines)
+            request.definition_count = len(defines)
             lines += defines
-            asked.opens = self._ask_opens(lines)
-            if any(saga.is_overdue(now) for saga in asked.opens):
-                self._ask_aborts(asked, lines, now)
+            request.opens = self._ask_opens(lines)
+            if any(saga.is_overdue(now) for saga in request.opens):
+                self._ask_aborts(request, lines, now)
         if lines:
             self.may_have_tasks = True
         if self.may_have_tasks and free_slots > 0:
-            most = max(len(lines) + 1 + asked.expected_plans, self._next_claims)
-            asked.claim_count = min(most, free_slots + asked.expected_plans)
-            lines.append(protocol.next_line(asked.claim_count))
-        if asked.expected_ends:
-            lines += map(protocol.show_line, asked.expected_ends)
-        asked.reply_count = len(lines)
-        self.unanswered = asked if lines else None
+            most = max(len(lines) + 1 + request.expected_plans, self._next_claims)
+            request.claim_count = min(most, free_slots + request.expected_plans)
+            lines.append(protocol.next_line(request.claim_count))
+        if request.expected_ends:
+            lines += map(protocol.show_line, request.expected_ends)
+        request.reply_count = len(lines)
+        self.unanswered = request if lines else None
         return lines
 
-    def _ask_reports(self, asked: EngineRequest, lines: list[str]) -> Sequence[Attempt]:
+    def _ask_reports(self, request: EngineRequest, lines: list[str]) -> Sequence[Attempt]:
         """A lot of them, the first first."""
-        lot, self.reports = [*self.reports], {}
-        if len(lot) > MAX_REPORTS:
-            lot, self.reports = lot[:MAX_REPORTS], dict.fromkeys(lot[MAX_REPORTS:])
-        self.reports_sent.append(lot)
+        attempts, self.reports = [*self.reports], {}
+        if len(attempts) > MAX_REPORTS:
+            attempts, self.reports = attempts[:MAX_REPORTS], dict.fromkeys(attempts[MAX_REPORTS:])
+        self.reports_sent.append(attempts)
         odd: list[Attempt] = []
-        for attempt in lot:
+        for attempt in attempts:
             saga, outcome = attempt.instance, attempt.outcome
             assert outcome
             is_good = outcome.kind is SUCCEEDED
@@ -309,55 +309,55 @@ class ShardDriver:
                 saga.has_deviated = True
                 odd.append(attempt)
         if odd:
-            asked.deviating = odd
-            asked.expected_plans, asked.expected_ends = endings.expected_endings(odd)
-        return lot
+            request.deviating = odd
+            request.expected_plans, request.expected_ends = endings.expected_endings(odd)
+        return attempts
 
-    def _ask_early(self, asked: EngineRequest, lines: list[str]) -> None:
+    def _ask_early(self, request: EngineRequest, lines: list[str]) -> None:
         """Before a saga recovers, commit what was reported of its steps that have not begun, where
         the engine allows it: behind the successes of the lot, and ahead of all else.
         """
-        sagas = [abort.saga for abort in asked.aborts]
-        sagas += [one.instance for one in asked.deviating if not is_success(one)]
-        asked.early = early_reports.due_reports(sagas, asked.reports)
-        if not asked.early:
+        sagas = [abort.saga for abort in request.aborts]
+        sagas += [one.instance for one in request.deviating if not is_success(one)]
+        request.early = early_reports.due_reports(sagas, request.reports)
+        if not request.early:
             return
-        first = len(asked.aborts)
-        told = [*zip(asked.reports, lines[first:])]
-        told.sort(key=lambda one: not is_success(one[0]))
-        if told:
-            asked.reports = self.reports_sent[-1] = [attempt for attempt, _ in told]
-        asked.success_count = sum(map(is_success, asked.reports))
-        reports = [line for _, line in told]
-        taken = [protocol.take_lines(one.saga.number, one.action_key[0]) for one in asked.early]
+        first = len(request.aborts)
+        pairs = [*zip(request.reports, lines[first:])]
+        pairs.sort(key=lambda one: not is_success(one[0]))
+        if pairs:
+            request.reports = self.reports_sent[-1] = [attempt for attempt, _ in pairs]
+        request.success_count = sum(map(is_success, request.reports))
+        reports = [line for _, line in pairs]
+        taken = [protocol.take_lines(one.saga.number, one.action_key[0]) for one in request.early]
         lines[:] = [
-            *reports[: asked.success_count],
+            *reports[: request.success_count],
             *itertools.chain(*taken),
             *lines[:first],
-            *reports[asked.success_count :],
+            *reports[request.success_count :],
         ]
 
     def _ask_opens(self, lines: list[str]) -> Sequence[SagaInstance]:
         """As many as a question may have."""
-        lot: list[SagaInstance] = []
+        sagas: list[SagaInstance] = []
         opens, usable = self.opens, self.identity.definitions.usable
         while opens and opens[0].definition_index < usable and len(lines) < MAX_REPORTS:
             saga = opens.popleft()
             self.opens_sent[saga], saga.shard = None, self
-            lines.append(protocol.open_line(saga.definition_index, self.opened + len(lot)))
-            lot.append(saga)
-        return lot
+            lines.append(protocol.open_line(saga.definition_index, self.opened + len(sagas)))
+            sagas.append(saga)
+        return sagas
 
-    def _ask_aborts(self, asked: EngineRequest, lines: list[str], now: float) -> None:
+    def _ask_aborts(self, request: EngineRequest, lines: list[str], now: float) -> None:
         """Abort those that are about to be opened, and whose deadlines have passed. They are
         planned at once, and are expected to be over.
         """
-        late = [(self.opened + at, saga) for at, saga in enumerate(asked.opens)]
+        late = [(self.opened + offset, saga) for offset, saga in enumerate(request.opens)]
         late = [(number, saga) for number, saga in late if saga.is_overdue(now)]
         lines += [protocol.abort_line(number) for number, _ in late]
-        asked.overdue = [saga for _, saga in late]
-        asked.expected_plans += len(late)
-        asked.expected_ends = [*asked.expected_ends, *(number for number, _ in late)]
+        request.overdue = [saga for _, saga in late]
+        request.expected_plans += len(late)
+        request.expected_ends = [*request.expected_ends, *(number for number, _ in late)]
 
     # -- from the engine
 
@@ -375,23 +375,23 @@ class ShardDriver:
         Raises:
             Disagrees: The engine knows something else than this program.
         """
-        asked = self.unanswered
-        assert asked
-        if asked.effects is not None:
-            reading = ReplyReader(self, asked.effects)
-            for number, reply in zip(asked.shown_sagas, replies, strict=True):
+        request = self.unanswered
+        assert request
+        if request.effects is not None:
+            reading = ReplyReader(self, request.effects)
+            for number, reply in zip(request.shown_sagas, replies, strict=True):
                 reading.shown(number, reply)
-            return self._answered(asked, asked.effects)
-        effects = asked.effects = self.effects(now)
+            return self._answered(request, request.effects)
+        effects = request.effects = self.effects(now)
         effects.batch.text = log_text
-        asked.shown_sagas = ReplyReader(self, effects).replies(asked, replies)
-        if asked.shown_sagas:  # how they ended goes into the same batch
-            return [protocol.show_line(number) for number in asked.shown_sagas]
-        return self._answered(asked, effects)
+        request.shown_sagas = ReplyReader(self, effects).replies(request, replies)
+        if request.shown_sagas:  # how they ended goes into the same batch
+            return [protocol.show_line(number) for number in request.shown_sagas]
+        return self._answered(request, effects)
 
-    def _answered(self, asked: EngineRequest, effects: Effects) -> Effects:
+    def _answered(self, request: EngineRequest, effects: Effects) -> Effects:
         begun = len(effects.dispatch)
-        effects.unclaimed = asked.claim_count - begun
+        effects.unclaimed = request.claim_count - begun
         self._next_claims = min(MAX_CLAIMS, 2 * begun) if self.may_have_tasks else 1
         self.events += effects.batch.count_lines()
         self.unanswered = None
@@ -471,5 +471,5 @@ class ShardDriver:
         Returns:
             As `fail`.
         """
-        asked, self.unanswered = self.unanswered, None
-        return asked.claim_count if asked else 0
+        request, self.unanswered = self.unanswered, None
+        return request.claim_count if request else 0

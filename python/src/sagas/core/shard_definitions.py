@@ -40,7 +40,7 @@ class ShardDefinitions:
         self.digest = digest
         self.kinds = [*kinds]
         self.texts = [kind.text for kind in kinds]
-        self._indexes = {text: place for place, text in enumerate(self.texts)}
+        self._indexes = {text: index for index, text in enumerate(self.texts)}
         self.stored_count = self.known_count = len(self.texts)
         self.has_grown = self.is_fixed = False
 
@@ -55,12 +55,12 @@ class ShardDefinitions:
 
     def definition_index(self, kind: Kind) -> int:
         """Return the place of one, which it has from now on."""
-        place = self._indexes.get(kind.text)
-        if place is None:
-            place = self._indexes[kind.text] = len(self.texts)
+        index = self._indexes.get(kind.text)
+        if index is None:
+            index = self._indexes[kind.text] = len(self.texts)
             self.texts.append(kind.text)
             self.kinds.append(kind)
-        return place
+        return index
 
     @property
     def usable(self) -> int:
@@ -95,11 +95,11 @@ class ShardDefinitions:
         return self._rows(0, len(self.texts))
 
     def _rows(self, first: int, end: int) -> list[DefinitionRow]:
-        of = range(first, end)
-        return [(place, digest_of(self.texts[place]), self.texts[place]) for place in of]
+        indexes = range(first, end)
+        return [(index, digest_of(self.texts[index]), self.texts[index]) for index in indexes]
 
-    def to_store(self, place: int) -> list[DefinitionRow]:
+    def to_store(self, index: int) -> list[DefinitionRow]:
         """Return those up to a place that the store does not have; it will have them now."""
-        rows = self._rows(self.stored_count, place + 1)
-        self.stored_count = max(self.stored_count, place + 1)
+        rows = self._rows(self.stored_count, index + 1)
+        self.stored_count = max(self.stored_count, index + 1)
         return rows

@@ -29,28 +29,28 @@ END_TEXTS = {
 """What the last event of a step, or of its compensation, says where that is over."""
 
 
-def end_text(rows: Iterable[tuple[Any, ...]], place: int, kind: str) -> str | None:
+def end_text(rows: Iterable[tuple[Any, ...]], step_index: int, kind: str) -> str | None:
     """In words how a step, or its compensation, ended, by rows of `RESULTS`. None where it has
     not."""
-    events = [event for step, action, event, _ in rows if (step, action) == (place, kind)]
+    events = [event for step, action, event, _ in rows if (step, action) == (step_index, kind)]
     return END_TEXTS.get(events[-1]) if events else None
 
 
-def first_outcome(rows: Iterable[tuple[Any, ...]], place: int, kind: str) -> Outcome | None:
+def first_outcome(rows: Iterable[tuple[Any, ...]], step_index: int, kind: str) -> Outcome | None:
     """How a step, or its compensation, ended, by rows of `RESULTS`. None where it has not."""
-    found = None
+    result = None
     for step, word, outcome, value in rows:
-        if (step, word) != (place, kind):
+        if (step, word) != (step_index, kind):
             continue
         if outcome in SUCCESS_EVENTS:
-            found = Outcome(OutcomeKind.SUCCEEDED, value or "null")
+            result = Outcome(OutcomeKind.SUCCEEDED, value or "null")
             continue
-        told = json.loads(value or "{}")
-        if told.get("called", True):
-            is_final = told.get("final") or outcome in ("fail", "undo_fail")
+        failure = json.loads(value or "{}")
+        if failure.get("called", True):
+            is_final = failure.get("final") or outcome in ("fail", "undo_fail")
             failed = Outcome(OutcomeKind.FAILED_PERMANENTLY, value or "{}")
-            found = failed if is_final else None
-    return found
+            result = failed if is_final else None
+    return result
 
 
 def early_outcome(rows: Iterable[tuple[Any, ...]]) -> Outcome | None:
@@ -78,9 +78,9 @@ def check(
         is_same = outcome.kind is not OutcomeKind.SUCCEEDED and _error(outcome) == _error(first)
     if not is_same:
         is_done = first.kind is OutcomeKind.SUCCEEDED
-        told = why or f"it has {'succeeded' if is_done else 'failed'}"
-        told += ". This is a different outcome, and the first one counts"
-        raise ConflictingReport(f"saga {key!r}, step {step!r}: {told}")
+        text = why or f"it has {'succeeded' if is_done else 'failed'}"
+        text += ". This is a different outcome, and the first one counts"
+        raise ConflictingReport(f"saga {key!r}, step {step!r}: {text}")
 
 
 def _error(outcome: Outcome) -> Any:

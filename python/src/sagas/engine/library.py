@@ -69,16 +69,16 @@ def path() -> pathlib.Path | None:
     """Where the library is: `$SAGAS_LIBRARY`, else the one that came with the package, else the
     release of the checkout that this is in.
     """
-    told = os.environ.get("SAGAS_LIBRARY")
-    places = [pathlib.Path(told)] if told else program.release_paths("libsagas.so")
-    return next((place for place in places if place.is_file()), None)
+    explicit = os.environ.get("SAGAS_LIBRARY")
+    candidates = [pathlib.Path(explicit)] if explicit else program.release_paths("libsagas.so")
+    return next((candidate for candidate in candidates if candidate.is_file()), None)
 
 
 @functools.cache
-def loaded(place: pathlib.Path) -> ctypes.CDLL | None:
+def loaded(path: pathlib.Path) -> ctypes.CDLL | None:
     """The library with the types of its calls, or None where this machine cannot load it."""
     try:
-        library = ctypes.CDLL(str(place))
+        library = ctypes.CDLL(str(path))
     except OSError:
         return None
     for name, count in CALLS.items():
@@ -105,13 +105,16 @@ def call(
     """The status and the text of a call of the library: first with a buffer of so many bytes, then
     with one as large as its text takes.
     """
-    words: list[object] = [word for text in texts for word in (text, len(text))]
+    arguments: list[object] = [argument for text in texts for argument in (text, len(text))]
     if spans is not None:
-        words += [(_Span * len(spans))(*(_Span(start, end) for start, end in spans)), len(spans)]
+        arguments += [
+            (_Span * len(spans))(*(_Span(start, end) for start, end in spans)),
+            len(spans),
+        ]
     used = ctypes.c_size_t()
     while True:
         buffer = ctypes.create_string_buffer(size) if size else None
-        status = int(getattr(library, name)(*words, buffer, size, ctypes.byref(used)))
+        status = int(getattr(library, name)(*arguments, buffer, size, ctypes.byref(used)))
         if status != BUFFER_TOO_SMALL:
             return status, ctypes.string_at(buffer, used.value) if buffer else b""
         size = used.value
@@ -121,37 +124,40 @@ def _by_program(command: str, texts: Sequence[bytes]) -> tuple[int, bytes]:
     """The same of the program: its status, and what it prints, or with status 3 its line on
     standard error.
     """
-    with contextlib.closing(program.TextFiles(texts)) as given:
-        done = program.run_to_end([program.path(), command, *given.paths], given.files)
-    if done.returncode not in (OK, REJECTED, INVALID, NO_MEMORY):
+    with contextlib.closing(program.TextFiles(texts)) as text_files:
+        process = program.run_to_end([program.path(), command, *text_files.paths], text_files.files)
+    if process.returncode not in (OK, REJECTED, INVALID, NO_MEMORY):
         raise EngineError(
-            f"sagas {command} ended with {done.returncode}: "
-            f"{done.stderr.decode(errors='replace').strip()}"
+            f"sagas {command} ended with {process.returncode}: "
+            f"{process.stderr.decode(errors='replace').strip()}"
         )
-    return done.returncode, done.stderr if done.returncode == INVALID else done.stdout
+    return process.returncode, process.stderr if process.returncode == INVALID else process.stdout
 
 
 def _verdict(command: str, texts: Sequence[Text]) -> Verdict:
     """What a command answers to texts. `InvalidText` where one is not of its form, `MemoryError`
     where memory was refused.
     """
-    given = [text.encode() if isinstance(text, str) else text for text in texts]
-    place = path()
-    library = loaded(place) if place else None
+    encoded = [text.encode() if isinstance(text, str) else text for text in texts]
+    library_path = path()
+    library = loaded(library_path) if library_path else None
     if library is None:
-        status, said = _by_program(command, given)
+        status, output = _by_program(command, encoded)
     elif command == "audit":
-        ends = [sum(map(len, given[1 : count + 1])) for count in range(len(given))]
-        status, said = call(
-            library, "sagas_audit_all", [given[0], b"".join(given[1:])], list(zip(ends, ends[1:]))
+        ends = [sum(map(len, encoded[1 : count + 1])) for count in range(len(encoded))]
+        status, output = call(
+            library,
+            "sagas_audit_all",
+            [encoded[0], b"".join(encoded[1:])],
+            list(zip(ends, ends[1:])),
         )
     else:
-        status, said = call(library, f"sagas_{command}", given)
+        status, output = call(library, f"sagas_{command}", encoded)
     if status == NO_MEMORY:
         raise MemoryError(f"sagas {command}: the system refused memory")
     if status == INVALID:
-        raise InvalidText(said.decode(errors="replace").rstrip("\n"))
-    return Verdict(status == OK, said.decode().rstrip("\n"))
+        raise InvalidText(output.decode(errors="replace").rstrip("\n"))
+    return Verdict(status == OK, output.decode().rstrip("\n"))
 
 
 def plan(definition: Text, case: Text) -> Verdict:

@@ -100,10 +100,10 @@ class EngineProcess:
         try:
             self._stderr = memory_file("words")
             self._texts = TextFiles([*definitions, protocol.HEADER + text] if text else definitions)
-            words = self._texts.paths
+            arguments = self._texts.paths
             if text:
-                words = ["--from", words[-1], *words[:-1]]
-            self._popen([program, "drive", "--lines", *words], self._texts.files)
+                arguments = ["--from", arguments[-1], *arguments[:-1]]
+            self._popen([program, "drive", "--lines", *arguments], self._texts.files)
             self._texts.close_passed_files()
         except OSError as error:
             self._close_files()
@@ -119,11 +119,11 @@ class EngineProcess:
         self._poll = select.poll()
         self._poll.register(self._reply_fd, select.POLLIN)
 
-    def _popen(self, words: Sequence[str], files: Sequence[int]) -> None:
+    def _popen(self, arguments: Sequence[str], files: Sequence[int]) -> None:
         """No child that is forked here has its pipes, on any side."""
         with private_descriptors.without_forks():
             self.process = subprocess.Popen(
-                words,
+                arguments,
                 stdin=subprocess.PIPE,
                 stdout=subprocess.PIPE,
                 stderr=self._stderr,
@@ -204,11 +204,13 @@ class EngineProcess:
         if not data:
             self._die()
             return None
-        came = (self._partial_line + data.decode()).split("\n")  # all of ASCII: no character is cut
-        self._partial_line = came.pop()
+        lines = (self._partial_line + data.decode()).split(
+            "\n"
+        )  # all of ASCII: no character is cut
+        self._partial_line = lines.pop()
         # a line of the log is shown before the reply that it belongs to
-        self._replies += [line for line in came if line >= REPLY]
-        self._log_lines += [line for line in came if line < REPLY]
+        self._replies += [line for line in lines if line >= REPLY]
+        self._log_lines += [line for line in lines if line < REPLY]
         if not self.unanswered or len(self._replies) < self.unanswered:
             return None
         replies, self._replies, self.unanswered = self._replies, [], 0
@@ -228,8 +230,8 @@ class EngineProcess:
     def _last_error_line(self) -> str:
         """Its last words."""
         end = os.pread(self._stderr, 4096, max(0, os.fstat(self._stderr).st_size - 4096))
-        said = [line for line in end.decode(errors="replace").splitlines() if line.strip()]
-        return said[-1] if said else ""
+        lines = [line for line in end.decode(errors="replace").splitlines() if line.strip()]
+        return lines[-1] if lines else ""
 
     def stop(self) -> None:
         """Throws the process away."""
@@ -252,15 +254,15 @@ class EngineProcess:
             self._release()
             return
         try:
-            end = os.pidfd_open(self.process.pid)
+            pidfd = os.pidfd_open(self.process.pid)
         except (AttributeError, OSError):  # the system has none: it is looked at again in a moment
             self._loop.call_later(AGAIN_LATER, self._reap)
             return
-        self._loop.add_reader(end, self._ended, end)
+        self._loop.add_reader(pidfd, self._ended, pidfd)
 
-    def _ended(self, end: int) -> None:
-        self._loop.remove_reader(end)
-        os.close(end)
+    def _ended(self, pidfd: int) -> None:
+        self._loop.remove_reader(pidfd)
+        os.close(pidfd)
         self.process.wait()
         self._release()
 
