@@ -22,7 +22,7 @@ HELP = ("-h", "--help", "help")
 
 
 def main(arguments: list[str] | None = None) -> int:
-    """Runs the command; gives its status."""
+    """Run the command, and return its exit status."""
     arguments = sys.argv[1:] if arguments is None else arguments
     if arguments[:1] == ["store"]:
         from sagas.cli import store_command

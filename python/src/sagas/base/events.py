@@ -81,8 +81,9 @@ LEVELS = {
 
 
 def quoted(value: object) -> str:
-    """A field of a log line: as it is where it is one plain word, else in quotes, so that an
-    event is one line and each field is told from the next.
+    """Return a field of a log line: unchanged if it is one plain word, else in quotes.
+
+    So an event is one line, and its fields are separate.
     """
     text = str(value)
     if text.isprintable():
@@ -94,7 +95,7 @@ def quoted(value: object) -> str:
 
 
 def exception_info(error: BaseException) -> ExceptionInfo:
-    """What a function raised, for a log: its traceback begins in the function."""
+    """Return an exception for the log, with a traceback that begins in the user's function."""
     trace = error.__traceback__
     while trace and trace.tb_next and trace.tb_frame.f_code.co_filename.startswith(PACKAGE_FOLDER):
         trace = trace.tb_next
@@ -102,16 +103,14 @@ def exception_info(error: BaseException) -> ExceptionInfo:
 
 
 class EventEmitter:
-    """Hands each event to the hook, and to the log `sagas` with its fields as `extra={"sagas":
-    {..}}`.
-    """
+    """Pass each event to the hook, and to the log `sagas` with its fields in `extra["sagas"]`."""
 
     def __init__(self, hook: Hook | None, clock: Callable[[], float]) -> None:
         self._hook, self._clock = hook, clock
         self.has_hook = hook is not None
 
     def is_wanted(self, name: str) -> bool:
-        """Whether anybody hears an event of this name; looked at where events are many."""
+        """Whether a hook or the log gets an event of this name; checked before frequent events."""
         return self.has_hook or logger.logger.isEnabledFor(LEVELS.get(name, logging.DEBUG))
 
     def emit(
@@ -122,8 +121,13 @@ class EventEmitter:
         error: BaseException | None = None,
         **fields: Any,
     ) -> None:
-        """An event with its fields; in the log at this level, and with the traceback of an
-        error.
+        """Emit an event with its fields.
+
+        Args:
+            name: The event's name.
+            level: The level in the log (default: that of `LEVELS`).
+            error: An exception whose traceback is logged.
+            fields: The fields of `Event`.
         """
         if not self.is_wanted(name):
             return

@@ -15,16 +15,16 @@ ExceptionInfo = tuple[type[BaseException], BaseException, "TracebackType | None"
 
 
 class GuardedLogger(logging.LoggerAdapter[logging.Logger]):
-    """A logger. What is raised as it writes goes to standard error, as far as that can be."""
+    """A logger whose handlers' exceptions go to standard error, if possible."""
 
     def process(
         self, msg: Any, kwargs: MutableMapping[str, Any]
     ) -> tuple[Any, MutableMapping[str, Any]]:
-        """As it is given."""
+        """Return the message unchanged."""
         return msg, kwargs
 
     def log(self, level: int, msg: object, *args: object, **kwargs: Any) -> None:
-        """As `logging.Logger.log`."""
+        """Log a message, as `logging.Logger.log`."""
         try:
             super().log(level, msg, *args, stacklevel=2, **kwargs)
         except Exception:
@@ -38,8 +38,9 @@ class GuardedLogger(logging.LoggerAdapter[logging.Logger]):
         logged_fields: dict[str, Any],
         error: ExceptionInfo | None,
     ) -> None:
-        """Log an event with its fields, as `log` would. Where in this package that was, which each
-        line would have to be looked up for, is here for all of them.
+        """Log an event with its fields, as `log` would.
+
+        The location of each record is this function, since a lookup of the caller is slow.
         """
         inner = self.logger
         try:
@@ -60,7 +61,7 @@ class GuardedLogger(logging.LoggerAdapter[logging.Logger]):
 
 
 def _print_handler_error() -> None:
-    """A handler raised: that goes to standard error."""
+    """Print the exception of a handler to standard error."""
     with contextlib.suppress(Exception):
         print(
             f"sagas: a handler or a filter of the log raised:\n{traceback.format_exc()}",

@@ -8,10 +8,10 @@ from typing import Any
 
 
 def load_reference(option: str, reference: str) -> Any:
-    """Return what a module has by a name. The current folder is searched, too.
+    """Return the value that `MODULE:NAME` refers to. The current folder is searched, too.
 
     Raises:
-        ValueError: The place has another form, or the module or the name does not exist.
+        ValueError: The reference has another form, or the module or the name does not exist.
     """
     module, _, name = reference.partition(":")
     if not name or not module or module.startswith("."):

@@ -1,4 +1,4 @@
-"""Numbers that options of the commands take, as types of `argparse`."""
+"""Types of `argparse` for numbers in options of the commands."""
 
 from __future__ import annotations
 
@@ -7,7 +7,7 @@ import re
 from collections.abc import Callable
 
 MAX_OPTION = 10**12
-"""No option means more than this, and the integers of each database hold it."""
+"""The maximum of all options. The integers of each database can hold it."""
 UNITS = {"s": 1, "m": 60, "h": 3600, "d": 86400, "w": 7 * 86400}
 MAX_SHOWN = 40
 """Characters of a value that a message repeats."""
@@ -25,7 +25,7 @@ def integer_from(least: int) -> Callable[[str], int]:
 
 
 def positive(text: str) -> float:
-    """A number above 0. Raises `argparse.ArgumentTypeError`."""
+    """Return a number above 0. Raises `argparse.ArgumentTypeError`."""
     value = _number(text)
     if not 0 < value <= MAX_OPTION:
         raise invalid(text, f"a number above 0, up to {MAX_OPTION}")
@@ -33,7 +33,7 @@ def positive(text: str) -> float:
 
 
 def not_negative(text: str) -> float:
-    """A number of 0 or more. Raises `argparse.ArgumentTypeError`."""
+    """Return a number of 0 or more. Raises `argparse.ArgumentTypeError`."""
     value = _number(text)
     if not 0 <= value <= MAX_OPTION:
         raise invalid(text, f"a number from 0 to {MAX_OPTION}")
@@ -41,7 +41,7 @@ def not_negative(text: str) -> float:
 
 
 def age(text: str) -> float:
-    """Seconds, of a number and a unit: `30d`, `12h`."""
+    """Return the seconds of a number with a unit, for example `30d` or `12h`."""
     match = re.fullmatch(r"(\d{1,9})([smhdw])", text)
     if not match:
         raise argparse.ArgumentTypeError(
@@ -59,6 +59,6 @@ def _number(text: str) -> float:
 
 
 def invalid(text: str, rule: str) -> argparse.ArgumentTypeError:
-    """What is said of a value that an option does not take."""
+    """Return the error for an invalid value of an option."""
     shown = text if len(text) <= MAX_SHOWN else f"{text[:MAX_SHOWN]}..."
     return argparse.ArgumentTypeError(f"invalid value {shown!r}: use {rule}")

@@ -1,6 +1,6 @@
 """Deliveries of webhooks: rows that are written in the commit of their cause.
 
-Where no webhook is told of a definition, nothing is made.
+If a definition has no webhook, no row is made.
 """
 
 from __future__ import annotations
@@ -22,16 +22,18 @@ COMPLETED, RECOVERED = "saga.completed", "saga.recovered"
 STUCK, ATTENTION = "saga.stuck", "saga.attention"
 ENDS = (COMPLETED, RECOVERED, STUCK)
 TYPES = (*ENDS, ATTENTION)
-"""The types of what is told, and those of them that tell of an end."""
+"""The types of webhook events. `ENDS` has those that report the end of a saga."""
 NEEDS_OPERATOR = (Suspension.APPROVAL, Suspension.EXHAUSTED, Suspension.CANNOT_DECODE)
-"""Suspensions that always need a person; an unknown outcome does where it has no time."""
+"""Suspensions that always need an operator. `UNKNOWN` also does if it has no time."""
 
 
 def end_deliveries(
     saga: SagaInstance, id: int, phase: str, recovered: bool, at: float
 ) -> list[DeliveryRow]:
-    """What is told of a saga's end: how it ended, each compensation that failed for good, and each
-    report that was not used and that a person has to see to.
+    """Return the deliveries of a saga's end.
+
+    They report how it ended, each compensation that failed permanently, and each unused report
+    that an operator has to handle.
     """
     type = RECOVERED if recovered else COMPLETED
     deliveries = _rows(saga, id, STUCK if phase == EnginePhase.STUCK else type, {}, at, "end")
@@ -47,7 +49,7 @@ def end_deliveries(
 
 
 def suspension_deliveries(attempt: Attempt, row: SuspensionRow, at: float) -> list[DeliveryRow]:
-    """What is told of an attempt that is suspended, where a person has to do something."""
+    """Return the deliveries of a suspended attempt, if it needs an operator."""
     is_parked = row.reason is Suspension.UNKNOWN and row.until is None and not attempt.is_remote
     if not is_parked and row.reason not in NEEDS_OPERATOR:
         return []
@@ -59,7 +61,7 @@ def suspension_deliveries(attempt: Attempt, row: SuspensionRow, at: float) -> li
 def _rows(
     saga: SagaInstance, id: int, type: str, data: dict[str, Any], at: float, name: str
 ) -> list[DeliveryRow]:
-    """A row for each webhook that is told; `name`: what is told of, among all of the saga."""
+    """Return a row for each webhook of this type. `name`: names the cause within the saga."""
     hooks = saga.kind.hooks.get(type, ())
     if not hooks:
         return []

@@ -1,7 +1,7 @@
-"""`AttemptMachine`: begins, suspends, retries, drains and finishes attempts.
+"""`AttemptMachine`: starts, suspends, retries, drains and finishes attempts.
 
-Nothing here knows a clock, a loop or a database. Time comes in as a value; what is to be done
-comes out as a `Decision`.
+This module has no clock, no event loop and no database. The caller passes the time as `now` and
+carries out the `Decision` that a method returns.
 """
 
 from __future__ import annotations
@@ -11,7 +11,7 @@ from typing import Any
 
 from sagas.base.errors import CannotDecode, Fail
 from sagas.core import early_reports
-from sagas.core.collection import collected, has_nothing_to_undo, needs_value_to_tell
+from sagas.core.collection import collected, has_nothing_to_undo, needs_stored_value
 from sagas.core.decisions import (
     CALL,
     FOLLOW,
@@ -42,38 +42,38 @@ from sagas.definition.blobs import BlobUnavailable
 from sagas.definition.step import Step
 
 MAX_SLEEP = 30.0
-"""Seconds: a clock may jump, so nobody sleeps longer without a look at it."""
+"""Seconds: the wall clock may jump, so no timer sleeps longer before it reads the clock."""
 COUNTED_DOWN = frozenset({Suspension.BACKOFF, Suspension.UNKNOWN, Suspension.RETRY})
-"""Suspensions of some seconds, which are counted here: to put the clock back does not make them
-more.
+"""Short suspensions, whose seconds are counted down: a clock that is set back does not make them
+longer.
 """
 PARKED = RETRYABLE | {Suspension.CANNOT_DECODE}
-"""Suspensions of an attempt that was called, and is called again."""
+"""Suspensions of an attempt that was called and will be called again."""
 ANNOUNCED = PARKED | {Suspension.TIMER, Suspension.APPROVAL}
-"""Suspensions that are told as `step_suspended`."""
+"""Suspensions that emit the event `step_suspended`."""
 LEAST_UNREAD, MOST_UNREAD = 1.0, 60.0
-"""Seconds until values are asked for again that a blob store did not give."""
+"""Seconds until the values are read again if the blob store did not return them."""
 REPORTABLE = ANNOUNCED | {Suspension.EXTERNAL}
-"""Suspensions of an attempt that somebody may report."""
+"""Suspensions of an attempt that a caller may report."""
 
 
 AttemptDecisions = list[tuple[Attempt, Decision]]
 
 
 def is_called_at_once(attempt: Attempt) -> bool:
-    """Whether its function is called at once, and nothing is to be decided."""
+    """Whether the function is called at once, without any decision."""
     return (
         attempt.action.simple is not None and attempt.attempt == 1 and not attempt.instance.draining
     )
 
 
 def is_reportable(attempt: Attempt) -> bool:
-    """Whether somebody may report it: it is suspended for that."""
+    """Whether a caller may report the attempt now: it is suspended for that."""
     return attempt.state is SUSPENDED and not attempt.pending_row and attempt.reason in REPORTABLE
 
 
 def becomes_reportable(attempt: Attempt) -> bool:
-    """Whether it is about to be suspended until somebody reports it."""
+    """Whether the attempt is about to be suspended until a caller reports it."""
     step = attempt.declared
     if step.manner(attempt.kind).external:
         return attempt.state is CLAIMED
@@ -86,14 +86,14 @@ def becomes_reportable(attempt: Attempt) -> bool:
 
 
 class AttemptMachine:
-    """Decide what becomes of attempts. All it knows is in the attempts and their sagas.
+    """Decide the next state of attempts, from the attempts and their sagas alone.
 
     Each method sets the attempt's state before it returns. `CALL` is the exception: the runtime
-    queues and starts the attempt when there is a place for it.
+    queues and starts the attempt when it has a slot.
 
     Attributes:
-        leased: Whether external workers get leases. Else who does an external step may begin
-            before this program knows of it.
+        leased: Whether external workers get leases. Otherwise the performer of an external step
+            may start before this program knows of it.
     """
 
     def __init__(self, leased: bool = False) -> None:
@@ -102,21 +102,21 @@ class AttemptMachine:
     # -- begin
 
     def begin(self, attempt: Attempt, now: float) -> Decision:
-        """Decide how one goes on that is in the store as begun.
+        """Decide how an attempt continues that the store has as started.
 
         Args:
-            attempt: One in the state `CLAIMED`.
+            attempt: An attempt in the state `CLAIMED`.
             now: Wall time in seconds.
 
         Returns:
-            `CALL`, `OFFER`, `SUSPEND`, or `REPORT` where it is given up without a call. `READ`
-            where that rests on values that are not held, and `ASK` where it rests on a function of
-            the definition; then `after_failure` is asked.
+            `CALL`, `OFFER`, `SUSPEND`, or `REPORT` if it is given up without a call. `READ` if the
+            decision needs values that are not held, and `ASK` if it needs a function of the
+            definition; then the runtime calls `decide_again`.
         """
         instance = attempt.instance
         if is_called_at_once(attempt):
             return CALL
-        if needs_value_to_tell(attempt):
+        if needs_stored_value(attempt):
             return READ
         if has_nothing_to_undo(attempt):
             return self.finish(attempt, Outcome(OutcomeKind.SUCCEEDED, "null"), now)
@@ -133,11 +133,12 @@ class AttemptMachine:
         return self._start(attempt, now)
 
     def resume(self, attempt: Attempt, now: float) -> Decision:
-        """Decide how one goes on in a shard that was recovered: it is under way here, or was made
-        from the rows of an earlier program.
+        """Decide how an attempt continues after its shard was recovered.
+
+        The attempt is under way in this program, or recovery made it from the rows of the store.
 
         Returns:
-            As `begin`; `REPORT_AGAIN` of one that is finished, `NOTHING` of one that goes on.
+            As `begin`; `REPORT_AGAIN` if it is finished, `NOTHING` if it continues unchanged.
         """
         if attempt.state is FINISHED:
             return REPORT_AGAIN
@@ -164,7 +165,7 @@ class AttemptMachine:
         return self.begin(attempt, now)
 
     def _suspend_again(self, attempt: Attempt, row: SuspensionRow) -> Decision:
-        """The row was on its way to the store, and is not known to be there."""
+        """Suspend it again: its row was on the way to the store and may not be stored."""
         if attempt.state in (QUEUED, RUNNING):
             return Decision(Do.NOTHING, row)
         is_unread = row.reason is Suspension.CANNOT_DECODE  # its row has no time of a further try
@@ -178,7 +179,7 @@ class AttemptMachine:
         return self._call_or_offer(attempt, now)
 
     def _call_or_offer(self, attempt: Attempt, now: float) -> Decision:
-        """It is called here, or done by an external worker or a child saga."""
+        """Call its function here, or leave it to an external worker or a child saga."""
         if attempt.is_child:
             attempt.waiting_since = now
             attempt.suspend(Suspension.CHILD)
@@ -187,13 +188,14 @@ class AttemptMachine:
             return CALL
         attempt.is_uncalled = (
             attempt.is_uncalled and self.leased
-        )  # else whoever does it may have begun
+        )  # else its worker may have started
         attempt.suspend(Suspension.EXTERNAL)
         return OFFER
 
     def _wait(self, attempt: Attempt, step: Step[Any], now: float) -> Decision:
-        """It waits for its time, counted from the first attempt that could say it. One that cannot
-        has failed, and its function is not called.
+        """Let it wait until its time, which the first attempt that can compute it sets.
+
+        If the time cannot be computed, the attempt fails and its function is not called.
         """
         rare = attempt.instance.rare
         due = rare.wait_ends.get(attempt.action_key)
@@ -215,11 +217,11 @@ class AttemptMachine:
         return self._suspend(attempt, Suspension.TIMER, until, now)
 
     def decide_again(self, attempt: Attempt, now: float) -> Decision:
-        """Decide how one goes on of which this said `READ` or `ASK`, other than `limit`."""
+        """Decide again after `READ` or `ASK`, except if `decide_limits` returned them."""
         return self.begin(attempt, now)
 
     def _finish_uncalled(self, attempt: Attempt, error: Exception, now: float) -> Decision:
-        """A function that says something of it has raised this: its own is not called."""
+        """Finish or park an attempt whose definition's function raised: it is not called."""
         if isinstance(error, CannotDecode):
             outcome = Outcome(OutcomeKind.CANNOT_DECODE, str(error)[:MAX_TEXT])
             return self._park(attempt, outcome, now)
@@ -228,11 +230,11 @@ class AttemptMachine:
         return self.finish(attempt, outcome._replace(error=error), now)
 
     def decide_limits(self, attempt: Attempt, now: float) -> Decision:
-        """Decide by which key the limits of a step count one that may be called.
+        """Decide which key the limits of the step use for an attempt that may be called.
 
         Returns:
-            `CALL`; or as `ended`, if the function that says the key has raised; or `READ` or
-            `ASK`, and then this is asked again. `REPORT` where its saga drains meanwhile.
+            `CALL`; or as `ended`, if the function that returns the key raised; or `READ` or
+            `ASK`, and then the runtime calls this method again. `REPORT` if its saga drains now.
         """
         if attempt.instance.may_cancel_work and self._may_give_up(attempt):
             return self._give_up(attempt, "not called: the saga is being undone", now)
@@ -252,9 +254,7 @@ class AttemptMachine:
     def _suspend(
         self, attempt: Attempt, reason: Suspension, until: float | None, now: float
     ) -> Decision:
-        """It waits for its time or for an approval, and nobody called it for that before: where
-        its saga drains, it is given up.
-        """
+        """Suspend an attempt until its time or an approval; if its saga drains, give it up."""
         attempt.waiting_since, attempt.is_uncalled = now, True
         if attempt.instance.draining and self._may_give_up(attempt):
             return self._give_up(attempt, "not called: the saga is being undone", now)
@@ -264,9 +264,7 @@ class AttemptMachine:
     # -- time
 
     def timer_delay(self, attempt: Attempt, now: float) -> float | None:
-        """Return in how many seconds `timer` is asked of one that is suspended; None where it has
-        no time.
-        """
+        """Return in how many seconds `timer` is called for a suspended attempt; None if never."""
         if attempt.until is None:
             return None
         longest = MAX_SLEEP
@@ -275,11 +273,10 @@ class AttemptMachine:
         return max(0.0, min(longest, attempt.until - now))
 
     def timer(self, attempt: Attempt, now: float) -> Decision:
-        """Decide how one goes on whose timer rang.
+        """Decide how an attempt continues whose timer fired.
 
         Returns:
-            `SUSPEND` where its time has not come, or a row says that its wait is over; else as
-            `begin`.
+            `SUSPEND` if its time has not come, or to store the end of its wait; else as `begin`.
         """
         if attempt.state is not SUSPENDED or attempt.until is None:
             return NOTHING
@@ -294,7 +291,7 @@ class AttemptMachine:
         return self._after_pause(attempt, now)
 
     def stored(self, attempt: Attempt) -> Decision:
-        """Decide how one goes on whose row is in the store."""
+        """Decide how an attempt continues after its row was stored."""
         row, attempt.pending_row = attempt.pending_row, None
         if row is None or attempt.state is not SUSPENDED:
             return NOTHING
@@ -307,9 +304,7 @@ class AttemptMachine:
         return Decision(Do.SUSPEND, timer=row.reason not in PARKED, event=event)
 
     def _after_pause(self, attempt: Attempt, now: float) -> Decision:
-        """Behind its back-off: the next attempt, or the same one whose outcome is unknown. Or it is
-        tried again to read its values.
-        """
+        """Continue after a pause: call it, call it again, or read its values again."""
         if attempt.reason in (Suspension.BACKOFF, Suspension.CANNOT_DECODE):
             return self._start(attempt, now)
         return self._call_or_offer(attempt, now)
@@ -317,16 +312,16 @@ class AttemptMachine:
     # -- outcomes
 
     def ended(self, attempt: Attempt, outcome: Outcome, now: float) -> Decision:
-        """Decide what an outcome leads to.
+        """Decide what follows from the outcome of a call.
 
         Args:
-            attempt: One in the state `RUNNING`, or done by an external worker.
-            outcome: What the call came to.
+            attempt: An attempt that is `RUNNING`, or that an external worker performs.
+            outcome: The outcome of the call.
             now: Wall time in seconds.
 
         Returns:
-            `REPORT`, or `SUSPEND` where it is asked for an approval, where the same attempt is
-            called again, and where a person or another program has to go on.
+            `REPORT`; or `SUSPEND` if it needs an approval, if the same attempt is called again,
+            or if an operator or another program has to act.
         """
         kind = outcome.kind
         attempt.is_uncalled = False  # also where the worker got it from another node
@@ -344,12 +339,12 @@ class AttemptMachine:
         return decision or self.finish(attempt, outcome, now)
 
     def finish(self, attempt: Attempt, outcome: Outcome, now: float) -> Decision:
-        """Take an outcome as the attempt's last: somebody reported it, say."""
+        """Set the final outcome of an attempt, for example one that a caller reported."""
         attempt.finish(collected(attempt, outcome), now)
         return self.report(attempt)
 
     def report(self, attempt: Attempt) -> Decision:
-        """Report one that is finished; also where an earlier report of it was not kept."""
+        """Report a finished attempt; also if an earlier report of it was not stored."""
         if attempt.outcome and attempt.outcome.kind is OutcomeKind.FAILED_PERMANENTLY:
             attempt.instance.rare.final.add(attempt.action_key)
         return REPORT
@@ -358,7 +353,7 @@ class AttemptMachine:
         return attempt.kind == Action.RUN and attempt.declared.kind == "approval"
 
     def _unknown(self, attempt: Attempt, outcome: Outcome, now: float) -> Decision:
-        """The same attempt is called again, after its back-off; or a person has to report it."""
+        """Call the same attempt again after its backoff, or wait until an operator reports it."""
         manner, rare = attempt.manner, attempt.rare
         rare.count += 1
         attempt.waiting_since = attempt.waiting_since or now
@@ -381,13 +376,15 @@ class AttemptMachine:
         )
 
     def values_unavailable(self, attempt: Attempt, error: BlobUnavailable, now: float) -> Decision:
-        """Decide on one whose values were to be read, and which the blob store does not give."""
+        """Decide how an attempt continues if the blob store does not return its values."""
         return self._park(attempt, values_unavailable(error), now)
 
     def _park(self, attempt: Attempt, outcome: Outcome, now: float) -> Decision:
-        """This program cannot read what is stored for it: it waits for one that can, or for a
-        person. Nothing counts as failed. Where only a blob store does not answer, it is tried again
-        after a pause, which is told once.
+        """Park an attempt whose stored values this program cannot read.
+
+        It waits for a program that can read them, or for an operator, and does not count as
+        failed. If only the blob store does not answer, the values are read again after a pause,
+        and the event is emitted once.
         """
         previous, attempt.outcome = attempt.outcome, outcome
         attempt.waiting_since = attempt.waiting_since or now
@@ -415,9 +412,11 @@ class AttemptMachine:
     # -- a saga that drains
 
     def drain(self, instance: SagaInstance, now: float) -> AttemptDecisions:
-        """Let a saga drain, so that it can be planned: what waits and was not called is given up,
-        and what waits for its back-off goes on now. If it was planned meanwhile, nothing is to be
-        done. Asked once the commit is answered that has why it drains.
+        """Drain a saga, so that the engine can plan it.
+
+        Attempts that wait and were not called are given up. Attempts that wait for their backoff
+        continue now. If the saga was planned in the meantime, nothing is done. The runtime calls
+        this after the commit that stores why the saga drains.
         """
         decisions: AttemptDecisions = []
         if not instance.draining:
@@ -431,21 +430,21 @@ class AttemptMachine:
                 why = "not called: the saga is being undone"
                 decisions.append((attempt, self._give_up(attempt, why, now)))
             elif attempt.reason is Suspension.CHILD and not attempt.pending_row:
-                decisions.append((attempt, FOLLOW))  # which aborts the child, where that is meant
+                decisions.append((attempt, FOLLOW))  # which aborts the child if the saga is aborted
             elif attempt.state is not SUSPENDED or attempt.undo:
                 continue
             elif attempt.reason is Suspension.EXHAUSTED and not instance.aborted:
-                continue  # a person was asked, and may have done it by hand
+                continue  # an operator may have performed it by hand
             elif attempt.outcome and attempt.reason in AFTER_FAILURE:
                 decisions.append((attempt, self.finish(attempt, attempt.outcome, now)))
             elif attempt.until is not None and attempt.reason in COUNTED_DOWN:
-                # its last attempt, or one whose outcome is unknown: to give it up would be a
-                # failure that was none
+                # its last attempt, or one with an unknown outcome: to give it up would report a
+                # failure that did not happen
                 decisions.append((attempt, self._after_pause(attempt, now)))
         return decisions
 
     def withdrawn(self, attempt: Attempt, now: float) -> Decision:
-        """Decide on one that no worker has, and none gets, since its saga drains."""
+        """Give up an attempt whose offer was withdrawn, because its saga drains."""
         if attempt.state is not SUSPENDED or attempt.reason is not Suspension.EXTERNAL:
             return NOTHING
         return self._give_up(attempt, "not called: the saga is being undone", now)

@@ -12,7 +12,7 @@ from sagas.definition import children
 PARTS = {"key", "phase", "results"}
 FORM = '{"key": KEY, "phase": "completed", "results": {STEP: RESULT}}'
 CHILDREN = "SELECT s.key, {} FROM children c JOIN sagas s ON s.id = c.id WHERE c.parent = ?"
-"""The children of a saga by its id, each with its phase, which is to be put in."""
+"""Select the children of a saga by its id. `{}` takes the expression of the phase."""
 
 
 def check(
@@ -29,11 +29,11 @@ def check(
         step: The step's name.
         result: What is reported, as JSON values.
         rows: All children of the saga: their keys and phases.
-        steps: The names of the child's steps; None: they are not known.
+        steps: The names of the child's steps, or None if they are unknown.
 
     Raises:
-        InvalidResult: It is neither the result of a child that this step started and that has
-            ended, nor that of none. The message has nothing of the result.
+        InvalidResult: It is not the result of an ended child of this step, and does not say that
+            there is no child. The message does not show the result.
     """
     children_phases = {
         key_of: phase for key_of, phase in rows if children.is_of_step(key_of, key, step)
@@ -66,7 +66,7 @@ def _form_error(result: Any, steps: Collection[str] | None) -> str | None:
 
 
 def _key_error(key: str | None, children_phases: Mapping[str, str]) -> str | None:
-    """What is wrong with a key, by the children of the step with their phases."""
+    """Return what is wrong with a key, given the phases of the step's children; else None."""
     if key is not None and key not in children_phases:
         return "the key is not that of a child of this step"
     for child, phase in children_phases.items():

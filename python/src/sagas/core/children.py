@@ -1,4 +1,4 @@
-"""What a child's end comes to for the step that started it."""
+"""Keys, inputs and outcomes of child sagas, for the steps that start them."""
 
 from __future__ import annotations
 
@@ -16,14 +16,16 @@ from sagas.definition.compiled import Kind
 
 
 def key_of(attempt: Attempt) -> str:
-    """Return the key of the saga that an attempt starts: the same whenever it goes on, and another
-    one once it was called again behind a child that did not complete.
+    """Return the key of the saga that an attempt starts.
+
+    The key stays the same when the attempt continues. It changes when the attempt is called again
+    after a child that did not complete.
     """
     return children.key_of(attempt.key, attempt.name, number_of(attempt), attempt.undo)
 
 
 def number_of(attempt: Attempt) -> int:
-    """Return the number of that saga: greater than 1 behind those that did not complete."""
+    """Return the number of that saga: greater than 1 after children that did not complete."""
     return attempt.attempt + attempt.failures
 
 
@@ -31,14 +33,15 @@ def undone_key(attempt: Attempt) -> str | None:
     """Return the key of the child that an attempt undoes; None if it starts one."""
     if attempt.undo:
         return str(attempt.task().result["key"])
-    if attempt.instance.kind.undoes is not None:  # it undoes a child of the one that is undone
+    if attempt.instance.kind.undoes is not None:  # it undoes a child of the undone saga
         return str(child_input(attempt)())
     return None
 
 
 def child_input(attempt: Attempt) -> Callable[[], Any]:
-    """Return what returns the input of a child, as the step's function says it. A thread may call
-    it.
+    """Return a callable for the input of a child, which the step's function computes.
+
+    A thread may call it.
 
     Raises:
         CannotDecode: The codec failed.
@@ -49,8 +52,11 @@ def child_input(attempt: Attempt) -> Callable[[], Any]:
 
 
 def _written(end: Any) -> str:
-    """A child's end as JSON. It adds levels to those of the child's results, which may have ends of
-    children themselves."""
+    """Return a child's end as JSON.
+
+    It nests the child's results, which may hold the ends of further children, so it may be too
+    deep to store.
+    """
     try:
         return serialization.write(end)
     except NotSerializable as error:
@@ -95,7 +101,7 @@ def undone_steps(child: Mapping[str, str], earlier: Iterable[Mapping[str, str]])
 
     Args:
         child: The states of its steps, by name.
-        earlier: Those of the steps of the sagas that were to undo it before.
+        earlier: The step states of each earlier saga that undid the child.
     """
     undone = {name for name, state in child.items() if state != StepState.COMMITTED}
     for states in earlier:
@@ -104,7 +110,7 @@ def undone_steps(child: Mapping[str, str], earlier: Iterable[Mapping[str, str]])
 
 
 def child_outcome(end: SagaEnd, kind: Kind, results: Mapping[int, str]) -> Outcome | None:
-    """Return what a child's end comes to.
+    """Return the outcome of a step whose child has ended.
 
     Args:
         end: How it ended.
@@ -112,7 +118,7 @@ def child_outcome(end: SagaEnd, kind: Kind, results: Mapping[int, str]) -> Outco
         results: As of `undo_input`.
 
     Returns:
-        None where it is stuck: a person has to look at it first.
+        None if the child is stuck: an operator has to resolve it first.
     """
     if end.phase == SagaPhase.STUCK:
         return None

@@ -1,4 +1,4 @@
-"""What a definition's functions return for an attempt: the end of a wait, the key of a limit."""
+"""Functions of a definition that return the end of a wait, the key of a limit or a tenant."""
 
 from __future__ import annotations
 
@@ -17,21 +17,21 @@ from sagas.definition.task import Task
 
 @dataclasses.dataclass(frozen=True, slots=True)
 class OptionCalls:
-    """Functions of a definition that have to be called before an attempt goes on.
+    """Functions of a definition that are called before an attempt continues.
 
     Attributes:
-        calls: What each is called for, and what calls it. A thread may do that.
+        calls: A callable for each option. A thread may call them.
     """
 
     calls: Mapping[FunctionOption, Callable[[], Any]]
 
     def answers(self) -> dict[FunctionOption, FunctionResult]:
-        """Call them. What they raise is a part of the answers."""
+        """Call the functions, and return their results and errors by option."""
         return {subject: _returned(call) for subject, call in self.calls.items()}
 
     @property
     def option_names(self) -> str:
-        """What they are declared as."""
+        """The options with which the functions were declared, for messages."""
         return " and ".join(f"{subject.value}=" for subject in self.calls)
 
 
@@ -40,12 +40,12 @@ def _returned(call: Callable[[], Any]) -> FunctionResult:
         return FunctionResult(call())
     except Exception as error:
         return FunctionResult(error=error)
-    except BaseException as error:  # nothing of a thread may end the program
+    except BaseException as error:  # no exception of a thread may end the program
         return FunctionResult(error=RuntimeError(f"{type(error).__name__}: {error}"))
 
 
 def until_call(attempt: Attempt) -> OptionCalls:
-    """Return what asks for the end of a wait.
+    """Return the call that computes the end of a wait.
 
     Raises:
         CannotDecode: The codec failed.
@@ -56,8 +56,10 @@ def until_call(attempt: Attempt) -> OptionCalls:
 
 
 def limit_subjects(attempt: Attempt) -> list[FunctionOption]:
-    """Return what has to be asked before the limits of a step can count an attempt: the tenant of
-    its saga, and the key of the limits."""
+    """Return the options to evaluate before the limits of a step can count an attempt.
+
+    They are the tenant of its saga and the key of the limits.
+    """
     options, instance, extras = list[FunctionOption](), attempt.instance, attempt.extras
     if instance.kind.fair_by is not None and instance.tenant is None:
         options.append(FunctionOption.TENANT)
@@ -68,7 +70,7 @@ def limit_subjects(attempt: Attempt) -> list[FunctionOption]:
 
 
 def limit_calls(attempt: Attempt, subjects: Iterable[FunctionOption]) -> OptionCalls:
-    """Return what asks for these.
+    """Return the calls that compute these options.
 
     Raises:
         CannotDecode: The codec failed.
@@ -87,7 +89,7 @@ def limit_calls(attempt: Attempt, subjects: Iterable[FunctionOption]) -> OptionC
 
 
 def _limit_key(by: Callable[[Any], Any], task: Task[Any]) -> str:
-    """The key of a limit, as JSON. Raises `NotSerializable` where it is not JSON."""
+    """Return the key of a limit as JSON. Raises `NotSerializable` if it cannot be JSON."""
     return serialization.write(by(task.input), "key")
 
 
@@ -95,11 +97,11 @@ def due_time(until: Until | Any, now: float) -> float:
     """Return when a wait is over.
 
     Args:
-        until: What the definition says, or its function returned.
+        until: The value of the definition, or what its function returned.
         now: Wall time in seconds.
 
     Raises:
-        TypeError: It is no time.
+        TypeError: The value is not a time.
     """
     if isinstance(until, datetime.timedelta):
         return now + until.total_seconds()

@@ -1,7 +1,7 @@
-"""Reports that come before their step begins: stored with the saga, and used when it begins.
+"""Reports that arrive before their step starts: stored with the saga, and used at the start.
 
-They stand among the suspensions, as of attempt 0, and go away with the report of the attempt that
-takes them. Where no attempt does, they stay with the saga: the same report again is no error.
+They are stored as suspensions of attempt 0, and are deleted with the report of the attempt that
+uses them. If no attempt uses them, they stay with the saga, so the same report again succeeds.
 """
 
 from __future__ import annotations
@@ -22,7 +22,7 @@ if TYPE_CHECKING:
     from sagas.core.shard import ShardDriver
 
 EARLY_ATTEMPT = 0
-"""The number of an attempt that no engine begins."""
+"""The attempt number of early reports: the engine starts no attempt with this number."""
 EARLY_OUTCOMES = {
     EarlyReason.RESULT: OutcomeKind.SUCCEEDED,
     EarlyReason.ERROR: OutcomeKind.FAILED_PERMANENTLY,
@@ -34,13 +34,13 @@ NOT_STARTED = "it has not started. Report it after it starts"
 
 @dataclasses.dataclass(eq=False, slots=True)
 class EarlyReport:
-    """Somebody says how a step ended that has not begun.
+    """A report of a step that has not started.
 
     Attributes:
         saga: The saga, which the store has.
         action_key: The step.
-        outcome: What is said of it.
-        request: The operator's command that it is of, which is answered in the commit.
+        outcome: The reported outcome.
+        request: The operator's command to answer in the commit, if any.
     """
 
     saga: SagaInstance
@@ -49,7 +49,7 @@ class EarlyReport:
     request: RequestRef = None
 
     def keep(self) -> tuple[EarlyReason, str]:
-        """Let the saga know it from now on; return what is stored of it.
+        """Add the report to the saga, and return its reason and text as stored.
 
         Raises:
             NotSerializable: The codec failed.
@@ -62,13 +62,13 @@ class EarlyReport:
         return reason, text
 
     def row(self, now: float) -> StoredSuspension:
-        """As `keep`; return its row."""
+        """Add the report to the saga, and return its row."""
         reason, text = self.keep()
         return (self.saga.id, *self.action_key, EARLY_ATTEMPT, reason.value, 0, now, None, text)
 
 
 class DueReport(NamedTuple):
-    """A success that was reported of a step, whose needs are committed, and that has not begun."""
+    """A reported success of a step that has not started and whose needs are committed."""
 
     saga: SagaInstance
     action_key: Word
@@ -77,7 +77,7 @@ class DueReport(NamedTuple):
 
 @dataclasses.dataclass(eq=False, slots=True)
 class Refusal:
-    """A report is about to be refused, because of what was decided of its saga so far.
+    """A report that is refused because of the current state of its saga.
 
     Attributes:
         saga: The saga, which the store has.
@@ -87,9 +87,9 @@ class Refusal:
 
 
 def refusal_reason(saga: SagaInstance, step: int, kind: str) -> str | None:
-    """Why no report of a step is taken before it begins; None where one is.
+    """Return why a report of a step is refused before it starts; None if it is accepted.
 
-    It is one that somebody reports, and it will begin as far as is known.
+    It is accepted for an approval or an external step that is expected to start.
     """
     declared = saga.kind.steps[step]
     if kind == Action.COMPENSATE or declared is None:
@@ -102,7 +102,7 @@ def refusal_reason(saga: SagaInstance, step: int, kind: str) -> str | None:
 
 
 def stored(saga: SagaInstance, word: Word) -> Outcome | None:
-    """Return the report that is stored for a step; its value is as the store has it."""
+    """Return the report that is stored for a step, with its value as stored; None if none."""
     if not saga.has_early or word not in saga.rare.early_reports:
         return None
     reason, text = saga.rare.early_reports[word]
@@ -110,12 +110,14 @@ def stored(saga: SagaInstance, word: Word) -> Outcome | None:
 
 
 def due_reports(sagas: Iterable[SagaInstance], attempts: Iterable[Attempt]) -> list[DueReport]:
-    """Return the reports that are committed before their sagas begin to recover: then they are
-    compensated as any other. What needs such a step is due behind it.
+    """Return the reports to commit before their sagas start to recover.
+
+    Committed steps are then compensated like any others. A step that needs another one of these
+    comes after it.
 
     Args:
         sagas: The sagas that are about to recover, as far as is known.
-        lot: The attempts that are reported before that.
+        attempts: The attempts that are reported before that.
     """
     reports: list[DueReport] = []
     for saga in dict.fromkeys(sagas):
@@ -139,7 +141,7 @@ def due_reports(sagas: Iterable[SagaInstance], attempts: Iterable[Attempt]) -> l
 
 
 def is_success(attempt: Attempt) -> bool:
-    """Whether an attempt that is finished has succeeded."""
+    """Whether a finished attempt has succeeded."""
     return attempt.outcome is not None and attempt.outcome.kind is SUCCEEDED
 
 
@@ -148,14 +150,15 @@ def _may_begin(saga: SagaInstance, word: Word) -> bool:
 
 
 def unused(saga: SagaInstance) -> list[int]:
-    """Return the steps of a saga that is over whose success was reported, and not used. An approval
-    has nothing to be undone.
+    """Return the steps of an ended saga whose reported success was not used.
+
+    Approvals are left out: they have nothing to undo.
     """
     return [step for step in _unused_successes(saga) if not _has_no_effect(saga, step)]
 
 
 def steps_without_effect(saga: SagaInstance) -> list[int]:
-    """As `unused`, the steps that have nothing to be undone."""
+    """Return the steps with an unused report that have nothing to undo."""
     return [step for step in _unused_successes(saga) if _has_no_effect(saga, step)]
 
 
@@ -170,11 +173,13 @@ def _has_no_effect(saga: SagaInstance, step: int) -> bool:
 
 
 def taken_outcome(attempt: Attempt) -> Outcome | None:
-    """Return how an attempt that begins is over, by what was reported before: its function is not
-    called, and nobody is asked. It counts also where its saga drains by now: the effect is there.
+    """Return the outcome that was reported before an attempt started.
+
+    Its function is not called, and no operator is asked. The report also counts if the saga drains
+    by now, because the effect exists.
 
     Returns:
-        None where nothing is stored for it; one of the kind `CANNOT_DECODE` where the codec cannot
+        None if no report is stored; an outcome of the kind `CANNOT_DECODE` if the codec cannot
         read it.
     """
     report = None if attempt.undo else stored(attempt.instance, attempt.action_key)
@@ -190,7 +195,7 @@ def taken_outcome(attempt: Attempt) -> Outcome | None:
 
 
 def effects(driver: ShardDriver, report: EarlyReport | Refusal, now: float) -> Effects:
-    """Keep a report: the batch is its row. A refusal has none, and goes behind what was decided.
+    """Return effects that store a report. A refusal has no row, and waits for earlier commits.
 
     Raises:
         NotSerializable: The codec failed.

@@ -1,8 +1,8 @@
-"""Which sagas are planned or over by what is reported, as far as is known.
+"""Predicts which sagas the engine plans or ends after reports.
 
-The engine decides that. What is expected here only saves questions: a plan is a task that takes
-no slot, and how a saga ended that did not just go well is asked along with the reports. Where
-something else comes, one more question is asked behind the replies.
+The engine decides. The prediction only saves requests: a plan is a task that takes no slot, and
+the end of a saga that deviated from success is requested along with the reports. If the prediction
+is wrong, one more request follows the replies.
 """
 
 from __future__ import annotations
@@ -14,14 +14,14 @@ from sagas.core.outcomes import SUCCEEDED
 
 
 def expected_endings(attempts: Sequence[Attempt]) -> tuple[int, list[int]]:
-    """Return what is expected to follow these reports.
+    """Return the plans and ends that are expected after these reports.
 
     Args:
-        lot: Attempts that are about to be reported, and are not busy any more, of sagas that do
-            not just go well.
+        attempts: Attempts that are about to be reported, of sagas that have deviated from
+            success. Their sagas do not have them in `busy` any more.
 
     Returns:
-        How many sagas are planned, and the numbers of those that are over.
+        The number of sagas that are planned, and the numbers of the sagas that end.
     """
     planned: set[SagaInstance] = set()
     over: dict[int, None] = {}

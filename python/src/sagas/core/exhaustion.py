@@ -1,4 +1,4 @@
-"""What follows an attempt that failed: a pause, a failure, a person, or another call."""
+"""What follows a failed attempt: a pause, a failure, a wait for an operator, or another call."""
 
 from __future__ import annotations
 
@@ -13,22 +13,22 @@ from sagas.core.suspensions import SuspensionRow
 MIN_PAUSE = 0.05
 """Seconds between two calls of the same attempt."""
 MIN_YIELD, MAX_YIELD = 1.0, 60.0
-"""Seconds for which an attempt leaves its place to others whose wait for a saga was given up."""
+"""Seconds for which an attempt whose wait for a saga was given up leaves its slot to others."""
 AFTER_FAILURE = frozenset({Suspension.RETRY, Suspension.EXHAUSTED})
 """Suspensions of an attempt whose last call had no effect."""
 COUNTS_FAILURES = AFTER_FAILURE | {Suspension.CHILD}
 """Suspensions whose row counts failures; others count unknown outcomes."""
 RETRYABLE = AFTER_FAILURE | {Suspension.UNKNOWN}
-"""Suspensions of an attempt that a person may have called again at once."""
+"""Suspensions of an attempt that an operator may retry at once."""
 
 
 def after_failure(attempt: Attempt, outcome: Outcome, now: float) -> Decision | None:
-    """Decide how an attempt goes on that failed, and that the engine would not make again.
+    """Decide how a failed attempt continues that the engine would not retry.
 
-    The same attempt is called again, or waits for a person: for the engine it is under way.
+    The same attempt is called again, or waits for an operator: for the engine it is under way.
 
     Returns:
-        None where the failure is reported: the engine makes another attempt, or the step fails.
+        None if the failure is reported: the engine makes another attempt, or the step fails.
     """
     manner, is_final = attempt.manner, outcome.kind is OutcomeKind.FAILED_PERMANENTLY
     tries = attempt.instance.kind.tries[attempt.kind][attempt.step]
@@ -56,7 +56,7 @@ def after_failure(attempt: Attempt, outcome: Outcome, now: float) -> Decision | 
 
 
 def backoff_seconds(attempt: Attempt, now: float) -> float:
-    """Seconds until it is called; where the clock jumped back, no more than the pause."""
+    """Return the seconds until the call; if the clock was set back, at most the whole pause."""
     failed_at = attempt.instance.rare.failed_at.get(attempt.action_key)
     if failed_at is None:
         return 0.0
@@ -69,17 +69,17 @@ def backoff_seconds(attempt: Attempt, now: float) -> float:
 
 
 def yield_seconds(attempt: Attempt) -> float:
-    """Seconds for which it leaves its place to others behind a wait that was given up."""
+    """Return the seconds for which it leaves its slot to others after its wait was given up."""
     rare = attempt.rare
     gave_way, rare.gave_way = rare.gave_way, False
     return min(MAX_YIELD, MIN_YIELD * 2.0 ** min(rare.count - 1, 16)) if gave_way else 0.0
 
 
 def retry(attempt: Attempt, now: float) -> Decision:
-    """Call one again at once, as a person wants: its number of attempts and its time begin anew.
+    """Call an attempt again at once for an operator, with new counts and a new time.
 
-    For the engine its number stays, so what was made before is taken off the failures. By its
-    `since`, the wait that the person answered is told from a later one.
+    The engine keeps the attempt's number, so the earlier attempts are subtracted from the failures.
+    A new `waiting_since` distinguishes the wait that the operator answered from a later one.
     """
     is_unknown = attempt.reason is Suspension.UNKNOWN
     reason = Suspension.UNKNOWN if is_unknown else Suspension.RETRY
@@ -95,6 +95,6 @@ def retry(attempt: Attempt, now: float) -> Decision:
 
 
 def may_retry(attempt: Attempt) -> bool:
-    """Whether a person may have it called again at once."""
+    """Whether an operator may retry the attempt at once."""
     is_suspended = attempt.state is AttemptState.SUSPENDED and not attempt.pending_row
     return is_suspended and attempt.reason in RETRYABLE

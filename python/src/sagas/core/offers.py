@@ -9,15 +9,14 @@ from sagas.definition import report_undos
 
 
 def task_name(saga: str, step: str, action: str) -> str:
-    """Name a step's action, as workers ask for it."""
+    """Return the name of a step's action, under which workers claim it."""
     return f"{saga}/{step}/{action}"
 
 
 def offered_task_name(attempt: Attempt) -> str:
-    """Return the name under which workers ask for an attempt.
+    """Return the name under which workers claim an attempt.
 
-    A step of a saga that undoes a child is the compensation of the child's step, for the worker of
-    that.
+    A step of a saga that undoes a child has the name of the compensation of the child's step.
     """
     saga = attempt.instance.kind.saga
     if saga is not None and saga.undoes is not None and saga.undoes_step is not None:
@@ -32,8 +31,8 @@ def offered_task_name(attempt: Attempt) -> str:
 def offer_row(attempt: Attempt, shard: int, now: float) -> OfferRow:
     """Return the row that offers an attempt.
 
-    One of a queue is offered under a lease at once: a message goes out with it, and no worker
-    claims it.
+    An attempt of a queue gets a lease at once: it is sent as a message with the lease, and no
+    worker claims it.
     """
     instance = attempt.instance
     why = instance.drain_reason if instance.draining and not attempt.undo else None
@@ -45,7 +44,7 @@ def offer_row(attempt: Attempt, shard: int, now: float) -> OfferRow:
 
 
 def first_offer_row(attempt: Attempt, shard: int, now: float) -> OfferRow:
-    """Offer an attempt in the commit that begins it."""
+    """Return the row that offers an attempt in the commit that starts it."""
     row = offer_row(attempt, shard, now)
     attempt.rare.offered = row[8] or 0
     return row

@@ -21,28 +21,28 @@ from sagas.definition.step import Manner, Unknowns
 from sagas.definition.task import Task
 
 MAX_TEXT = 4000
-"""Characters of what was raised that are kept."""
+"""The characters of an error text that are stored."""
 SUCCEEDED, FAILED = OutcomeKind.SUCCEEDED, OutcomeKind.FAILED
 PERMANENT, UNKNOWN = OutcomeKind.FAILED_PERMANENTLY, OutcomeKind.UNKNOWN
 CANNOT_DECODE, ANSWERED = OutcomeKind.CANNOT_DECODE, OutcomeKind.ANSWERED
 UNREADABLE = "unreadable"
-"""In a report: the task could not be handed out. No worker's report has it."""
+"""The key of a report whose task could not be given to a worker. No worker's report has it."""
 TEMPORARY = "passes"
-"""Its value there: the values of the task may be read later."""
+"""The value of that key if the task's values may be readable later."""
 PRECEDENCE = (UNKNOWN, CANNOT_DECODE, PERMANENT, FAILED)
-"""Of a group of exceptions, the first of these that any of them is."""
+"""The kind of a group of exceptions: the first of these that any member has."""
 
 
 class Outcome(NamedTuple):
-    """What a call came to.
+    """The outcome of a call.
 
     Attributes:
         kind: The kind of outcome.
-        value: JSON: the result, or what was raised. A plain text where the outcome is unknown or
-            could not be decoded.
+        value: JSON of the result or of the error. A plain text if the outcome is unknown or the
+            values could not be decoded.
         called: Whether the function was called; else the attempt was given up.
-        error: What the function raised here, for the log's traceback. None for a `Fail`.
-        encoded: Whether the value is as it is stored.
+        error: The exception that the function raised, for the log's traceback. None for a `Fail`.
+        encoded: Whether the codec has encoded the value already.
     """
 
     kind: OutcomeKind
@@ -56,11 +56,11 @@ _outcome = cast(
     "Callable[[tuple[OutcomeKind, str, bool, None, bool]], Outcome]",
     functools.partial(tuple.__new__, Outcome),
 )
-"""As `Outcome`, for what is made all the time."""
+"""Make an `Outcome` from a tuple, faster than its constructor."""
 
 
 class Unawaited(Exception):
-    """A function returned an awaitable, so it is not over: an `await` was forgotten, say."""
+    """A function returned an awaitable: for example, an `await` was forgotten."""
 
     def __init__(self, value: Any) -> None:
         super().__init__(value)
@@ -70,11 +70,10 @@ class Unawaited(Exception):
 def succeeded(value: Any, task: Task[Any] | None = None) -> Outcome:
     """Return the outcome of a function that returned `value`.
 
-    A result that is not JSON is kept as `{"unstorable": ..}`: the effect is there, and must not
-    be lost.
+    A result that is not JSON is stored as `{"unstorable": ...}`, because its effect exists.
 
     Raises:
-        Unawaited: The result is awaitable. What it comes to is the result.
+        Unawaited: The result is awaitable. Await it to get the result.
     """
     try:
         return _outcome((SUCCEEDED, serialization.write_value(value), True, None, False))
@@ -89,7 +88,7 @@ def succeeded(value: Any, task: Task[Any] | None = None) -> Outcome:
 
 
 def encode_result(payloads: Payloads, text: str) -> str:
-    """Return a result as it is stored. Where its codec fails, that is kept: the effect is there."""
+    """Return a result as stored. If its codec fails, the error is stored: the effect exists."""
     try:
         return payloads.encode(text)
     except NotSerializable as error:
@@ -106,7 +105,7 @@ def failure(
         text: Why it failed.
         final: Whether no further attempt is made.
         called: Whether the function was called; else the attempt was given up.
-        retry_after: Seconds until the next attempt, in place of the step's back-off.
+        retry_after: Seconds until the next attempt, in place of the step's backoff.
     """
     detail: dict[str, Any] = {"error": text[:MAX_TEXT]}
     if final:
@@ -119,20 +118,21 @@ def failure(
 
 
 def values_unavailable(error: BlobUnavailable) -> Outcome:
-    """Return the outcome of an attempt whose values the blob store does not give now."""
+    """Return the outcome of an attempt whose values the blob store cannot return now."""
     return _text_outcome(CANNOT_DECODE, str(error))._replace(error=error)
 
 
 def unreadable(text: str, passes: bool = False) -> Outcome:
-    """Return what is reported of a task that cannot be handed out, since what is stored for it
-    cannot be read: nothing was called, and nothing has failed. `passes`: it can be read later.
+    """Return the report of a task whose stored values cannot be read.
+
+    No function was called, and nothing has failed. `passes`: the values may be readable later.
     """
     report = {"error": text[:MAX_TEXT], "called": False, UNREADABLE: TEMPORARY if passes else True}
     return Outcome(FAILED, serialization.write(report), called=False)
 
 
 def read_report(kind: OutcomeKind, value: str) -> Outcome:
-    """Return the outcome of a report, as it is stored for the node that executes the saga."""
+    """Return the outcome of a stored report, for the node that executes the saga."""
     if kind is FAILED and UNREADABLE in value and (report := json.loads(value)).get(UNREADABLE):
         if report[UNREADABLE] == TEMPORARY:
             return values_unavailable(BlobUnavailable(str(report["error"])))
@@ -141,12 +141,12 @@ def read_report(kind: OutcomeKind, value: str) -> Outcome:
 
 
 def parked(text: str) -> Outcome:
-    """Return the outcome of an attempt that this program cannot make, and another one may."""
+    """Return the outcome of an attempt that only another program can make."""
     return _text_outcome(CANNOT_DECODE, text)
 
 
 def unknown(text: str) -> Outcome:
-    """Return the outcome of a call that may have had its effect."""
+    """Return the outcome of a call whose effect may have happened."""
     return _text_outcome(UNKNOWN, text)
 
 
@@ -168,8 +168,10 @@ def raised(error: BaseException, manner: Manner) -> Outcome:
 
 
 def classify(error: BaseException, unknown: Unknowns) -> OutcomeKind:
-    """Return the outcome that an exception is; of a group, as `asyncio.TaskGroup` raises one, the
-    first of `PRECEDENCE` that any of it is.
+    """Return the kind of outcome of an exception.
+
+    For a group, as `asyncio.TaskGroup` raises it, this is the first kind of `PRECEDENCE` that any
+    member has.
     """
     if isinstance(error, CannotDecode):
         return CANNOT_DECODE
@@ -180,11 +182,11 @@ def classify(error: BaseException, unknown: Unknowns) -> OutcomeKind:
     if isinstance(error, BaseExceptionGroup):
         kinds = {classify(member, unknown) for member in error.exceptions}
         return next(kind for kind in PRECEDENCE if kind in kinds)
-    return FAILED if isinstance(error, Exception) else UNKNOWN  # sys.exit() in the middle, say
+    return FAILED if isinstance(error, Exception) else UNKNOWN  # for example, sys.exit()
 
 
 def describe_error(error: BaseException) -> str:
-    """Return an exception as a line; of a group each one."""
+    """Return an exception as a line; for a group, all its members."""
     if isinstance(error, BaseExceptionGroup):
         return "; ".join(describe_error(member) for member in error.exceptions)
     if isinstance(error, SyntaxError) or getattr(error, "__notes__", None):
@@ -193,7 +195,7 @@ def describe_error(error: BaseException) -> str:
 
 
 def _line_of(error: BaseException) -> str:
-    """As `traceback.format_exception_only` of one without notes, in a tenth of its time."""
+    """Return the line of `traceback.format_exception_only`, in a tenth of its time."""
     kind = type(error)
     name = kind.__qualname__
     if kind.__module__ not in ("__main__", "builtins"):
@@ -206,7 +208,7 @@ def _line_of(error: BaseException) -> str:
 
 
 def error_text(outcome: Outcome) -> str:
-    """Return why an attempt did not succeed, for people; the empty text where it did."""
+    """Return why an attempt did not succeed, for people; empty if it did."""
     if outcome.kind in (SUCCEEDED, ANSWERED):
         return ""
     if outcome.kind in (UNKNOWN, CANNOT_DECODE):
@@ -215,8 +217,9 @@ def error_text(outcome: Outcome) -> str:
 
 
 def unknown_hint(error: BaseException | None, manner: Manner) -> str:
-    """Return what the log adds to a failure whose cause leaves open what was done, as clients raise
-    their own exceptions from a timeout; else the empty text.
+    """Return what the log adds to a failure whose cause has an unknown outcome; else empty.
+
+    Clients often raise their own exceptions from a timeout.
     """
     seen, cause = set[int](), error
     while cause is not None and id(cause) not in seen:
@@ -232,7 +235,7 @@ def unknown_hint(error: BaseException | None, manner: Manner) -> str:
 
 
 def approval_outcome(outcome: Outcome) -> Outcome:
-    """Return how an approval ended whose function decided it."""
+    """Return the outcome of an approval that its function decided."""
     answer = json.loads(outcome.value)
     if "rejected" in answer:
         return failure(answer["rejected"], final=True)
@@ -241,10 +244,10 @@ def approval_outcome(outcome: Outcome) -> Outcome:
 
 
 def reported_outcome(result: Any, failed: str | None, final: bool = True) -> Outcome:
-    """Return what somebody reports of an attempt.
+    """Return the outcome that a caller reports for an attempt.
 
     Args:
-        result: The result, where it succeeded.
+        result: The result, if it succeeded.
         failed: Why it failed, else None.
         final: Whether a failure is permanent.
 

@@ -1,4 +1,4 @@
-"""What an open saga waits for, in words."""
+"""What an open saga waits for, as texts."""
 
 from __future__ import annotations
 
@@ -11,19 +11,19 @@ from sagas.core.model import QUEUED, RUNNING, SUSPENDED, SagaInstance
 from sagas.core.states import WAITS_FOR, Action, Suspension
 
 MAX_WAITS = 5
-"""So many waits are named."""
+"""The number of waits that a message names."""
 NO_NODE_YET = "no node has started it yet (run `sagas store URL nodes`)"
-"""Of a client's start that no log has yet."""
+"""The text for a client's start that no shard has yet."""
 
 
 def check_refused(row: SagaRow) -> None:
-    """Raise `InvalidInput` where a node has refused a client's start."""
+    """Raise `InvalidInput` if a node has refused a client's start."""
     if row.id < 0 and row.note is not None:
         raise InvalidInput(row.note)
 
 
 def missing_definition(saga: str, version: int, nodes: Sequence[str]) -> str:
-    """Return what is said of a saga that these nodes leave, since they have another definition."""
+    """Return the text for a start that these nodes skip, because their definition differs."""
     named = f"{saga!r} (version {version})"
     has = f"node{'s' if len(nodes) > 1 else ''} {', '.join(nodes)}"
     return (
@@ -34,7 +34,7 @@ def missing_definition(saga: str, version: int, nodes: Sequence[str]) -> str:
 
 
 def _wait_text(name: str, undo: bool, reason: str, until: float | None) -> str:
-    """A step whose attempt is suspended, and why."""
+    """Return a text that names a suspended step and its reason."""
     text = f"waits for {WAITS_FOR.get(reason, reason)}"
     if reason == Suspension.UNKNOWN and until is None:
         how = f"complete or fail{' with undo=True' if undo else ''}"
@@ -51,7 +51,7 @@ def _of(undo: bool) -> str:
 
 
 def live_waits(instance: SagaInstance | None) -> list[str]:
-    """Return what a saga waits for that is driven here."""
+    """Return what a saga waits for that this program executes."""
     waits = []
     for attempt in instance.busy.values() if instance else ():
         if attempt.state is SUSPENDED:
@@ -69,7 +69,7 @@ def live_waits(instance: SagaInstance | None) -> list[str]:
 
 
 def stored_waits(names: Sequence[str], rows: Iterable[tuple[Any, ...]]) -> list[str]:
-    """Return the same by rows of the store: step, kind, reason, until. A wait until 0 is over."""
+    """Return what a saga waits for, from rows (step, kind, reason, until). Until 0 is over."""
     return [
         _wait_text(names[step], kind == Action.COMPENSATE, reason, until)
         for step, kind, reason, until in rows
@@ -78,7 +78,7 @@ def stored_waits(names: Sequence[str], rows: Iterable[tuple[Any, ...]]) -> list[
 
 
 def timeout_error(key: str, timeout: float, waits: Sequence[str]) -> TimeoutError:
-    """Return what is raised for a saga that is not over in time."""
+    """Return the error for a saga that has not ended in time."""
     more = f" and {len(waits) - MAX_WAITS} more" if len(waits) > MAX_WAITS else ""
     return TimeoutError(
         f"{key!r} is still open after {timeout:g} "

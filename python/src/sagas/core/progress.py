@@ -1,4 +1,4 @@
-"""Active attempts as the driving node knows them."""
+"""Active attempts as the executing node knows them."""
 
 from __future__ import annotations
 
@@ -12,8 +12,9 @@ TIMED = RETRYABLE | {Suspension.BACKOFF, Suspension.TIMER, Suspension.APPROVAL}
 
 
 def active_attempts(instance: SagaInstance | None, now: float) -> list[ActiveAttempt]:
-    """Return the attempts of a saga that have begun and whose outcomes are not known; none of one
-    that is not driven here.
+    """Return the started attempts of a saga whose outcomes are not known.
+
+    The list is empty if this program does not execute the saga.
     """
     if instance is None or not instance.committed:
         return []
@@ -36,7 +37,7 @@ def _active(attempt: Attempt, now: float) -> ActiveAttempt:
 
 
 def waits_for(attempt: Attempt, now: float) -> str:
-    """Return for what an attempt waits, a key of `WAITS_FOR`; empty if its function is called."""
+    """Return what an attempt waits for, a key of `WAITS_FOR`; empty if its function runs."""
     if attempt.state is RUNNING:
         return "ordered" if attempt.is_remote else ""
     if attempt.state is not SUSPENDED:
@@ -51,7 +52,7 @@ def waits_for(attempt: Attempt, now: float) -> str:
 
 
 def describe_attempt(attempt: Attempt, now: float) -> str:
-    """Return in words what an attempt does that has begun."""
+    """Return a text that says what a started attempt does."""
     if attempt.state is FINISHED:
         return "it has ended"
     waits = waits_for(attempt, now)

@@ -2,11 +2,11 @@
 
 A record of a program has a line for each event, with single spaces between its fields:
 
-    sagas-record 1 RUN                                 a program begins; RUN is a word of its own
-    took RUN SHARD EPOCH TIMELINE EVENTS DIGEST        it has taken a shard up, and read EVENTS
+    sagas-record 1 RUN                                 a program starts; RUN is its unique name
+    took RUN SHARD EPOCH TIMELINE EVENTS DIGEST        it has taken over a shard, and read EVENTS
     sent RUN SHARD EPOCH TIMELINE FIRST DIGEST         it sends a commit that follows FIRST events
     heard RUN SHARD EPOCH TIMELINE EVENTS              the server answered: there are EVENTS now
-    stale RUN SHARD EPOCH TIMELINE                     it answered that the shard is another's
+    stale RUN SHARD EPOCH TIMELINE                     it answered that another node has the shard
     failed RUN SHARD EPOCH TIMELINE                    it answered that it wrote nothing
     closed RUN SHARD EPOCH TIMELINE                    the shard is closed: it may be deleted
     told RUN SHARD EPOCH TIMELINE EVENTS EDGE          it acknowledges what rests on EVENTS
@@ -32,16 +32,16 @@ FIELDS = {
     "told": 7,
     "seen": 4,
 }
-"""How many words a line has."""
+"""The number of fields of each line."""
 SEEN = "seen"
 
 
 class InvalidLine(Exception):
-    """A line of a record is none."""
+    """A line of a record is invalid."""
 
 
 class RecordNote(NamedTuple):
-    """An event of a program's record about one shard, with its number, and its digest or edge."""
+    """An event of a program's record about one shard, with its number and its digest or edge."""
 
     event: str
     number: int = 0
@@ -50,7 +50,7 @@ class RecordNote(NamedTuple):
 
 
 class SessionName(NamedTuple):
-    """What names a session: the program, the epoch and the timeline."""
+    """The name of a session: the program, the epoch and the timeline."""
 
     run: str
     epoch: int
@@ -59,8 +59,11 @@ class SessionName(NamedTuple):
 
 @dataclasses.dataclass
 class Records:
-    """The records of programs: the notes of each session, by shard, and the edges at which the end
-    of each saga was acknowledged.
+    """The records of programs.
+
+    Attributes:
+        notes: The notes of each session, by shard.
+        seen: The edges at which the end of each saga was acknowledged, by saga.
     """
 
     notes: dict[int, dict[SessionName, list[RecordNote]]] = dataclasses.field(default_factory=dict)
@@ -70,7 +73,7 @@ class Records:
         """Add a line.
 
         Raises:
-            BadLine: It is none.
+            InvalidLine: The line is invalid.
         """
         event, *fields = line.split(" ")
         if event == "sagas-record":
@@ -78,7 +81,7 @@ class Records:
                 raise InvalidLine("its format is not 1")
             return
         if FIELDS.get(event) != 1 + len(fields):
-            raise InvalidLine("it is no event")
+            raise InvalidLine("it is not an event")
         if event == SEEN:
             self.seen.setdefault(_number(fields[1]), set()).add(fields[2])
             return
@@ -110,7 +113,7 @@ class Records:
         if note.event != "failed":
             notes.append(note)
             return
-        # what was sent was not written; meanwhile something may have been acknowledged
+        # the sent commit was not written; an acknowledgement may have followed it
         last = next(
             (session for session in reversed(range(len(notes))) if notes[session].event != "told"),
             None,

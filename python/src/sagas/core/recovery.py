@@ -1,12 +1,12 @@
 """Recovery of a shard from the rows of the store.
 
-That is so when a program takes a shard up, when its engine died, and when a commit was refused
-or its answer was lost. What was on its way is there by then, or never will be. The rows of the
-store and the engine's own answers tell what is so; of what this program knew only the attempts
-that run stay.
+A shard is recovered when a program takes it over, when its engine process died, and when a commit
+was refused or its answer was lost. By then each earlier commit is stored, or never will be. The
+rows of the store and the replies of the engine define the state. Of this program's own state, only
+the attempts that run are kept.
 
-A finished attempt stays finished: it is reported again, unless the store shows that its result is
-not there any more. Then a new attempt takes its place, as of an earlier program.
+A finished attempt stays finished: it is reported again, unless the store does not have its result
+any more. Then a new attempt replaces it, as if an earlier program had started it.
 """
 
 from __future__ import annotations
@@ -34,27 +34,27 @@ from sagas.definition.start_options import StartOptions
 DEVIATION_EVENTS = re.compile(
     r'"event":"(?:missed|fail|start_undo|undone|undo_missed|undo_fail|abort|adopt)","saga":(\d+)'
 )
-"""The events by which a saga does not just go well."""
+"""The events by which a saga deviates from success."""
 AttemptsUnderWay = dict[tuple[int, int, str, int], Attempt]
-"""What was under way here: saga, step, action and number of each attempt."""
+"""The attempts of this program, by saga, step, action and number."""
 
 
 @dataclasses.dataclass(eq=False, slots=True)
 class Recovery:
-    """What is to be done with what was found.
+    """The result of a recovery, which the runtime carries out.
 
     Attributes:
-        effects: The ends of sagas that the store lacks; its batch is committed as any other.
-        restored: The open sagas, each of which is there.
-        replaced: Sagas that this program was to open elsewhere under a key that one of the shard
-            has, each with that one.
-        gone: Sagas that are not open any more: their ends were written, and the answer was lost;
-            or another server took over, which may not have them.
-        resumed: The attempts that go on (`AttemptMachine.resume`).
-        forgotten: Attempts that the store does not have as begun: they had not begun, or their
-            reports are there.
-        aborted: Aborts that are answered, each with `done`.
-        draining: These sagas drain (`AttemptMachine.drain`), once the attempts go on.
+        effects: The ends of sagas that the store does not have; its batch is committed as usual.
+        restored: The open sagas.
+        replaced: Sagas that this program wanted to open elsewhere, each with the saga of this
+            shard that has its key.
+        gone: Sagas that are not open any more: their ends were stored and the answer was lost, or
+            another server took over that may not have them.
+        resumed: The attempts that continue (`AttemptMachine.resume`).
+        forgotten: Attempts that the store does not have as under way: they never started, or
+            their reports are stored.
+        aborted: Abort requests that are answered, each with `done`.
+        draining: Sagas that drain (`AttemptMachine.drain`) after their attempts continue.
     """
 
     effects: Effects
@@ -68,7 +68,7 @@ class Recovery:
 
 
 def damage_of(rows: LoadedShard, driver: ShardDriver) -> str | None:
-    """Return what is wrong with a shard's rows, before an engine is asked."""
+    """Return what is wrong with a shard's rows, before an engine reads them; None if nothing."""
     count = len(driver.identity.definitions.kinds)
     if undefined := [
         key for _, key, definition_index, *_ in rows.open if definition_index >= count
@@ -84,15 +84,16 @@ def overdue(rows: LoadedShard, now: float) -> list[int]:
 
 
 def requests(rows: LoadedShard, overdue: Sequence[int] = ()) -> list[str]:
-    """Return what an engine is asked that was started on a shard's event log. `overdue`: the
-    numbers of the sagas that are aborted before anything goes on.
+    """Return the requests to an engine that was started on a shard's event log.
+
+    `overdue`: the numbers of the sagas to abort first.
     """
     aborts = map(protocol.abort_line, overdue)
     return [*aborts, protocol.BUSY, *map(protocol.show_line, _deviating(rows, overdue))]
 
 
 def _deviating(rows: LoadedShard, overdue: Sequence[int]) -> list[int]:
-    """The open sagas of which something failed, or that were aborted."""
+    """Return the open sagas that have deviated from success: a failure, a retry or an abort."""
     odd = {int(number) for number in DEVIATION_EVENTS.findall(rows.text)}.union(overdue)
     return [id % SHARD_CAPACITY for id, *_ in rows.open if id % SHARD_CAPACITY in odd]
 
@@ -100,16 +101,16 @@ def _deviating(rows: LoadedShard, overdue: Sequence[int]) -> list[int]:
 def take_unopened(
     driver: ShardDriver, rows: LoadedShard | None, known: Mapping[str, SagaInstance]
 ) -> tuple[list[SagaInstance], list[SagaInstance]]:
-    """Take out the sagas that were to be opened in a shard, and are not there.
+    """Remove the sagas that a shard should open and that the store does not have.
 
     Args:
-        driver: What the program knew of the shard.
-        rows: What the store has of it; None if it cannot be read.
-        fence: The program's sagas by key.
+        driver: The shard as this program knew it.
+        rows: The stored rows of the shard; None if they cannot be read.
+        known: The program's sagas by key.
 
     Returns:
-        Those that the engine was asked to open, and those that it was not. They are opened again,
-        or refused. A saga of a key that is another one's by now is in neither.
+        The sagas that the engine was requested to open, and the others. They are opened again, or
+        refused. A saga whose key has another saga by now is in neither list.
     """
     stored_keys = {key for _, key, *_ in rows.open} if rows else set()
     sent = [
@@ -118,7 +119,7 @@ def take_unopened(
         if not saga.committed and saga.key not in stored_keys and known.get(saga.key) is saga
     ]
     for saga in sent:
-        for attempt in saga.busy.values():  # it never began: the saga was not there
+        for attempt in saga.busy.values():  # it never started: the store did not have the saga
             attempt.forget()
         saga.forget()
         saga.number, saga.shard = -1, None
@@ -137,21 +138,21 @@ def recover(
     overdue: Sequence[int] = (),
     log_text: str = "",
 ) -> Recovery:
-    """Make a shard's driver what the store has, and go on with what was begun.
+    """Set a shard's driver to the state of the store, and continue the started attempts.
 
     Args:
         rows: The shard's rows.
         replies: The engine's replies to `requests(rows, overdue)`.
         now: Wall time in seconds.
-        previous: What the program knew of the shard. It is `LOADING`, and `ACTIVE` from now on.
-        fence: The program's sagas by key.
-        is_shared: Whether other nodes have shards in the store: then a key that the program was
-            to open elsewhere may be another saga's.
-        overdue: The numbers of the sagas that the engine was asked to abort.
+        previous: The driver as this program knew it. It is `LOADING`, and becomes `ACTIVE`.
+        known: The program's sagas by key.
+        is_shared: Whether other nodes have shards in the store: then a key that the program
+            wanted to open elsewhere may belong to another saga.
+        overdue: The numbers of the sagas that the engine was requested to abort.
         log_text: The event log's new lines, which are the aborts.
 
     Returns:
-        What is to be done, in this order: `replaced`, `gone`, `restored`, `forgotten` and
+        The recovery, to carry out in this order: `replaced`, `gone`, `restored`, `forgotten` and
         `aborted`; the commit of `effects`; `resumed`; `draining`.
     """
     driver, previous_sagas, under_way = previous, previous.sagas, _under_way(previous)
@@ -190,14 +191,14 @@ def _apply_aborts(
     replies: Iterator[str],
     log_text: str,
 ) -> None:
-    """The sagas whose deadlines had passed are aborted, before an attempt of theirs goes on."""
+    """Apply the aborts of sagas whose deadlines have passed, before their attempts continue."""
     if overdue:
         effects.batch.text = log_text
         driver.events += effects.batch.count_lines()
         ReplyReader(driver, effects).overdue([driver.sagas[number] for number in overdue], replies)
         for saga in effects.rare.overdue:
             saga.rare.may_cancel_work = (
-                True  # the store has its deadline, so what is called hears of it
+                True  # the store has its deadline, so running functions are cancelled
             )
 
 
@@ -217,7 +218,7 @@ def _restore(
     known: Mapping[str, SagaInstance],
     is_shared: bool,
 ) -> None:
-    """Take an open saga of the store; the one that this program has, if it is the same."""
+    """Restore an open saga of the store, with this program's object if it is the same saga."""
     id, key, definition_index, text, deadline, traceparent, shape = row
     saga = known.get(key)
     if saga is not None and (saga.shard is driver or not is_shared):
@@ -234,7 +235,7 @@ def _restore(
 
 
 def _apply_rows(driver: ShardDriver, rows: LoadedShard) -> None:
-    """Put into the sagas what the store has of their steps."""
+    """Apply the stored results and suspensions to the sagas."""
     for id, step, kind, _, outcome, value, at in rows.results:
         _apply_result(driver.sagas[id % SHARD_CAPACITY], step, kind, outcome, value or "null", at)
     for id, step, kind, number, why, _, _, until, text in rows.held:
@@ -244,7 +245,7 @@ def _apply_rows(driver: ShardDriver, rows: LoadedShard) -> None:
             continue
         reason = Suspension(why)
         if reason is Suspension.CANNOT_DECODE and until is None:
-            continue  # it may be a wait that could not say until when
+            continue  # it may be a wait whose end could not be computed
         is_called = reason in PARKED  # its time was over
         if is_called or (reason is Suspension.TIMER and until is not None):
             due = driver.sagas[id % SHARD_CAPACITY].rare.wait_ends
@@ -262,12 +263,12 @@ def _apply_result(
         saga.has_deviated = True
     elif outcome != "ok":
         saga.has_deviated = True
-        failure = json.loads(value)
-        was_called = failure.get("called", True)
+        detail = json.loads(value)
+        was_called = detail.get("called", True)
         saga.note_error(step, value, was_called)
         if was_called:
-            saga.note_failure((step, kind), at, failure)
-        if failure.get("final"):
+            saga.note_failure((step, kind), at, detail)
+        if detail.get("final"):
             saga.rare.final.add((step, kind))
 
 
@@ -286,20 +287,20 @@ def _resume(
     busy: list[dict[str, Any]],
     is_ours: bool,
 ) -> None:
-    """The attempts that were begun and not reported: those that are under way here, and those of
-    an earlier program. `is_ours`: no other node had the shard since this program knew it, and the
-    server is the same.
+    """Resume the attempts that were started and not reported, here or by an earlier program.
+
+    `is_ours`: no other node had the shard since this program knew it, and the server is the same.
     """
     suspensions = {row[:4]: row for row in rows.held}
     stored_results = {row[:4]: row for row in rows.results if row[4] == "ok"}
-    """The results of transactions, whose reports are not there."""
+    """The results of transactions whose reports are not stored."""
     for task in busy:
         saga = driver.sagas[task["saga"]]
         key = task["step"], task["task"], task["attempt"]
         attempt = old.pop((saga.number, *key), None)
         row = (driver.number * SHARD_CAPACITY + saga.number, *key)
         if attempt is not None and attempt.is_recorded and row not in stored_results:
-            recovery.forgotten.append(attempt)  # by a server that was there before
+            recovery.forgotten.append(attempt)  # an earlier server had its result
             attempt = Attempt(saga, *key, is_uncalled=False)
         elif attempt is None or _is_doubtful(attempt, is_ours):
             if attempt is not None:
@@ -317,8 +318,10 @@ def _resume(
 
 
 def _is_doubtful(attempt: Attempt, is_ours: bool) -> bool:
-    """Whether what this program knows of it may be otherwise by now: it was given up without a
-    call, or it waits, and another node may have had the shard and called it.
+    """Whether this program's state of an attempt may be out of date.
+
+    It was given up without a call; or it waits, and another node may have had the shard and called
+    it.
     """
     if attempt.state is FINISHED:
         return attempt.outcome is not None and not attempt.outcome.called
@@ -328,19 +331,19 @@ def _is_doubtful(attempt: Attempt, is_ours: bool) -> bool:
 def _restored_attempt(
     saga: SagaInstance, key: tuple[int, str, int], previous: Attempt | None, is_ours: bool
 ) -> Attempt:
-    """An attempt as an earlier program left it, or as one that was given up is decided again."""
+    """Return a new attempt that replaces one of an earlier program or a given-up one."""
     attempt = Attempt(saga, *key, is_uncalled=previous is not None and is_ours)
     if (
         attempt.is_uncalled
         and attempt.manner.external
         and attempt.action_key not in saga.rare.final
     ):
-        attempt.reason = Suspension.EXTERNAL  # its row tells whether a worker has it
+        attempt.reason = Suspension.EXTERNAL  # its row says whether a worker has it
     return attempt
 
 
 def _apply_suspension(attempt: Attempt, row: StoredSuspension) -> None:
-    """Put into an attempt what the store has of its suspension."""
+    """Apply the stored suspension to an attempt."""
     _, _, _, _, why, count, since, until, error = row
     reason = Suspension(why)
     attempt.reason, attempt.waiting_since, attempt.until, attempt.has_row = (
@@ -362,8 +365,10 @@ def _apply_suspension(attempt: Attempt, row: StoredSuspension) -> None:
 
 
 def _abort_again(recovery: Recovery, driver: ShardDriver, abort: Abort) -> None:
-    """It was asked, or was to be: it is asked of a saga that is open and not aborted. Of those of
-    an aborted saga, the first one that was not answered counts, unless another one did before.
+    """Repeat or answer an abort request.
+
+    It is repeated if its saga is open and not aborted. Of the requests for an aborted saga, the
+    first one without an answer counts, unless another one aborted the saga before.
     """
     if abort.saga.aborted or abort.saga.number not in driver.sagas:
         is_first = not any(other.saga is abort.saga for other in recovery.aborted)

@@ -9,7 +9,7 @@ from typing import TYPE_CHECKING
 from sagas.core import announcements, protocol, spans
 from sagas.core.attempts import PARKED
 from sagas.core.batch import OpenedRow, ResultRow
-from sagas.core.collection import has_nothing_to_undo, needs_value_to_tell
+from sagas.core.collection import has_nothing_to_undo, needs_stored_value
 from sagas.core.early_reports import stored as stored_report
 from sagas.core.early_reports import steps_without_effect
 from sagas.core.effects import Abort, Effects, EngineRequest
@@ -25,21 +25,17 @@ if TYPE_CHECKING:
     from sagas.core.shard import ShardDriver
 
 LAST_ATTEMPT = (1 << 31) - 1
-"""No attempt has a greater number."""
+"""The greatest number of an attempt."""
 SHARD_FULL = '{"refused":"full"}'
 LOG_FULL = '{"refused":"log-full"}'
 
 
 class EngineDisagrees(Exception):
-    """The engine does not know what was reported, or has other numbers: the shard is recovered
-    from the store.
-    """
+    """The engine's state differs from this program's: the shard is recovered from the store."""
 
 
 class ReplyReader:
-    """Reads the replies to one question: what they say goes into the driver's sagas and into
-    effects.
-    """
+    """Read the replies to one request into the driver's sagas and into effects."""
 
     __slots__ = ("_driver", "_first", "_effects", "_batch", "_over")
 
@@ -49,11 +45,11 @@ class ReplyReader:
         self._over: dict[int, None] = {}
 
     def replies(self, request: EngineRequest, replies: Sequence[str]) -> Sequence[int]:
-        """Read the replies to a question.
+        """Read the replies to a request.
 
         Returns:
-            The numbers of the sagas that are over and did not just go well: how they ended is to
-            be asked.
+            The numbers of the ended sagas that have deviated from success: a further request has
+            to ask how they ended.
 
         Raises:
             Disagrees: The engine knows something else than this program.
@@ -85,7 +81,7 @@ class ReplyReader:
     # -- tasks
 
     def _next(self, reply: str) -> None:
-        """What begins now."""
+        """Read the reply to `next`: the attempts that start now, and the plans."""
         driver, started = self._driver, self._effects.dispatch
         tasks = protocol.tasks_in(reply)
         if tasks is not None:  # most replies have no plan
@@ -115,9 +111,9 @@ class ReplyReader:
                     self._offer(attempt)
 
     def _offer(self, attempt: Attempt) -> None:
-        """Who does it elsewhere may have it as soon as it has begun, if that is at once."""
+        """Offer an attempt to its worker in the commit that starts it, if it starts at once."""
         is_first = attempt.is_external and attempt.attempt == 1 and not attempt.instance.draining
-        if needs_value_to_tell(attempt) or has_nothing_to_undo(attempt):
+        if needs_stored_value(attempt) or has_nothing_to_undo(attempt):
             return
         if is_first and stored_report(attempt.instance, attempt.action_key) is None:
             row = first_offer_row(attempt, self._driver.number, self._batch.at)
@@ -130,7 +126,7 @@ class ReplyReader:
         for attempt, reply in zip(attempts, replies):
             saga, outcome = attempt.instance, attempt.outcome
             event_phase = protocol.event_and_phase(reply)
-            if event_phase is None:  # it is not what is on its way: it is over, or was another's
+            if event_phase is None:  # the attempt is over, or belonged to another node
                 location = f"saga {saga.number}, step {attempt.step}, attempt {attempt.attempt}"
                 raise EngineDisagrees(f"{location}: {reply}")
             event, phase = event_phase
@@ -160,8 +156,9 @@ class ReplyReader:
         self._effects.reported = attempts
 
     def _before_recovery(self, request: EngineRequest, replies: Iterator[str]) -> None:
-        """The successes of a lot, reports of steps that had not begun, the aborts, and the rest of
-        the lot. The engine may not take such a step: then its report stays where it is.
+        """Read successes, early reports, aborts and the other reports, in this order.
+
+        The engine may not accept an early report: then it stays stored.
         """
         self._reports(request.reports[: request.success_count], replies)
         taken, events = list[Attempt](), list[str]()
@@ -181,8 +178,9 @@ class ReplyReader:
         self._effects.reported = request.reports
 
     def _settle_rows(self, attempt: Attempt) -> None:
-        """What else the store has of an attempt that was reported. Of a wait that is retried it
-        keeps until when, or that its time is over.
+        """Update the other rows of a reported attempt.
+
+        A wait that is retried keeps the row with its time, or with the note that its time is over.
         """
         batch = self._batch
         if attempt.extras is not None and attempt.extras.spans:
@@ -203,7 +201,7 @@ class ReplyReader:
             batch.rare_rows.settled.append((attempt.token(), self._driver.number, came))
 
     def _otherwise(self, attempt: Attempt, outcome: Outcome, event: str) -> None:
-        """It is undone, or has failed, or is retried."""
+        """Apply a report that is not a commit: undone, failed or to be retried."""
         saga = attempt.instance
         if event == "undone":  # attempts keep the results that they began with
             results = {step: value for step, value in saga.results.items() if step != attempt.step}
@@ -231,9 +229,7 @@ class ReplyReader:
         self._effects.rare_effects.aborted += aborts
 
     def overdue(self, sagas: Sequence[SagaInstance], replies: Iterator[str]) -> None:
-        """Read the replies to aborts of sagas whose deadlines have passed. Nobody waits for
-        these.
-        """
+        """Read the replies to aborts because of deadlines. No caller waits for them."""
         for saga, reply in zip(sagas, replies):
             if reply.startswith(protocol.EVENT):
                 saga.has_deviated = saga.aborted = saga.draining = True
@@ -241,7 +237,7 @@ class ReplyReader:
                 self._effects.rare_effects.overdue.append(saga)
 
     def _cancel(self, saga: SagaInstance) -> None:
-        """What workers do of it may not be wanted any more."""
+        """Add the row by which workers may stop the attempts of a saga."""
         if saga.kind.has_external:
             row = (saga.drain_reason, self._first + saga.number)
             self._batch.rare_rows.cancelled.append(row)
@@ -294,7 +290,7 @@ class ReplyReader:
                     batch.rare_rows.children.append((id, saga.options.parent))
                 opened_sagas.append(saga)
                 continue
-            # those behind one that was passed over have numbers that are not the next ones
+            # the sagas after a refused one got numbers that are not the next ones
             is_passed = is_passed or reply in (SHARD_FULL, LOG_FULL)
             if not is_passed:
                 raise EngineDisagrees(f"saga {driver.opened} was to be opened: {reply}")
@@ -302,7 +298,7 @@ class ReplyReader:
         self._effects.opened = opened_sagas
 
     def _not_opened(self, saga: SagaInstance, reply: str) -> None:
-        """The shard is full, and another one takes the saga."""
+        """Move a saga to another shard, because this one is full."""
         driver = self._driver
         if reply == LOG_FULL and not driver.opened:  # an empty log has room for any definition
             raise EngineDisagrees(f"an empty log was to take saga {saga.kind.name!r}: {reply}")
@@ -317,8 +313,10 @@ class ReplyReader:
     # -- ends
 
     def _phase(self, saga: SagaInstance, phase: str) -> None:
-        """Where a saga stands now: if it is over and all went well, the batch says so; else how
-        it ended is to be asked.
+        """Apply a saga's phase.
+
+        If it succeeded, its end goes into the batch; if it ended otherwise, a further request asks
+        for its end.
         """
         if phase in (EnginePhase.ENDED, EnginePhase.STUCK):
             if saga.has_deviated:
@@ -327,7 +325,7 @@ class ReplyReader:
                 self._end(saga, phase, saga.kind.all_done)
 
     def shown(self, number: int, reply: str) -> None:
-        """Read how a saga stands: if it is over, the batch says so."""
+        """Read the reply to `show`: if the saga has ended, its end goes into the batch."""
         phase, text = protocol.phase_and_end(reply)
         saga = self._driver.sagas.get(number)
         if saga and not saga.over and phase in (EnginePhase.ENDED, EnginePhase.STUCK):
@@ -349,7 +347,7 @@ class ReplyReader:
         if saga.kind.hooks:
             rows = announcements.end_deliveries(saga, id, phase, recovered, batch.at)
             batch.rare_rows.deliveries += rows
-        if saga.has_due:  # a wait that is retried kept its row for an attempt that never came
+        if saga.has_due:  # a retried wait kept its row for an attempt that never started
             freed = [(id, step, kind, LAST_ATTEMPT) for step, kind in saga.rare.wait_ends]
             batch.rare_rows.freed += freed
         if saga.has_early:

@@ -22,7 +22,7 @@ ENDED = ("completed", "recovered")
 
 
 class SagaEnd(Protocol):
-    """How a saga ended, in a store or in a test."""
+    """The end of a saga, in a store or in a test."""
 
     @property
     def saga(self) -> str:
@@ -66,7 +66,7 @@ class SagaEnd(Protocol):
 
 
 def _result(end: SagaEnd, name: str) -> Any:
-    """The result of one step, by its whole name."""
+    """Return the result of one step by its full name."""
     if name not in end.results:
         is_declared = name in end.states
         raise KeyError(
@@ -78,13 +78,13 @@ def _result(end: SagaEnd, name: str) -> Any:
 
 
 def _compensations(steps: list[str]) -> str:
-    """The compensations of these steps, for a line."""
+    """Return a text that names the compensations of these steps."""
     is_single = len(steps) == 1
     return f"the {'compensation' if is_single else 'compensations'} of {' and '.join(steps)}"
 
 
 class EndQueries:
-    """What is asked of either."""
+    """The methods that all ends of sagas share."""
 
     __slots__ = ()
 
@@ -136,10 +136,10 @@ class EndQueries:
         }
 
     def __str__(self: SagaEnd) -> str:
-        """A line, and one for each step, with the first line of what that raised."""
+        """Return a summary line and a line for each step, with the first line of its error."""
         undo_failed = [step for step, state in self.states.items() if state == "undo_failed"]
         cost = "" if self.cost is None else f", plan of cost {self.cost}"
-        if undo_failed and self.phase == "recovered":  # what it cost is not known
+        if undo_failed and self.phase == "recovered":  # its cost is not known
             cost = f", but {_compensations(undo_failed)} failed permanently"
         blocking_steps = (
             f", because of {' and '.join(self.blocking_steps)}" if self.blocking_steps else ""
@@ -186,7 +186,7 @@ class SagaResult(EndQueries):
         aborted: Whether it was aborted.
         note: What the person wrote who resolved it, or None.
         errors: What the failed and undo_failed steps raised last, by step.
-        fan: Which steps stand for a declared one.
+        fan: The expansion of declared steps.
 
     Example:
         >>> with sagas.open_sync("orders.db", [order]) as store:
@@ -226,7 +226,7 @@ class SagaResult(EndQueries):
         errors: dict[str, str] | None = None,
         fan: Fan = FIXED,
     ) -> None:
-        # at once: a frozen class's own form takes three times as long, and each saga makes one
+        # all at once: the generated constructor takes three times as long, and each saga calls it
         vars(self).update(
             key=key,
             saga=saga,
@@ -254,7 +254,7 @@ class SagaResult(EndQueries):
         return end
 
     def __getattr__(self, name: str) -> Any:
-        """What is not read yet. (Two threads may read it at once: both have the same.)"""
+        """Read the result at the first access. (If two threads read it, both get the same.)"""
         values = vars(self)
         if (read := values.get("_read")) is not None:
             values.update({**vars(read()), **values})
@@ -266,7 +266,7 @@ class SagaResult(EndQueries):
         return values[name]
 
     def __getstate__(self) -> dict[str, Any]:
-        """All of it, for a copy and another process."""
+        """Return all fields, for a copy or another process."""
         return {field.name: getattr(self, field.name) for field in dataclasses.fields(self)}
 
 
@@ -331,8 +331,8 @@ class UnknownAttempt:
         attempt: The attempt's number, from 1.
         attempt_id: As `Task.attempt_id`.
         count: How often the outcome was unknown.
-        since: Wall time of the first unknown outcome, or of the last retry that a person asked for
-            behind it, in seconds since 1970.
+        since: Wall time of the first unknown outcome, or of the last retry by an operator
+            after it, in seconds since 1970.
         until: When it is repeated, in seconds since 1970; None: a person has to report it.
         error: What was raised last, or None.
     """

@@ -19,15 +19,15 @@ if TYPE_CHECKING:
 
 
 RESTING = (AttemptState.SUSPENDED, AttemptState.QUEUED, AttemptState.FINISHED)
-"""The states of attempts whose functions read nothing now."""
+"""The states of attempts whose functions read no values now."""
 
 
 class AcknowledgedSaga(HeldValues):
-    """What a program with a record has of a saga. Without a record, it is never set.
+    """What a program with a record has of a saga. Without a record it is not set.
 
     Attributes:
-        rest: What the acknowledgement of its start rests on; None if it is not this program's.
-        end_rest: The same of its end, once that is decided.
+        rest: What the acknowledgement of its start rests on; None if another program started it.
+        end_rest: What the acknowledgement of its end rests on, when its end is decided.
     """
 
     __slots__ = ("rest", "end_rest")
@@ -39,18 +39,18 @@ class SagaInstance(AcknowledgedSaga):
     """A saga from its start to its end.
 
     Attributes:
-        key: The caller's name for it.
+        key: The key that the caller chose.
         kind: Its definition.
         definition_index: The index of its definition in its shard.
         number: Its number in its shard; -1 until it has one.
         busy: The attempts that were claimed and not reported.
         has_deviated: Whether something failed, was retried or was aborted.
-        draining: Whether what runs ends, and then the saga is planned.
+        draining: Whether it waits until its running attempts end, and is planned then.
         answer: The last plan that was adopted.
         committed: Whether the store has it.
-        guessed: Whether it was begun without a look for its key. Until it is committed, the key
-            may be another saga's.
-        client_start: The pending start of a client that it is of.
+        guessed: Whether it was started without a lookup of its key. Until it is committed, the
+            key may belong to another saga.
+        client_start: The id of the client's pending start that created it, if any.
         phase: How it ended, as the store has it; the empty text while it is open.
         end: The end, as the store has it.
     """
@@ -95,7 +95,7 @@ class SagaInstance(AcknowledgedSaga):
         self.forget()
 
     def forget(self) -> None:
-        """Make it what it was when it was opened; recovery puts in what the store has."""
+        """Reset it to the state after its opening; recovery then applies the stored rows."""
         self.token: str | None = None
         self.results: dict[int, str] = {}
         self.busy: dict[Word, Attempt] = {}
@@ -104,19 +104,19 @@ class SagaInstance(AcknowledgedSaga):
         self.phase = ""
         tenant = self._extras.tenant if self._extras is not None else None
         self._extras = None
-        if tenant is not None:  # its functions that run have slots of this tenant
+        if tenant is not None:  # its running functions have slots of this tenant
             self.rare.tenant = tenant
 
     @property
     def rare(self) -> SagaExtras:
-        """What only some sagas have."""
+        """State that only some sagas have, created at the first use."""
         if self._extras is None:
             self._extras = SagaExtras()
         return self._extras
 
     @property
     def shape(self) -> ShapeValues:
-        """What is kept of the shape that its input gave it. It is read once.
+        """The stored shape that its input determined. It is read once.
 
         Raises:
             CannotDecode: The codec failed.
@@ -130,8 +130,9 @@ class SagaInstance(AcknowledgedSaga):
         return self.rare.shape
 
     def release(self) -> None:
-        """Hold no large value any more, unless a function may read it now. It is read from the
-        store when one needs it.
+        """Drop large values, unless a function may read them now.
+
+        They are read from the store when a function needs them.
         """
         if not (self.is_large and self.committed):
             return
@@ -141,22 +142,22 @@ class SagaInstance(AcknowledgedSaga):
 
     @property
     def numbering(self) -> ShapeValues:
-        """As `shape`, of which only numbers and keys of items are looked at."""
+        """The numbers and keys of the items, without the other values of `shape`."""
         return self.rare.numbering or self.shape
 
     @property
     def tenant(self) -> str | None:
-        """Whose it is, if its definition says that, and once it was asked."""
+        """Its tenant, if its definition has `fair_by` and the function was called."""
         return None if self._extras is None else self._extras.tenant
 
     @property
     def drain_reason(self) -> str:
-        """Why what it does is not wanted any more, as functions hear it."""
+        """The reason with which running functions are cancelled."""
         return "aborted" if self.aborted else "failed"
 
     @property
     def may_cancel_work(self) -> bool:
-        """Whether it drains, and the store has why: what it does may be ended."""
+        """Whether it drains and the reason is stored, so that its attempts may be cancelled."""
         return self.draining and self._extras is not None and self._extras.may_cancel_work
 
     @property
@@ -171,12 +172,12 @@ class SagaInstance(AcknowledgedSaga):
 
     @property
     def has_due(self) -> bool:
-        """Whether the store has the time of a wait that is retried."""
+        """Whether the time of a retried wait is stored."""
         return self._extras is not None and bool(self._extras.wait_ends)
 
     @property
     def has_early(self) -> bool:
-        """Whether the store has a report of a step that has not begun."""
+        """Whether a report of a step that has not started is stored."""
         return self._extras is not None and bool(self._extras.early_reports)
 
     @property
@@ -187,18 +188,16 @@ class SagaInstance(AcknowledgedSaga):
 
     @property
     def has_unchecked_key(self) -> bool:
-        """Whether its key may be another saga's."""
+        """Whether its key may belong to another saga."""
         return self.guessed and not self.committed
 
     def note_failure(self, word: Word, at: float, failure: dict[str, Any]) -> None:
-        """Keep when an action failed, and the pause that it wants."""
+        """Note when an action failed, and the pause that it requested."""
         self.rare.failed_at[word] = at
         self.rare.retry_pauses[word] = failure.get("retry_after")
 
     def note_error(self, step: int, value: str, called: bool) -> None:
-        """Keep what an attempt raised; what it raised when it was called goes before what is said
-        of one that was given up.
-        """
+        """Note the error of an attempt. The error of a call precedes that of a given-up attempt."""
         errors = self.rare.errors
         if called or step not in errors:
             errors[step] = value

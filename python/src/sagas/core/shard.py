@@ -1,22 +1,22 @@
-"""`ShardDriver`: what the engine is asked, and what its answers lead to.
+"""`ShardDriver`: the requests to the engine, and the effects of its replies.
 
 A shard is up to 1,000 sagas with one owner and one event log. Its engine process decides what
 happens next, and its event log in the store is the only truth. One turn of a shard is:
 
     lines = driver.requests(free_slots, now)    # what is due, [] if nothing is
-    answer = driver.replies(*ask(lines), now)   # `ask` is the engine: its replies, and log text
-    while isinstance(answer, list):             # how sagas ended that did not just go well
-        answer = driver.replies(*ask(answer), now)
-    driver.writes(answer)
-    .. make answer.batch durable ..
-    driver.committed(answer)                    # or driver.failed(answer), if it was refused
-    for saga in answer.rare.draining: ..        # a step of it failed
-    for attempt in answer.dispatch: ..          # what `Effects` says is done after the commit
+    effects = driver.replies(*ask(lines), now)  # `ask` is the engine: its replies, and log text
+    while isinstance(effects, list):            # ends of sagas that deviated from success
+        effects = driver.replies(*ask(effects), now)
+    driver.begin_commit(effects)
+    commit(effects.batch)                       # until it is durable
+    driver.committed(effects)                   # or driver.failed(effects), if it was refused
+    drain(effects.rare.draining)                # sagas with a failed step
+    start(effects.dispatch)                     # and the other effects after the commit
 
-The next question may be asked before the batch is durable, and further batches may be on their
-way: they are made durable in the order of `replies`. After `failed`, or where the engine dies,
-what the driver knows is not what the store has: its state is `STALE`, and `core.recovery` makes
-it anew from the rows of the store.
+The next request may be sent before the batch is durable, and several batches may be under way:
+they become durable in the order of `replies`. After `failed`, or if the engine dies, the driver
+differs from the store: its state is `STALE`, and `core.recovery` restores it from the rows of the
+store.
 """
 
 from __future__ import annotations
@@ -38,18 +38,18 @@ from sagas.core.states import SHARD_TRANSITIONS, Check, ShardState, check
 from sagas.core.suspensions import SuspensionRow
 
 MAX_REPORTS = 256
-"""So many attempts are reported, or sagas opened, by one question."""
+"""The number of attempts that one request reports, or of sagas that it opens."""
 MAX_CLAIMS = 1000
-"""So many tasks are claimed by one question."""
+"""The number of tasks that one request claims."""
 
 
 @dataclasses.dataclass(frozen=True, slots=True)
 class ShardIdentity:
-    """What a shard is from its creation on.
+    """The constant data of a shard.
 
     Attributes:
         number: Its number in the store.
-        name: Its name, which the idempotency keys of its sagas begin with.
+        name: Its name, with which the idempotency keys of its sagas begin.
         definitions: Its definitions.
     """
 
@@ -59,29 +59,29 @@ class ShardIdentity:
 
 
 class ShardDriver:
-    """The sagas of one shard, and what is on its way to its engine and to the store.
+    """The sagas of one shard, and its pending requests and commits.
 
     Attributes:
-        identity: What it is from its creation on.
-        state: Where it stands; `to` is its only writer.
+        identity: Its constant data.
+        state: Its state; only `set_state` writes it.
         epoch: The fencing token of its owner.
-        known: The epoch, and the server's timeline, as of which its attempts are known: what one
-            of them writes by itself is fenced by both.
+        fence: The epoch and the server's timeline of its attempts. Both fence each write of an
+            attempt's own transaction.
         new_shard: The shard's own row, until it is in the store.
         sagas: Its open sagas, by number.
-        opens: Sagas to be opened.
-        reports: Attempts that are finished, and to be reported.
-        aborts: Aborts to be asked.
-        opens_sent: Sagas that the engine was asked to open, and that are not known to be stored.
-        reports_sent: Lots that were reported, and are not known to be stored.
-        aborts_sent: Aborts that were asked, and are not known to be stored.
-        events: How many events the store has of it, or will have.
-        opened: How many sagas it has opened.
-        reserved: Those, and those that are to be opened here.
-        is_full: Whether it had no room for a saga, and takes no more.
-        commits_in_flight: How many batches are on their way to the store.
+        opens: Sagas to open.
+        reports: Finished attempts to report.
+        aborts: Abort requests to send.
+        opens_sent: Sagas that the engine was requested to open and that may not be stored yet.
+        reports_sent: Batches of reports that were sent and may not be stored yet.
+        aborts_sent: Abort requests that were sent and may not be stored yet.
+        events: The number of events that the store has, or will have after pending commits.
+        opened: The number of sagas that it has opened.
+        reserved: The number of sagas that it has opened or will open.
+        is_full: Whether it had no capacity for a saga, and opens no more.
+        commits_in_flight: The number of batches that are being stored.
         may_have_tasks: Whether the engine may have tasks.
-        unanswered: What the engine is about to answer.
+        unanswered: The request that the engine has not answered; None if there is none.
     """
 
     __slots__ = (
@@ -127,7 +127,7 @@ class ShardDriver:
         self.is_full = False
         self.may_have_tasks = False
         self.unanswered: EngineRequest | None = None
-        self._next_claims = 1  # tasks that are asked for next time
+        self._next_claims = 1  # the number of tasks to request next time
 
     @classmethod
     def created(cls, identity: ShardIdentity, timeline: str = "") -> ShardDriver:
@@ -150,47 +150,47 @@ class ShardDriver:
     # -- its state
 
     def set_state(self, state: ShardState) -> None:
-        """Let it stand there from now on."""
+        """Set the state."""
         if Check.is_on:
             check(SHARD_TRANSITIONS, self.state, state)
         self.state = state
 
     @property
     def is_current(self) -> bool:
-        """Whether what is known of it is what the store has, or will have."""
+        """Whether it has the state that the store has, or will have after pending commits."""
         return self.state in (ShardState.IDLE, ShardState.STARTING, ShardState.ACTIVE)
 
     def has_room(self, capacity: int) -> bool:
-        """Whether it takes one more saga."""
+        """Whether it can open one more saga."""
         is_open = self.state is not ShardState.CLOSED and not self.is_full
         return is_open and self.reserved < capacity
 
     @property
     def is_over(self) -> bool:
-        """Whether no saga of it is open, and none is about to be."""
+        """Whether no saga of it is open or about to be opened."""
         is_empty = not (self.sagas or self.commits_in_flight or self.opens or self.opens_sent)
         return is_empty and self.reserved == self.opened
 
     def unstored_reports(self) -> Iterable[Attempt]:
-        """The finished attempts whose reports are not known to be stored."""
+        """Return the finished attempts whose reports may not be stored yet."""
         return itertools.chain(self.reports, *self.reports_sent)
 
     def is_due(self, may_claim: bool) -> bool:
-        """Whether the engine can be asked something now; for tasks only if they may be claimed."""
+        """Whether a request to the engine is due; for tasks only if they may be claimed."""
         return bool(self.reports or self.opens or self.aborts) or (
             self.may_have_tasks and may_claim
         )
 
-    # -- what is to be asked
+    # -- pending requests
 
     def open(self, saga: SagaInstance) -> None:
-        """Open a saga here; it is asked for in the order of these calls."""
+        """Add a saga to open here; sagas are opened in the order of these calls."""
         self.reserved += 1
         self.opens.append(saga)
 
     @property
     def has_undefined_open(self) -> bool:
-        """Whether a saga is to be opened whose definition the engine does not know."""
+        """Whether the next saga to open has a definition that the engine does not know."""
         return (
             bool(self.opens)
             and self.opens[0].definition_index >= self.identity.definitions.known_count
@@ -198,11 +198,11 @@ class ShardDriver:
 
     @property
     def needs_new_engine(self) -> bool:
-        """Whether another engine has to be started for that."""
+        """Whether a new engine has to be started for such a definition."""
         return self.has_undefined_open and self.identity.definitions.is_fixed
 
     def withdraw(self, saga: SagaInstance) -> bool:
-        """Do not open a saga here; whether it was not asked for yet."""
+        """Remove a saga to open. Return whether the engine was not requested to open it yet."""
         if saga not in self.opens:
             return False
         self.opens.remove(saga)
@@ -210,30 +210,30 @@ class ShardDriver:
         return True
 
     def report(self, attempt: Attempt) -> None:
-        """Report an attempt that is finished."""
+        """Add a finished attempt to report."""
         self.reports[attempt] = None
 
     def abort(self, abort: Abort) -> None:
-        """Ask to abort a saga."""
+        """Add an abort request."""
         abort.is_repeated = abort.saga.aborted
         self.aborts.append(abort)
 
     def suspended(self, attempt: Attempt, row: SuspensionRow, now: float) -> Effects:
-        """Keep why an attempt waits: the batch is its row."""
+        """Return effects that store the suspension of an attempt."""
         effects = self.effects(now)
         suspension_rows.put(effects.batch, attempt, row, self.number)
         effects.rare_effects.suspended.append((attempt, row))
         return effects
 
     def offered(self, attempt: Attempt, now: float) -> Effects:
-        """Offer an attempt to external workers: the batch is its row."""
+        """Return effects that offer an attempt to external workers."""
         effects = self.effects(now)
         effects.batch.rare_rows.offers.append(offers.offer_row(attempt, self.number, now))
         effects.rare_effects.offered.append(attempt)
         return effects
 
     def withdrawn(self, attempt: Attempt, now: float) -> Effects:
-        """Withdraw an attempt from external workers: the batch changes its row."""
+        """Return effects that withdraw an attempt from external workers."""
         effects = self.effects(now)
         withdrawal = Withdrawal(attempt.token(), self.number)
         effects.batch.rare_rows.withdrawn.append(withdrawal)
@@ -241,7 +241,7 @@ class ShardDriver:
         return effects
 
     def effects(self, now: float) -> Effects:
-        """Make effects with an empty batch, behind all that was asked so far."""
+        """Return effects with an empty batch, which follows all earlier requests."""
         batch = Batch(self.identity.number, now, self.events, self.epoch)
         batch.new_shard = self.new_shard
         return Effects(batch)
@@ -249,7 +249,7 @@ class ShardDriver:
     # -- to the engine
 
     def requests(self, free_slots: int, now: float = 0.0) -> list[str]:
-        """Ask what is due.
+        """Return the requests that are due, and remember them in `unanswered`.
 
         Args:
             free_slots: How many tasks may be claimed.
@@ -261,7 +261,9 @@ class ShardDriver:
         """
         request = EngineRequest()
         lines: list[str] = []
-        if self.aborts:  # first: what is given up because of one has failed behind it
+        if (
+            self.aborts
+        ):  # first: attempts that are given up because of an abort have failed after it
             request.aborts, self.aborts = self.aborts, []
             self.aborts_sent += request.aborts
             lines += [protocol.abort_line(abort.saga.number) for abort in request.aborts]
@@ -289,7 +291,7 @@ class ShardDriver:
         return lines
 
     def _ask_reports(self, request: EngineRequest, lines: list[str]) -> Sequence[Attempt]:
-        """A lot of them, the first first."""
+        """Add the oldest reports to the request."""
         attempts, self.reports = [*self.reports], {}
         if len(attempts) > MAX_REPORTS:
             attempts, self.reports = attempts[:MAX_REPORTS], dict.fromkeys(attempts[MAX_REPORTS:])
@@ -314,8 +316,9 @@ class ShardDriver:
         return attempts
 
     def _ask_early(self, request: EngineRequest, lines: list[str]) -> None:
-        """Before a saga recovers, commit what was reported of its steps that have not begun, where
-        the engine allows it: behind the successes of the lot, and ahead of all else.
+        """Commit the early reports of sagas that are about to recover, if the engine allows it.
+
+        They follow the successes of this request, and precede everything else.
         """
         sagas = [abort.saga for abort in request.aborts]
         sagas += [one.instance for one in request.deviating if not is_success(one)]
@@ -338,7 +341,7 @@ class ShardDriver:
         ]
 
     def _ask_opens(self, lines: list[str]) -> Sequence[SagaInstance]:
-        """As many as a question may have."""
+        """Add as many sagas to open as a request may have."""
         sagas: list[SagaInstance] = []
         opens, usable = self.opens, self.identity.definitions.usable
         while opens and opens[0].definition_index < usable and len(lines) < MAX_REPORTS:
@@ -349,8 +352,9 @@ class ShardDriver:
         return sagas
 
     def _ask_aborts(self, request: EngineRequest, lines: list[str], now: float) -> None:
-        """Abort those that are about to be opened, and whose deadlines have passed. They are
-        planned at once, and are expected to be over.
+        """Abort the sagas of this request whose deadlines have passed.
+
+        They are planned at once, and are expected to end.
         """
         late = [(self.opened + offset, saga) for offset, saga in enumerate(request.opens)]
         late = [(number, saga) for number, saga in late if saga.is_overdue(now)]
@@ -362,18 +366,18 @@ class ShardDriver:
     # -- from the engine
 
     def replies(self, replies: Sequence[str], log_text: str, now: float) -> Effects | list[str]:
-        """Take the engine's replies to what was asked.
+        """Read the engine's replies to the request.
 
         Args:
-            replies: One for each line, in order.
+            replies: One reply for each line, in order.
             log_text: The event log's new lines.
             now: Wall time in seconds.
 
         Returns:
-            What they come to; or further lines for the engine, whose replies are the next ones.
+            The effects; or further lines for the engine, whose replies are passed next.
 
         Raises:
-            Disagrees: The engine knows something else than this program.
+            EngineDisagrees: The engine's state differs from this program's.
         """
         request = self.unanswered
         assert request
@@ -385,7 +389,7 @@ class ShardDriver:
         effects = request.effects = self.effects(now)
         effects.batch.text = log_text
         request.shown_sagas = ReplyReader(self, effects).replies(request, replies)
-        if request.shown_sagas:  # how they ended goes into the same batch
+        if request.shown_sagas:  # their ends go into the same batch
             return [protocol.show_line(number) for number in request.shown_sagas]
         return self._answered(request, effects)
 
@@ -400,7 +404,7 @@ class ShardDriver:
     # -- to the store, and from there
 
     def begin_commit(self, effects: Effects) -> None:
-        """Its batch is on its way to the store, or an answer without rows goes behind one."""
+        """Note that a batch is being stored, or that effects without rows follow one."""
         if effects.batch or (
             self.commits_in_flight and (effects.rare.aborted or effects.rare.early)
         ):
@@ -408,12 +412,12 @@ class ShardDriver:
             self.commits_in_flight += 1
 
     def committed(self, effects: Effects) -> None:
-        """Its batch is durable, or was empty: what it says is so."""
+        """Apply effects whose batch is durable or empty."""
         if effects.is_written:
             self.commits_in_flight -= 1
             self.new_shard = None
         if self.reports_sent and self.reports_sent[0] is effects.reported:
-            self.reports_sent.popleft()  # lots are written in the order of their reports
+            self.reports_sent.popleft()  # batches of reports are stored in their order
         if self.aborts_sent:
             self.aborts_sent = [one for one in self.aborts_sent if one not in effects.rare.aborted]
         for saga in effects.opened:
@@ -423,17 +427,18 @@ class ShardDriver:
             self.sagas.pop(saga.number, None)
 
     def failed(self, effects: Effects) -> int:
-        """Its batch is not durable, as far as is known: as `fail`."""
+        """Note that a batch may not be durable, and call `fail`."""
         if effects.is_written:
             self.commits_in_flight -= 1
         return self.fail()
 
     def fail(self) -> int:
-        """What the engine knows beyond the store is thrown away with it; the shard is `STALE`
-        until it is recovered, unless it is being recovered already.
+        """Discard the engine's state: the shard is `STALE` until it is recovered.
+
+        If it is being recovered already, its state does not change.
 
         Returns:
-            How many tasks were asked for, and are not answered any more.
+            The number of requested tasks that will not be answered.
         """
         if self.is_current:
             self.set_state(ShardState.STALE)
@@ -442,20 +447,18 @@ class ShardDriver:
     # -- back from the store (`core.recovery`)
 
     def loaded(self, rows: LoadedShard) -> None:
-        """Its rows were read: it is the program's under their epoch."""
+        """Take the epoch of the rows that were read."""
         if rows.epoch != self.epoch:
             self.epoch, self.new_shard = rows.epoch, None
 
     def clear_opens(self) -> None:
-        """No saga is to be opened here any more."""
+        """Remove all sagas to open."""
         self.opens_sent = {}
         self.opens.clear()
         self.reserved = self.opened
 
     def restart(self, rows: LoadedShard) -> None:
-        """Know no saga any more, and begin behind the event log of the store. Sagas that are to
-        be opened stay.
-        """
+        """Forget all sagas, and continue after the stored event log. Sagas to open are kept."""
         self.set_state(ShardState.ACTIVE)
         self.fence = (rows.epoch, rows.timeline)
         self.events, self.opened = rows.events, rows.opened
@@ -466,7 +469,7 @@ class ShardDriver:
         self.may_have_tasks, self._next_claims = True, 1
 
     def drop_request(self) -> int:
-        """The engine does not answer any more.
+        """Drop the request that the engine will not answer.
 
         Returns:
             As `fail`.

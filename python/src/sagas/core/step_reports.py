@@ -1,4 +1,4 @@
-"""Idempotent reports: the same again is accepted, another one conflicts."""
+"""Idempotent reports: the same report again is accepted, a different one conflicts."""
 
 from __future__ import annotations
 
@@ -26,18 +26,20 @@ END_TEXTS = {
     "undone": "it was undone",
     "undo_fail": "its compensation has failed",
 }
-"""What the last event of a step, or of its compensation, says where that is over."""
+"""Texts for the last event of a step or compensation that has ended."""
 
 
 def end_text(rows: Iterable[tuple[Any, ...]], step_index: int, kind: str) -> str | None:
-    """In words how a step, or its compensation, ended, by rows of `RESULTS`. None where it has
-    not."""
+    """Return a text that says how a step or its compensation ended; None if it has not.
+
+    `rows`: the rows of `RESULTS`.
+    """
     events = [event for step, action, event, _ in rows if (step, action) == (step_index, kind)]
     return END_TEXTS.get(events[-1]) if events else None
 
 
 def first_outcome(rows: Iterable[tuple[Any, ...]], step_index: int, kind: str) -> Outcome | None:
-    """How a step, or its compensation, ended, by rows of `RESULTS`. None where it has not."""
+    """Return the outcome of a step or its compensation from rows of `RESULTS`; None if open."""
     result = None
     for step, word, outcome, value in rows:
         if (step, word) != (step_index, kind):
@@ -54,7 +56,7 @@ def first_outcome(rows: Iterable[tuple[Any, ...]], step_index: int, kind: str) -
 
 
 def early_outcome(rows: Iterable[tuple[Any, ...]]) -> Outcome | None:
-    """What was reported of a step that has not begun, by rows of `EARLY`."""
+    """Return the early report of a step from rows of `EARLY`; None if there is none."""
     for reason, text in rows:
         return Outcome(EARLY_OUTCOMES[EarlyReason(reason)], text or "null")
     return None
@@ -68,9 +70,16 @@ def check(
     why: str | None = None,
     payloads: Payloads = PLAIN,
 ) -> None:
-    """Raises `ConflictingReport` where this is another answer than the first, which is as it is
-    stored. What was said is in neither text. `why`: what is to be said of the step, where that is
-    more."""
+    """Raise `ConflictingReport` if an outcome differs from the first one.
+
+    Args:
+        key: The saga's key.
+        step: The step's name.
+        first: The first outcome, as stored.
+        outcome: The new outcome. The message shows neither of them.
+        why: A text about the step (default: whether it has succeeded or failed).
+        payloads: The codec of the stored value.
+    """
     if first.kind is OutcomeKind.SUCCEEDED:
         value = payloads.decode(first.value)
         is_same = outcome.kind is OutcomeKind.SUCCEEDED and outcome.value == value
@@ -88,7 +97,7 @@ def _error(outcome: Outcome) -> Any:
 
 
 def over(row: SagaRow) -> StepNotWaiting:
-    """What is said of a step that never ran, of a saga that is over."""
+    """Return the error for a step that never ran in an ended saga."""
     if row.phase == EnginePhase.STUCK and row.note is None:
         return StepNotWaiting(
             f"saga {row.key!r} is stuck, and no step of it waits. After the repair, call `resolve`"

@@ -11,13 +11,13 @@ from sagas.core.suspensions import SuspensionRow
 
 
 def put(batch: Batch, attempt: Attempt, row: SuspensionRow, shard: int) -> None:
-    """Put them into a batch: why it waits, what it did before, and who is told of it."""
+    """Add the rows to a batch: the suspension, the notes, the offer's state and the deliveries."""
     count = attempt.failures if row.reason in COUNTS_FAILURES else attempt.count
     rows = batch.rare_rows
     suspension = (row.reason.value, count, attempt.waiting_since, row.until, row.error)
     rows.held.append((*attempt.row, *suspension))
     rows.spans += spans.taken(attempt)
-    # one whose values cannot be read now has a time, which its row has not
+    # if its values cannot be read now, the attempt has a time that its row does not have
     is_unread = row.reason is Suspension.CANNOT_DECODE and attempt.until is not None
     if attempt.is_external and (is_unread or row.reason in RETRYABLE):
         needs_operator = row.until is None and not is_unread and not attempt.is_remote

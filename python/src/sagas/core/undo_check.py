@@ -10,10 +10,10 @@ from sagas.definition.compiled import Kind
 
 
 class CompletedChild(NamedTuple):
-    """A child that has completed, and an ancestor of which is open.
+    """A completed child with an open ancestor.
 
     Attributes:
-        is_open: Whether its parent is open; else that has completed, too.
+        is_open: Whether its parent is open; else the parent has completed, too.
         parent: The definition of its parent.
         step: The parent's step that started it.
         child: Its own definition.
@@ -48,13 +48,13 @@ def children_by_shard(
 def missing_compensation(
     kind_of: Callable[[str], Kind], completed: Iterable[CompletedChild]
 ) -> str | None:
-    """Return what a program lacks to undo completed children; None if it lacks nothing.
+    """Return which compensation of completed children the program does not have; else None.
 
-    A child is looked at if its parent may undo it: the parent is open, or may be undone itself.
+    A child is checked if its parent may undo it: the parent is open, or may be undone itself.
 
     Args:
-        kind_of: Gives a definition with the functions of the program.
-        completed: The children, with those below them.
+        kind_of: Returns a definition with the functions of the program.
+        completed: The children and their descendants.
     """
     left, undone = [*completed], set[str]()
     steps: dict[tuple[str, bool], set[str]] = {}
@@ -88,7 +88,7 @@ def missing_compensation(
 
 
 def _undone_by_sagas(kind: Kind, is_open: bool) -> Iterator[str]:
-    """The steps whose children are undone by sagas of their own, if the parent is undone."""
+    """Return the steps whose children separate sagas undo when the parent is undone."""
     listed = listed_steps.of(kind.text)
     declared = {name: step for name, step in zip(kind.names, kind.steps) if step is not None}
     planned = {listed_step.name for listed_step in undo_text.planned(listed, declared)}

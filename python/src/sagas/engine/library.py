@@ -1,14 +1,14 @@
 """`plan`, `check` and `audit` by the C library, or by the program.
 
-Plans, judgements and audits of texts, by the C library in this process; where it is not there, by
-the program.
+Plans, checks and audits of texts, by the C library in this process. If the library does not exist,
+the program performs them.
 
     verdict = sagas.plan(definition, case)             # Verdict(yes=True,
     text='{"cost":38,"kept":[0,1],..}')
     sagas.check(definition, case, verdict.text)        # Verdict(yes=True, text='least 38')
 
-Texts are str, or bytes, of the forms of docs/FORMATS.md. A call keeps nothing, and other threads
-run meanwhile; any number of threads may call.
+Texts are str or bytes in the formats of docs/FORMATS.md. A call keeps no state, and other threads
+run during it; any number of threads may call.
 """
 
 from __future__ import annotations
@@ -30,7 +30,7 @@ Span = tuple[int, int]
 OK, REJECTED, INVALID, NO_MEMORY, BUFFER_TOO_SMALL = 0, 1, 3, 4, 5
 FIRST_SIZE = 65536
 
-# Of each call, how many texts it takes before the spans, the buffer and the place of what was used.
+# The number of texts of each call, before the spans, the buffer and the used size.
 CALLS = {
     "sagas_check": 3,
     "sagas_plan": 2,
@@ -66,8 +66,9 @@ class _Span(ctypes.Structure):
 
 
 def path() -> pathlib.Path | None:
-    """Where the library is: `$SAGAS_LIBRARY`, else the one that came with the package, else the
-    release of the checkout that this is in.
+    """Return the path of the library; None if it does not exist.
+
+    It is `$SAGAS_LIBRARY`, the library of the package, or the release of the surrounding checkout.
     """
     explicit = os.environ.get("SAGAS_LIBRARY")
     candidates = [pathlib.Path(explicit)] if explicit else program.release_paths("libsagas.so")
@@ -76,7 +77,7 @@ def path() -> pathlib.Path | None:
 
 @functools.cache
 def loaded(path: pathlib.Path) -> ctypes.CDLL | None:
-    """The library with the types of its calls, or None where this machine cannot load it."""
+    """Return the library with the types of its calls; None if this machine cannot load it."""
     try:
         library = ctypes.CDLL(str(path))
     except OSError:
@@ -102,8 +103,9 @@ def call(
     spans: Sequence[Span] | None = None,
     size: int = FIRST_SIZE,
 ) -> tuple[int, bytes]:
-    """The status and the text of a call of the library: first with a buffer of so many bytes, then
-    with one as large as its text takes.
+    """Call the library, and return its status and its text.
+
+    If the text does not fit into a buffer of `size` bytes, the call is repeated with a larger one.
     """
     arguments: list[object] = [argument for text in texts for argument in (text, len(text))]
     if spans is not None:
@@ -121,8 +123,9 @@ def call(
 
 
 def _by_program(command: str, texts: Sequence[bytes]) -> tuple[int, bytes]:
-    """The same of the program: its status, and what it prints, or with status 3 its line on
-    standard error.
+    """Run the program, and return its status and its output.
+
+    With the status `INVALID` the output is its line on standard error.
     """
     with contextlib.closing(program.TextFiles(texts)) as text_files:
         process = program.run_to_end([program.path(), command, *text_files.paths], text_files.files)
@@ -135,8 +138,11 @@ def _by_program(command: str, texts: Sequence[bytes]) -> tuple[int, bytes]:
 
 
 def _verdict(command: str, texts: Sequence[Text]) -> Verdict:
-    """What a command answers to texts. `InvalidText` where one is not of its form, `MemoryError`
-    where memory was refused.
+    """Return the verdict of a command on texts.
+
+    Raises:
+        InvalidText: A text does not have its format.
+        MemoryError: The system refused memory.
     """
     encoded = [text.encode() if isinstance(text, str) else text for text in texts]
     library_path = path()
@@ -163,7 +169,7 @@ def _verdict(command: str, texts: Sequence[Text]) -> Verdict:
 def plan(definition: Text, case: Text) -> Verdict:
     """Return a least-cost plan for a saga in the state of a case.
 
-    Nothing is kept, any number of threads may call, and other threads run meanwhile.
+    A call keeps no state, and other threads run during it; any number of threads may call.
 
     Args:
         definition: The text of a definition file.
@@ -188,7 +194,7 @@ def plan(definition: Text, case: Text) -> Verdict:
 
 
 def check(definition: Text, case: Text, answer: Text) -> Verdict:
-    """Verify a plan, whoever made it.
+    """Verify a plan of any origin.
 
     Args:
         definition: The text of a definition file.

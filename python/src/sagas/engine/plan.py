@@ -27,8 +27,8 @@ class Choice:
         cost_to_keep: Cost if its effect stays; None: this is not allowed.
         cost_to_drop: Cost if it is undone or skipped; None: this is not allowed.
         kept: Whether the plan keeps it.
-        needed_by: If dropping it alone were no dearer: the first kept step that needs it; else
-            None.
+        needed_by: If dropping it alone were not more expensive: the first kept step that needs it;
+            else None.
     """
 
     step: str
@@ -164,9 +164,9 @@ class Plan:
 
     def __str__(self) -> str:
         choices = self.choices
-        name_width = max(4, *(len(choice.step) for choice in choices))
+        wide = max(4, *(len(choice.step) for choice in choices))
         states = [state_text(choice.state) for choice in choices]
-        state_width = max(9, *map(len, states))
+        width = max(9, *map(len, states))
         head = f"plan of {self.saga} {self.key}: "
         head += (
             f"cost {self.cost}"
@@ -175,12 +175,12 @@ class Plan:
         )
         lines = [
             head,
-            f"  {'step':{name_width}}  {'found':{state_width}}  cost to keep  cost to drop  decision",
+            f"  {'step':{wide}}  {'found':{width}}  cost to keep  cost to drop  decision",
         ]
         for choice, state in zip(choices, states):
             decision = choice.detail if self.cost is not None else "stuck"
             lines.append(
-                f"  {choice.step:{name_width}}  {state:{state_width}}  {_cost_text(choice.cost_to_keep):>12}  "
+                f"  {choice.step:{wide}}  {state:{width}}  {_cost_text(choice.cost_to_keep):>12}  "
                 f"{_cost_text(choice.cost_to_drop):>12}  {decision}"
             )
         return "\n".join(lines)
@@ -191,7 +191,7 @@ def _cost(value: int | str) -> Cost:
 
 
 def certificate_text(plan: Plan) -> str:
-    """A plan as `sagas check` reads it from its standard input."""
+    """Return a plan as `sagas check` reads it from its standard input."""
     return f"{plan.definition}---\n{json.dumps(plan.case)}\n---\n{json.dumps(plan.answer)}\n"
 
 

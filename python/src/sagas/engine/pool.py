@@ -7,38 +7,39 @@ from typing import Generic, Protocol, TypeVar
 
 
 class Borrower(Protocol):
-    """What asks for an engine process."""
+    """A shard that requests an engine process."""
 
     def granted(self) -> None:
-        """It may have one."""
+        """Start an engine process now."""
 
     def rests(self) -> bool:
-        """Whether its process may go to another one."""
+        """Whether its process may be replaced by that of another borrower."""
 
     def sleep(self) -> None:
-        """Lets its process go."""
+        """Stop its process."""
 
 
 T = TypeVar("T", bound=Borrower)
 
 
 class EnginePool(Generic[T]):
-    """At most `most` shards have an engine process. One that asks gets it when another rests, or
-    has had it for its turn.
+    """A pool in which at most `capacity` shards have an engine process.
+
+    A waiting shard gets a process when another shard rests.
     """
 
     def __init__(self, most: int) -> None:
         self.capacity = most
         self._up: dict[T, None] = {}
         self.waiting: dict[T, None] = {}
-        """The shards that wait for one."""
+        """The shards that wait for a process."""
 
     def borrowers(self) -> Iterable[T]:
-        """The shards that have one, or are about to."""
+        """Return the shards that have a process or are about to start one."""
         return self._up
 
     def request_engine(self, borrower: T) -> None:
-        """Calls `granted` once the shard may have one."""
+        """Request a process: `granted` is called when the shard may start it."""
         if borrower in self._up:
             borrower.granted()
         else:
@@ -46,14 +47,14 @@ class EnginePool(Generic[T]):
             self.lend()
 
     def release(self, borrower: T) -> None:
-        """Its process is gone, or it wants none any more."""
+        """Note that a shard has no process and does not wait for one."""
         self.waiting.pop(borrower, None)
         if borrower in self._up:
             del self._up[borrower]
             self.lend()
 
     def lend(self) -> None:
-        """Takes processes from shards that rest, for those that wait."""
+        """Stop processes of shards that rest, and grant them to shards that wait."""
         for borrower in list(self._up) if self.waiting and len(self._up) >= self.capacity else ():
             if len(self._up) < self.capacity:
                 break

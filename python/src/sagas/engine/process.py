@@ -26,27 +26,25 @@ READ_BYTES = (
 WAIT = 1  # milliseconds
 HUNG = 60.0  # seconds
 AGAIN = 32
-"""Questions after one whose answer was late, until answers are waited for again."""
+"""After a late answer: the number of requests until `wait` waits again."""
 AGAIN_LATER = 0.01  # seconds
 NOT_RUNNABLE = (errno.ENOEXEC, errno.EACCES, errno.ENOENT)
-"""What the system says of a program that it cannot run: for another processor, without the right,
-or without its loader."""
+"""The errors of the system for a program that it cannot run: another processor, no permission or no
+loader."""
 
 
 EngineAnswer = tuple[list[str], str]
-"""What an engine says to a question: a reply for each line that it was asked, and the event log's
-new lines.
-"""
+"""A reply for each line of the request, and the new lines of the event log."""
 
 
 class Listener(Protocol):
-    """What an engine answers."""
+    """The receiver of an engine's replies."""
 
     def answered(self, replies: list[str], log_text: str) -> None:
-        """It has answered."""
+        """Take the replies to a request."""
 
     def died(self, engine: EngineProcess, last: str) -> None:
-        """It has ended by itself, with these last words. It is called once."""
+        """Take the last line of an engine that ended on its own. This is called once."""
 
 
 REFUSED = 3
@@ -54,13 +52,13 @@ REFUSED = 3
 
 
 class EngineProcess:
-    """One process that drives one shard, one question at a time.
+    """A process that executes one shard, one request at a time.
 
     Attributes:
-        unanswered: How many replies are to come: while there are any, nothing else is asked.
-        is_dead: Whether it was thrown away, or ended.
+        unanswered: The number of missing replies. No further request is sent until it is 0.
+        is_dead: Whether it was stopped, or ended.
         process: The process.
-        reaped: Done once the process that was thrown away is no more.
+        reaped: Done when the stopped process was reaped.
     """
 
     def __init__(
@@ -76,7 +74,7 @@ class EngineProcess:
             program: The path of `sagas`.
             definitions: The shard's definitions.
             text: Its event log so far, without the header.
-            listener: What it answers.
+            listener: Its receiver of replies.
 
         Raises:
             EngineError: It cannot be started.
@@ -84,7 +82,7 @@ class EngineProcess:
         self._loop = asyncio.get_running_loop()
         self._listener = listener
         self.unanswered = 0
-        self._asked_at = 0.0
+        self._sent_at = 0.0
         self._replies: list[str] = []  # that came
         self._log_lines: list[str] = []  # lines of the log that came, each with its plus
         self._partial_line = ""  # of a line that has not come whole
@@ -120,7 +118,7 @@ class EngineProcess:
         self._poll.register(self._reply_fd, select.POLLIN)
 
     def _popen(self, arguments: Sequence[str], files: Sequence[int]) -> None:
-        """No child that is forked here has its pipes, on any side."""
+        """Start the process so that no forked child inherits its pipes."""
         with private_descriptors.without_forks():
             self.process = subprocess.Popen(
                 arguments,
@@ -140,29 +138,30 @@ class EngineProcess:
                 private_descriptors.add(fd)
 
     def ask(self, requests: Sequence[str]) -> None:
-        """Send a question: its listener is told the answer, unless `wait` gives it."""
+        """Send a request. The listener gets the replies, unless `wait` returns them."""
         assert not self.unanswered
-        self.unanswered, self._asked_at = len(requests), time.monotonic()
+        self.unanswered, self._sent_at = len(requests), time.monotonic()
         self._unsent += ("\n".join(requests) + "\n").encode()
         self._write()
 
     def has_refused(self) -> bool:
-        """Whether it has ended since it refuses what it was started on."""
+        """Whether it ended because it refuses its event log or a definition."""
         return self.process.returncode == REFUSED
 
     def is_hung(self, now: float) -> bool:
-        """Whether it was asked so long ago that it will hardly answer."""
-        return self.unanswered > 0 and now - self._asked_at > HUNG
+        """Whether its replies are overdue by `HUNG` seconds."""
+        return self.unanswered > 0 and now - self._sent_at > HUNG
 
     def wait(self) -> EngineAnswer | None:
-        """Wait here for the answer, as long as answers come within `WAIT`: that takes less than a
-        turn of the loop.
+        """Wait for the replies, if recent replies came within `WAIT`.
+
+        This takes less than a turn of the loop.
 
         Measured on 2026-11-28, in instructions a saga of three steps over SQLite: 15 % less for
         one saga at a time, nothing for 16, and 5 % less for 256.
 
         Returns:
-            The answer; None if the listener is told it later.
+            The replies; None if the listener gets them later.
         """
         if self._unwaited:
             self._unwaited -= 1
@@ -194,7 +193,7 @@ class EngineProcess:
             self._listener.answered(*answer)
 
     def _read(self) -> EngineAnswer | None:
-        """Read what is there; the answer, if it is whole by now."""
+        """Read the available output. Return the replies if they are complete; else None."""
         try:
             data = os.read(self._reply_fd, READ_BYTES)
         except BlockingIOError:
@@ -228,13 +227,13 @@ class EngineProcess:
             self._listener.died(self, self._last_error_line() or status)
 
     def _last_error_line(self) -> str:
-        """Its last words."""
+        """Return the last line of its standard error."""
         end = os.pread(self._stderr, 4096, max(0, os.fstat(self._stderr).st_size - 4096))
         lines = [line for line in end.decode(errors="replace").splitlines() if line.strip()]
         return lines[-1] if lines else ""
 
     def stop(self) -> None:
-        """Throws the process away."""
+        """Kill the process."""
         if self.is_dead:
             return
         self.is_dead = True
@@ -249,13 +248,13 @@ class EngineProcess:
         self._loop.call_soon(self._reap)
 
     def _reap(self) -> None:
-        """Takes its status, once it is there: the loop does not stand still for it."""
+        """Collect its exit status when it is available, without blocking the loop."""
         if self.process.poll() is not None:
             self._release()
             return
         try:
             pidfd = os.pidfd_open(self.process.pid)
-        except (AttributeError, OSError):  # the system has none: it is looked at again in a moment
+        except (AttributeError, OSError):  # the system has none: try again soon
             self._loop.call_later(AGAIN_LATER, self._reap)
             return
         self._loop.add_reader(pidfd, self._ended, pidfd)
