@@ -172,8 +172,8 @@ class Commands:
                 continue
 
     async def _report_here(self, attempt: Attempt, outcome: Outcome, request: RequestRef) -> None:
-        """Reports an attempt that is under way here. Raises `SagaMoved` where it is over by now, or is
-        not here any more: the answer never rests on what the store may lack.
+        """Reports an attempt that is under way here. Raises `SagaMoved` where it is over by now, or
+        is not here any more: the answer never rests on what the store may lack.
         """
         inside, key, step = self._access.inside, attempt.instance.key, attempt.name
         is_checked = not child_reports.is_of_child(attempt, outcome)
@@ -235,8 +235,8 @@ class Commands:
         return word
 
     async def _check_not_begun(self, live: SagaInstance, word: Word) -> None:
-        """Raises `SagaMoved` where an attempt of it began since the store was read, or its report is
-        on its way there."""
+        """Raises `SagaMoved` where an attempt of it began since the store was read, or its report
+        is on its way there."""
         inside = self._access.inside
         unkept = live.shard.unstored_reports() if live.shard else ()
         attempt = next(
@@ -252,8 +252,8 @@ class Commands:
     async def _report_early(
         self, live: SagaInstance, word: Word, outcome: Outcome, request: RequestRef, early: bool
     ) -> None:
-        """Stores a report of a step that has not begun. Raises `StepNotWaiting`, or `SagaMoved` where
-        that is to be looked at again."""
+        """Stores a report of a step that has not begun. Raises `StepNotWaiting`, or `SagaMoved`
+        where that is to be looked at again."""
         inside, key, step = self._access.inside, live.key, live.kind.names[word[0]]
         first = early_reports.stored(live, word)
         why = early_reports.refusal_reason(live, *word) if early else early_reports.NOT_STARTED

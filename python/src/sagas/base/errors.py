@@ -288,7 +288,7 @@ class DamagedShard(EngineError):
 
 
 class EngineNotRunnable(EngineError):
-    """This machine cannot run the program `sagas`: for example, it is for another system.
+    """This machine cannot run the program `sagas`, for example of another system.
 
     A repetition does not help. The message has the remedy.
     """

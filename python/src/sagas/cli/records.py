@@ -210,8 +210,8 @@ def lost(one: Judged) -> list[str]:
         last = max(telling.chunks for telling in loss.acknowledgements)
         edges = ", ".join(sorted({telling.edge for telling in loss.acknowledgements}))
         found.append(
-            f"shard {one.shard}: lost: a server took over with {loss.chunk_count} commits, and what was "
-            f"acknowledged ({edges}) rests on {last}"
+            f"shard {one.shard}: lost: a server took over with {loss.chunk_count} commits, and "
+            f"what was acknowledged ({edges}) rests on {last}"
         )
     if one.ends_lost:
         ids = ", ".join(map(str, one.ends_lost[:8]))

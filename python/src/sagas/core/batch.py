@@ -232,7 +232,7 @@ class Tail(NamedTuple):
 
 @dataclasses.dataclass(slots=True)
 class LoadedShard:
-    """The stored rows of a shard, from which its driver is restored.
+    """The stored rows of a shard that restore its driver.
 
     Attributes:
         text: The event log without its header.

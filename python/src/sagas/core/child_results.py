@@ -32,8 +32,8 @@ def check(
         steps: The names of the child's steps, or None if they are unknown.
 
     Raises:
-        InvalidResult: It is not the result of an ended child of this step, and does not say that
-            there is no child. The message does not show the result.
+        InvalidResult: The result is neither that of an ended child of this step nor that of
+            no child. The message does not show the result.
     """
     children_phases = {
         key_of: phase for key_of, phase in rows if children.is_of_step(key_of, key, step)

@@ -76,7 +76,7 @@ def undo_input(
 
     Args:
         key: The child's key.
-        token: The child's token, of which the idempotency keys are made.
+        token: The child's token, from which its idempotency keys are computed.
         kind: The child's definition.
         text: The child's input, as it is stored.
         results: The results of the child's steps, as they are stored, by the steps' numbers.

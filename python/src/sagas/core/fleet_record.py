@@ -38,8 +38,9 @@ class Chunk(NamedTuple):
 
 
 class Takeover(NamedTuple):
-    """A new epoch of a shard, as the database has it. `last`: `first` of the last chunk before,
-    `NO_CHUNK` if there was none; None if it is not known.
+    """A new epoch of a shard in the database.
+
+    `last`: the `first` of the last chunk before it, `NO_CHUNK` if there was none; None if unknown.
     """
 
     epoch: int

@@ -81,7 +81,7 @@ class Records:
                 raise InvalidLine("its format is not 1")
             return
         if FIELDS.get(event) != 1 + len(fields):
-            raise InvalidLine("it is not an event")
+            raise InvalidLine("it is no event")
         if event == SEEN:
             self.seen.setdefault(_number(fields[1]), set()).add(fields[2])
             return

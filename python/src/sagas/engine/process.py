@@ -110,7 +110,7 @@ class EngineProcess:
             raise EngineError(f"{program}: cannot be started: {error.strerror}") from error
         for fd in (self._request_fd, self._reply_fd):
             os.set_blocking(fd, False)
-            # (a user has so many pages of pipes, and no more; and not each system has it)
+            # (the system limits the pipe pages of a user, and some systems do not support it)
             with contextlib.suppress(AttributeError, OSError):
                 fcntl.fcntl(fd, fcntl.F_SETPIPE_SZ, PIPE_BYTES)
         self._loop.add_reader(self._reply_fd, self._readable)

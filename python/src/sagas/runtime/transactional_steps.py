@@ -129,8 +129,8 @@ class Record:
         return Fence(shard.number, self.node, epoch, self.line, self.tail)
 
     def check(self) -> None:
-        """Raises `ShardLost` where the attempt was let go, since its log was taken up without it. What
-        ended before that, and is sent later, has the epoch of before."""
+        """Raises `ShardLost` where the attempt was let go, since its log was taken up without it.
+        What ended before that, and is sent later, has the epoch of before."""
         if self.attempt.state is not RUNNING:
             raise ShardLost(f"{self.where}: {self.attempt.token()} does not exist any more")
 
