@@ -22,8 +22,8 @@ from follower import Definition, Follower
 
 import sagas
 from sagas.core import exhaustion, outcomes, protocol, recovery
-from sagas.core.attempts import AttemptMachine, is_asked
-from sagas.core.batch import Batch, Loaded
+from sagas.core.attempts import AttemptMachine, is_reportable
+from sagas.core.batch import Batch, LoadedShard
 from sagas.core.decisions import Decision, Do
 from sagas.core.effects import Abort, Effects
 from sagas.core.model import FINISHED, RUNNING, SUSPENDED, Attempt, SagaInstance
@@ -147,10 +147,10 @@ class Store:
         """Return the event log, without its header."""
         return "".join(self.chunks)
 
-    def load(self) -> Loaded:
+    def load(self) -> LoadedShard:
         """Return what a program loads when it takes over the shard."""
         open_ones = {id: row for id, row in self.sagas.items() if row[3] is None}
-        return Loaded(
+        return LoadedShard(
             text=self.text,
             events=self.events,
             opened=len(self.sagas),
@@ -263,7 +263,9 @@ class World:
         Each of their attempts must be running, waiting or about to be reported.
         """
         driver = self.driver
-        is_quiet = driver.is_known and not (self.commits or driver.asked or driver.unwritten)
+        is_quiet = driver.is_current and not (
+            self.commits or driver.unanswered or driver.commits_in_flight
+        )
         if not is_quiet or (self.random.random() < 0.8 and not self.is_recovered):
             return
         self.is_recovered = False
@@ -299,15 +301,15 @@ class World:
         """Check that nothing is left, and that each caller got its reply."""
         driver = self.driver
         left = (
-            driver.sent,
+            driver.opens_sent,
             driver.opens,
             driver.reports,
-            driver.reporting,
+            driver.reports_sent,
             driver.aborts,
-            driver.aborting,
+            driver.aborts_sent,
             driver.sagas,
         )
-        if any(left) or driver.unwritten or not driver.is_over:
+        if any(left) or driver.commits_in_flight or not driver.is_over:
             raise Wrong(f"something is left: {left}")
         if any(abort.done is None for abort in self.aborts):
             raise Wrong("an abort has no answer")
@@ -329,9 +331,9 @@ class World:
         self.driver.open(saga)
 
     def _start(self) -> None:
-        self.driver.to(ShardState.STARTING)
+        self.driver.set_state(ShardState.STARTING)
         self.engine = self._engine()
-        self.driver.to(ShardState.ACTIVE)
+        self.driver.set_state(ShardState.ACTIVE)
 
     def _engine(self) -> Engine:
         log = None
@@ -358,7 +360,7 @@ class World:
                 self._kill_engine()
                 return
             lines_or_effects = driver.replies(*self.engine.ask(lines_or_effects), self.now)
-        driver.writes(lines_or_effects)
+        driver.begin_commit(lines_or_effects)
         self._put(lines_or_effects)
 
     def _put(self, effects: Effects) -> None:
@@ -405,9 +407,9 @@ class World:
 
     def _sleep(self) -> None:
         """Let another shard use the engine, when nothing is in progress."""
-        if not self.commits and not self.driver.is_due(True) and not self.driver.asked:
+        if not self.commits and not self.driver.is_due(True) and not self.driver.unanswered:
             self._lose_engine()
-            self.driver.to(ShardState.IDLE)
+            self.driver.set_state(ShardState.IDLE)
 
     def _restart(self) -> None:
         """Kill the program, and let another one take over the shard: running attempts are
@@ -427,18 +429,18 @@ class World:
 
     def _recover(self) -> None:
         driver, rows = self.driver, self.store.load()
-        driver.to(ShardState.LOADING)
+        driver.set_state(ShardState.LOADING)
         driver.loaded(rows)
         over = {row[0] for row in self.store.sagas.values() if row[3] is not None}
         # as the runtime looks for them
-        for saga in [one for one in driver.sent if one.key in over]:
-            del driver.sent[saga]
-        starting, new = recovery.unopened(driver, rows, self.known)
+        for saga in [one for one in driver.opens_sent if one.key in over]:
+            del driver.opens_sent[saga]
+        starting, new = recovery.take_unopened(driver, rows, self.known)
         self.engine = self._engine()
         overdue = recovery.overdue(rows, self.now)
         replies, text = self.engine.ask(recovery.requests(rows, overdue))
         before = {one for saga in driver.sagas.values() for one in saga.busy.values()} | {
-            *driver.unkept()
+            *driver.unstored_reports()
         }
         recovered = recovery.recover(
             rows, replies, self.now, driver, self.known, overdue=overdue, log_text=text
@@ -451,7 +453,7 @@ class World:
         after = {one for saga in driver.sagas.values() for one in saga.busy.values()}
         if any(one.state is not FINISHED for one in before - after):
             raise Wrong("an attempt that is gone is not finished")
-        driver.writes(recovered.effects)
+        driver.begin_commit(recovered.effects)
         self._put(recovered.effects)
         for attempt in recovered.resumed:
             self._do(attempt, self.machine.resume(attempt, self.now))
@@ -465,7 +467,7 @@ class World:
 
     def _done(self, effects: Effects) -> None:
         for attempt, row in effects.rare.suspended:
-            if attempt.pending is row:
+            if attempt.pending_row is row:
                 self._do(attempt, self.machine.stored(attempt))
         for saga in (*effects.rare.draining, *effects.rare.overdue):
             self._drain(saga)
@@ -500,9 +502,9 @@ class World:
             self._suspend(attempt, decision.row)
 
     def _suspend(self, attempt: Attempt, row: SuspensionRow) -> None:
-        attempt.has_row, attempt.pending = True, row
+        attempt.has_row, attempt.pending_row = True, row
         effects = self.driver.suspended(attempt, row, self.now)
-        self.driver.writes(effects)
+        self.driver.begin_commit(effects)
         self._put(effects)
 
     def _call(self, attempt: Attempt) -> None:
@@ -521,7 +523,7 @@ class World:
         if action in self.store.finals:
             raise Wrong(f"{attempt.row} is called behind a permanent failure")
         missed = self.store.missed.get(action)
-        if attempt.attempt > 1 and missed is not None and not saga.draining and attempt.fresh:
+        if attempt.attempt > 1 and missed is not None and not saga.draining and attempt.is_uncalled:
             if self.now < missed + attempt.manner.backoff.after(attempt.attempt - 1) - 1e-6:
                 raise Wrong(f"{attempt.row} is called before its back-off is over")
         self.begun[saga.number, attempt.step, attempt.kind, attempt.attempt] += 1
@@ -553,7 +555,7 @@ class World:
             self.store.record(attempt.row, value, self.now)
             self.effects[attempt.instance.number, attempt.step, attempt.kind] = value
         if drawn < 0.9:
-            attempt.recorded = True
+            attempt.is_recorded = True
             return True
         attempt.claim()
         self._kill_engine()  # the recovery of its shard reports it
@@ -572,7 +574,7 @@ class World:
         return outcomes.unknown("who knows")
 
     def _attempts(self) -> list[Attempt]:
-        if not self.driver.is_known:
+        if not self.driver.is_current:
             return []
         return [one for saga in self.driver.sagas.values() for one in saga.busy.values()]
 
@@ -587,11 +589,11 @@ class World:
         attempt = min(attempts, key=lambda one: one.until or 0.0)
         assert attempt.until is not None
         self.now = max(self.now, attempt.until)
-        if attempt.pending is None:  # its timer is set once its row exists
+        if attempt.pending_row is None:  # its timer is set once its row exists
             self._do(attempt, self.machine.timer(attempt, self.now))
 
     def _open_attempts(self) -> list[Attempt]:
-        return [one for one in self._attempts() if is_asked(one)]
+        return [one for one in self._attempts() if is_reportable(one)]
 
     def _answer(self, attempts: list[Attempt]) -> None:
         """Report the outcome of an attempt, as an operator does."""

@@ -91,7 +91,7 @@ def deadline_ignored() -> None:
 @variant("limit", "concurrency_by", count=16)
 def limit_not_held() -> None:
     """Each attempt starts, whatever the limit of its step."""
-    setattr(Slots, "enter", Slots.come)
+    setattr(Slots, "enter", Slots.request_slot)
 
 
 @variant("webhook-lost", "webhooks", count=8)

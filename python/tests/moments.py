@@ -416,7 +416,7 @@ async def at_once(stage: Stage, looks: bool) -> int:
     ):
         for one in (store, other):
             # so that its next keys are looked for, or are not
-            one._lookup.guessing.told(was_there=looks)
+            one._lookup.guessing.record_start(was_there=looks)
         with stage.locked("sagas"):
             work = [
                 asyncio.create_task(first.one(store, 0)),

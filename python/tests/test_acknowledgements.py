@@ -14,7 +14,7 @@ import pytest
 
 import sagas
 from sagas.core import recovery
-from sagas.core.batch import Loaded
+from sagas.core.batch import LoadedShard
 from sagas.core.effects import Effects
 from sagas.core.model import Attempt, SagaInstance
 from sagas.core.shard import ShardDriver, ShardIdentity
@@ -263,14 +263,14 @@ def begun(acknowledgements: Acknowledgements) -> tuple[ShardDriver, Attempt]:
     """Return a shard with the first attempt of a saga, whose commit is done."""
     kinds = definitions().kinds
     shard = ShardDriver.created(ShardIdentity(SHARD, "name", ShardDefinitions(kinds)), LINE)
-    shard.to(ShardState.STARTING)
-    shard.to(ShardState.ACTIVE)
+    shard.set_state(ShardState.STARTING)
+    shard.set_state(ShardState.ACTIVE)
     shard.open(SagaInstance("k", "{}", kinds[0], 0))
     shard.requests(8)
     effects = shard.replies(REPLIES, "line\n", 0.0)
     assert isinstance(effects, Effects)
     acknowledgements.decided(effects)
-    shard.writes(effects)
+    shard.begin_commit(effects)
     shard.committed(effects)
     (attempt,) = effects.dispatch
     return shard, attempt
@@ -279,9 +279,9 @@ def begun(acknowledgements: Acknowledgements) -> tuple[ShardDriver, Attempt]:
 def recovered(shard: ShardDriver, busy: Sequence[tuple[int, str, int]]) -> recovery.Recovery:
     """Return the effects of a recovery of a shard whose saga is open, with these attempts."""
     shard.fail()
-    shard.to(ShardState.LOADING)
+    shard.set_state(ShardState.LOADING)
     rows = [(SHARD * 1000, "k", 0, "{}", None, None, None)]
-    loaded = Loaded("line\n", 1, 1, rows, [], [], 2, LINE, 1)
+    loaded = LoadedShard("line\n", 1, 1, rows, [], [], 2, LINE, 1)
     shard.loaded(loaded)
     known = {saga.key: saga for saga in shard.sagas.values()}
     busy_tasks = [{"saga": 0, "step": one, "task": word, "attempt": at} for one, word, at in busy]

@@ -167,7 +167,7 @@ async def busy(store: sagas.Store, saga: sagas.Saga) -> AsyncIterator[None]:
     process.send_signal(signal.SIGSTOP)
     try:
         other = asyncio.create_task(store.start(saga, "other"))
-        await until(lambda: runner.engine and runner.engine.asked)
+        await until(lambda: runner.engine and runner.engine.unanswered)
         yield
     finally:
         process.send_signal(signal.SIGCONT)

@@ -14,10 +14,10 @@ from cases import Task, run, until
 from test_codec import KNOWN
 
 import sagas
-from sagas.core.held_values import LARGE
+from sagas.core.held_values import LARGE_VALUE
 from sagas.definition.payloads import ABSENT
 
-BIG = "b" * (4 * LARGE)
+BIG = "b" * (4 * LARGE_VALUE)
 GIVEN = {"who": "ann", "big": BIG, "parcels": {"x": BIG, "y": "small"}}
 
 
@@ -79,7 +79,7 @@ def test_values_are_read_when_they_are_needed(
 
     def nothing_held(store: sagas.Store) -> None:
         texts = held(store)
-        assert ABSENT in texts and max(map(len, texts)) <= LARGE
+        assert ABSENT in texts and max(map(len, texts)) <= LARGE_VALUE
 
     async def first() -> None:
         async with opened() as store:
@@ -134,7 +134,7 @@ def test_a_queue_holds_nothing(tmp_path: pathlib.Path) -> None:
         async with sagas.open(tmp_path / "store.db", [made], concurrency=2) as store:
             for number in range(12):
                 await store.start(made, f"k{number}", BIG)
-            whole = [text for text in held(store) if len(text) > LARGE]
+            whole = [text for text in held(store) if len(text) > LARGE_VALUE]
             assert len(whole) == 2 and ABSENT in held(store)
             assert await store.abort("k7")
             gate.set()

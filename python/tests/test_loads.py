@@ -13,7 +13,7 @@ from cases import Task, run, until
 
 import sagas
 from sagas.base.errors import StoreUnavailable
-from sagas.core.batch import Batch, Loaded
+from sagas.core.batch import Batch, LoadedShard
 from sagas.storage.postgresql import connections
 from sagas.storage.postgresql.shard_loader import ShardLoader
 from sagas.storage.postgresql.writer import Writer
@@ -70,7 +70,7 @@ async def loading(url: str) -> AsyncIterator[ShardLoader]:
     await asker.close()
 
 
-def is_whole(loaded: Loaded | None, index: int, epoch: int) -> bool:
+def is_whole(loaded: LoadedShard | None, index: int, epoch: int) -> bool:
     """Return whether the loaded log is complete, under a new epoch."""
     assert loaded
     ids = [id for id, *_ in loaded.open]
@@ -122,7 +122,9 @@ def test_all_that_are_wanted_go_together(url: str, logs: list[int]) -> None:
                 psycopg.connect(url).execute(f"SELECT {connections.TIMELINE}".encode()).fetchall()
             )
             assert (
-                unborn == Loaded("", 0, 0, [], [], [], 8, line, 1) and there and there.line == line
+                unborn == LoadedShard("", 0, 0, [], [], [], 8, line, 1)
+                and there
+                and there.line == line
             )
 
     run(main())
@@ -142,10 +144,10 @@ def test_a_commit_after_a_missing_chunk(
     async def nothing(*_: object) -> None:
         ...
 
-    def batch(loaded: Loaded, log: int) -> Batch:
+    def batch(loaded: LoadedShard, log: int) -> Batch:
         written = Batch(log, 5.5, loaded.events, loaded.epoch)
         written.text = "{}\n" if has_lines else ""
-        written.more.asked.append((("key", "abort", str(log), 1.0), "null"))
+        written.rare_rows.asked.append((("key", "abort", str(log), 1.0), "null"))
         return written
 
     async def main() -> None:

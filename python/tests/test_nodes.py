@@ -709,7 +709,7 @@ def test_a_node_past_its_lease_keeps_its_own_logs(
                 None,
             ) in events
             assert len(before) == 2
-            await until(lambda: all(child and child.buried.done() for child in before))
+            await until(lambda: all(child and child.reaped.done() for child in before))
             gate.set()
             assert (await store.wait("kept")).ok
             assert (

@@ -156,7 +156,9 @@ def check_losses(url: str, record: pathlib.Path, room: int) -> None:
     shards, faults = fleet.judged(url, [record])
     assert all(one.good for one in shards) and len(faults) == sum(len(one.losses) for one in shards)
     lost = [
-        (loss.had, {telling.edge for telling in loss.told}) for one in shards for loss in one.losses
+        (loss.chunk_count, {telling.edge for telling in loss.acknowledgements})
+        for one in shards
+        for loss in one.losses
     ]
     assert lost == [(1, {"call", "wake"})] + [(0, {"call", "wake"})] * (room == 1)
     assert fleet.reasons(fleet.judged(url, [record], sync=True)[1]) == {"FewerThanShipped"}

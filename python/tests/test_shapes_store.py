@@ -334,7 +334,7 @@ def test_engines_are_killed_while_definitions_come(location: str) -> None:
                 while True:
                     await asyncio.sleep(draw.uniform(0.03, 0.2))
                     for runner in list(store._coordinator.shards.runners.values()):
-                        if runner.engine and not runner.engine.dead:
+                        if runner.engine and not runner.engine.is_dead:
                             runner.engine.process.kill()
                             kills += 1
 

@@ -12,7 +12,7 @@ from cases import ended, run, until
 from core_world import Engine
 
 import sagas
-from sagas.core.replies import Disagrees
+from sagas.core.replies import EngineDisagrees
 from sagas.core.saga_instance import SagaInstance
 from sagas.core.shard import ShardDriver, ShardIdentity
 from sagas.core.shard_definitions import ShardDefinitions
@@ -51,7 +51,7 @@ def turn(driver: ShardDriver, engine: Engine, *opened: SagaInstance) -> list[str
     lines = driver.requests(0)
     answer = driver.replies(*engine.ask(lines), 1.0)
     assert not isinstance(answer, list)
-    driver.writes(answer)
+    driver.begin_commit(answer)
     driver.committed(answer)
     return lines
 
@@ -59,13 +59,13 @@ def turn(driver: ShardDriver, engine: Engine, *opened: SagaInstance) -> list[str
 def driver_of(kinds: Sequence[CompiledDefinition]) -> tuple[ShardDriver, ShardDefinitions]:
     definitions = ShardDefinitions(kinds)
     driver = ShardDriver.created(ShardIdentity(0, "shard", definitions))
-    driver.to(ShardState.STARTING)
-    driver.to(ShardState.ACTIVE)
+    driver.set_state(ShardState.STARTING)
+    driver.set_state(ShardState.ACTIVE)
     return driver, definitions
 
 
 def instance(definitions: ShardDefinitions, of: CompiledDefinition) -> SagaInstance:
-    return SagaInstance(of.name, "null", of, definitions.place(of))
+    return SagaInstance(of.name, "null", of, definitions.definition_index(of))
 
 
 def test_the_first_definition_is_known_before_a_saga_of_it_is_opened(
@@ -79,13 +79,13 @@ def test_the_first_definition_is_known_before_a_saga_of_it_is_opened(
             driver, started, instance(definitions, first), instance(definitions, second)
         )
         assert ['"do":"define"' in line for line in requests] == [True, False]
-        assert (driver.opened, definitions.known) == (1, 2)
+        assert (driver.opened, definitions.known_count) == (1, 2)
         assert len(turn(driver, started)) == 1 and driver.opened == 2
         both = instance(definitions, third), instance(definitions, fourth)
         requests = turn(driver, started, *both, instance(definitions, third))
         assert ['"do":"define"' in line for line in requests] == [True, True, False, False, False]
-    assert (driver.opened, definitions.known) == (5, 4)
-    assert [saga.place for saga in driver.sagas.values()] == [0, 1, 2, 3, 2]
+    assert (driver.opened, definitions.known_count) == (5, 4)
+    assert [saga.definition_index for saga in driver.sagas.values()] == [0, 1, 2, 3, 2]
 
 
 def test_no_saga_is_opened_with_another_definition(tmp_path: pathlib.Path) -> None:
@@ -98,9 +98,9 @@ def test_no_saga_is_opened_with_another_definition(tmp_path: pathlib.Path) -> No
         turn(driver, started, instance(definitions, second))
         turn(driver, started)
         started.ask([kind_line(kind("beside"))])
-        with pytest.raises(Disagrees, match="definition 2"):
+        with pytest.raises(EngineDisagrees, match="definition 2"):
             turn(driver, started, instance(definitions, third))
-        assert definitions.is_fixed and definitions.known == 2
+        assert definitions.is_fixed and definitions.known_count == 2
         assert [saga.kind.name for saga in driver.sagas.values()] == ["second"]
         driver.fail()
         assert driver.state is ShardState.STALE
@@ -109,7 +109,7 @@ def test_no_saga_is_opened_with_another_definition(tmp_path: pathlib.Path) -> No
 def kind_line(of: CompiledDefinition) -> str:
     """Return the request that adds a definition, which the driver does not know."""
     definitions = ShardDefinitions([])
-    definitions.place(of)
+    definitions.definition_index(of)
     return definitions.define_lines()[0]
 
 

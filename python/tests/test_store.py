@@ -998,12 +998,13 @@ def test_one_transaction_takes_what_all_logs_have(
             assert store._coordinator
             runners = store._coordinator.shards.runners.values()
             await until(
-                lambda: len(runners) == 8 and not any(one.driver.unwritten for one in runners)
+                lambda: len(runners) == 8
+                and not any(one.driver.commits_in_flight for one in runners)
             )
             before = store.commits
             with locked(location):
                 gate.set()
-                await until(lambda: all(one.driver.unwritten for one in runners))
+                await until(lambda: all(one.driver.commits_in_flight for one in runners))
             assert all(end.ok for end in await asyncio.gather(*(one.wait() for one in runs)))
             assert store.commits - before <= 2
 
@@ -1038,10 +1039,7 @@ def test_commits_in_the_loop_and_in_the_thread(
         nonlocal most
         async with sagas.open(tmp_path / "store.db", [saga], concurrency=600) as store:
             ends = await asyncio.gather(
-                *(
-                    ended(store, saga, f"k{number}")
-                    for number in range(2 * shard.MOST_REPORTS + 100)
-                )
+                *(ended(store, saga, f"k{number}") for number in range(2 * shard.MAX_REPORTS + 100))
             )
             for number in range(400):
                 ends.append(await ended(store, saga, f"one-{number}"))
@@ -1132,7 +1130,7 @@ def test_a_late_reply_locks_no_rows(tmp_path: pathlib.Path) -> None:
             going = asyncio.ensure_future(ended(store, saga, "late"))
             assert store._coordinator
             (runner,) = store._coordinator.shards.runners.values()
-            await until(lambda: runner.engine and runner.engine.asked)
+            await until(lambda: runner.engine and runner.engine.unanswered)
             with contextlib.closing(sqlite3.connect(path, timeout=0)) as db:
                 db.execute("BEGIN IMMEDIATE")
                 assert db.execute("SELECT count(*) FROM sagas").fetchone() == (1,)

@@ -227,8 +227,8 @@ def test_a_commit_changes_a_row_once(kinds_of_change: tuple[str, ...], last: str
     }
     batches = [Batch(shard, 1.0, epoch=1) for _ in kinds_of_change]
     for batch, word in zip(batches, kinds_of_change):
-        getattr(batch.more, word).append(rows[word])
-    batches[0].more.cancelled.append(("aborted", saga))
+        getattr(batch.rare_rows, word).append(rows[word])
+    batches[0].rare_rows.cancelled.append(("aborted", saga))
     parts = Commit(batches, lambda log: 0, {}).parts
     assert {part for part in parts if part != "cancelled"} == {last} and len(parts[last]) == 1
     assert parts["cancelled"] == [("aborted", saga, '{"ab-3-pay-run-1"}')]

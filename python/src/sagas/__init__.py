@@ -14,7 +14,7 @@
     with sagas.open_sync("orders.db", [order]) as store:            # or: async with sagas.open(...)
         end = store.start(order, "order-1", {"amount": 40}).wait()  # a SagaResult: look at end.ok
 
-Every step is committed, or undone if that costs least, also if this program dies meanwhile.
+Every step is committed, or undone if that costs least, also if this program dies in between.
 
 - To declare: `Saga`, with `step`, `wait`, `approval` and `child`; `Step.compensation`,
   `Backoff`, `NEVER`.
@@ -138,9 +138,7 @@ LATER = {
 
 
 def __getattr__(name: str) -> Any:
-    """Modules of their own, and what needs psycopg, are loaded when they are asked for: a store
-    in a file does without.
-    """
+    """Load optional modules, and names that need psycopg, at the first access."""
     if name in MODULES:
         return importlib.import_module(f".{name}", __name__)
     if name not in LATER:
@@ -153,14 +151,12 @@ def __getattr__(name: str) -> Any:
 
 
 def _is_installed(name: str) -> bool:
-    """Whether there is such a module. One that is loaded may have no spec, as Celery's."""
+    """Whether a module exists. A loaded module may have no spec, as Celery's."""
     return sys.modules.get(name) is not None or importlib.util.find_spec(name) is not None
 
 
 def __dir__() -> list[str]:
-    """What is for users: the modules inside are not, nor is what needs something that is not
-    installed.
-    """
+    """Return the public names, without those whose requirements are not installed."""
     return sorted(
         [
             *__all__,
@@ -271,7 +267,7 @@ __all__ = [
     "plan",
 ]
 
-if not _is_installed("psycopg"):  # who asks for one by its name hears what to install
+if not _is_installed("psycopg"):  # an access by name says what to install
     for _name in LATER:
         __all__.remove(_name)
     del _name

@@ -12,17 +12,17 @@ from sagas.cli.overview import OVERVIEW
 HELP = ("-h", "--help", "help")
 
 
-def main(argv: list[str] | None = None) -> int:
+def main(arguments: list[str] | None = None) -> int:
     """Run the command and return its exit status."""
-    argv = sys.argv[1:] if argv is None else argv
-    if argv[:1] in ([word] for word in HELP) or (not argv and sys.stdin.isatty()):
+    arguments = sys.argv[1:] if arguments is None else arguments
+    if arguments[:1] in ([word] for word in HELP) or (not arguments and sys.stdin.isatty()):
         print(OVERVIEW, end="", flush=True)
         return 0
-    if argv[:1] == ["store"]:
+    if arguments[:1] == ["store"]:
         from sagas.cli import store_command
 
-        return store_command.main(argv[1:])
-    if argv[:1] in (["serve"], ["token"]):
+        return store_command.main(arguments[1:])
+    if arguments[:1] in (["serve"], ["token"]):
         try:
             from sagas.server import command as service
         except ImportError as error:
@@ -31,13 +31,13 @@ def main(argv: list[str] | None = None) -> int:
                 file=sys.stderr,
             )
             return 4
-        return service.main(argv[1:]) if argv[0] == "serve" else service.token(argv[1:])
+        return service.main(arguments[1:]) if arguments[0] == "serve" else service.token(arguments[1:])
     try:
         path = program.path()
     except EngineError as error:
         print(f"sagas: {error}", file=sys.stderr)
         return 4
-    os.execv(path, ["sagas", *argv])
+    os.execv(path, ["sagas", *arguments])
 
 
 if __name__ == "__main__":

@@ -14,7 +14,13 @@ import pytest
 
 import sagas
 from sagas.core import early_reports, outcomes, states
-from sagas.core.attempts import LOOK, AttemptMachine, is_asked, is_simple, will_be_asked
+from sagas.core.attempts import (
+    MAX_SLEEP,
+    AttemptMachine,
+    is_reportable,
+    is_called_at_once,
+    becomes_reportable,
+)
 from sagas.core.decisions import (
     CALL,
     FOLLOW,
@@ -105,13 +111,13 @@ def checked() -> Iterator[None]:
 
 
 def attempt_of(
-    step: str, number: int = 1, kind: str = "run", text: str = "null", fresh: bool = True
+    step: str, number: int = 1, kind: str = "run", text: str = "null", is_uncalled: bool = True
 ) -> Attempt:
     """Return an attempt that was claimed, alone in its saga."""
     instance = SagaInstance("k", text, KIND, 0)
     instance.token = "test-0"
-    attempt = Attempt(instance, KIND.names.index(step), kind, number, fresh)
-    instance.busy[attempt.word] = attempt
+    attempt = Attempt(instance, KIND.names.index(step), kind, number, is_uncalled)
+    instance.busy[attempt.action_key] = attempt
     return attempt
 
 
@@ -135,37 +141,38 @@ def error_of(attempt: Attempt) -> str:
 def test_a_function_is_called(step: str) -> None:
     attempt = attempt_of(step)
     assert MACHINE.begin(attempt, NOW) is CALL and attempt.state is AttemptState.CLAIMED
-    assert is_simple(attempt) is (step == "simple")
+    assert is_called_at_once(attempt) is (step == "simple")
 
 
 def test_a_retry_waits_for_its_back_off() -> None:
     attempt = attempt_of("simple", 3)
-    attempt.instance.rare.missed_at[attempt.word] = NOW - 5
+    attempt.instance.rare.failed_at[attempt.action_key] = NOW - 5
     assert MACHINE.begin(attempt, NOW) is SLEEP
-    assert (attempt.reason, attempt.until) == (Suspension.BACKOFF, NOW + 15) and MACHINE.delay(
-        attempt, NOW
-    ) == 15
+    assert (attempt.reason, attempt.until) == (
+        Suspension.BACKOFF,
+        NOW + 15,
+    ) and MACHINE.timer_delay(attempt, NOW) == 15
     assert MACHINE.timer(attempt, NOW + 15) is CALL
 
 
 def test_no_pause_after_an_elapsed_or_unknown_back_off() -> None:
     late, new = attempt_of("simple", 2), attempt_of("simple", 2)
-    late.instance.rare.missed_at[late.word] = NOW - 10
+    late.instance.rare.failed_at[late.action_key] = NOW - 10
     assert MACHINE.begin(late, NOW) is CALL and MACHINE.begin(new, NOW) is CALL
 
 
 def test_a_clock_that_jumped_back_makes_no_back_off_longer() -> None:
     attempt = attempt_of("simple", 2)
-    attempt.instance.rare.missed_at[attempt.word] = NOW + 5000
+    attempt.instance.rare.failed_at[attempt.action_key] = NOW + 5000
     assert MACHINE.begin(attempt, NOW) is SLEEP and attempt.until == NOW + 10
-    assert MACHINE.delay(attempt, NOW - 5000) == 100  # no longer than the longest pause
+    assert MACHINE.timer_delay(attempt, NOW - 5000) == 100  # no longer than the longest pause
     assert MACHINE.timer(attempt, NOW - 5000) is CALL  # it is counted here, whatever the clock says
 
 
 def test_no_call_after_a_permanent_failure() -> None:
     attempt = attempt_of("simple", 2)
-    attempt.instance.rare.final.add(attempt.word)
-    assert MACHINE.begin(attempt, NOW) is REPORT and attempt.at == NOW
+    attempt.instance.rare.final.add(attempt.action_key)
+    assert MACHINE.begin(attempt, NOW) is REPORT and attempt.finished_at == NOW
     assert (
         attempt.outcome
         and attempt.outcome.kind is OutcomeKind.FAILED_PERMANENTLY
@@ -192,7 +199,7 @@ def test_no_call_after_a_permanent_failure() -> None:
 def test_attempts_that_a_draining_saga_drops(
     number: int, aborted: bool, fresh: bool, kind: str, leaves: bool
 ) -> None:
-    attempt = attempt_of("plain", number, kind, fresh=fresh)
+    attempt = attempt_of("plain", number, kind, is_uncalled=fresh)
     attempt.instance.draining, attempt.instance.aborted = True, aborted
     assert MACHINE.begin(attempt, NOW) is (REPORT if leaves else CALL)
     assert not leaves or "being undone" in error_of(attempt)
@@ -201,10 +208,10 @@ def test_attempts_that_a_draining_saga_drops(
 @pytest.mark.parametrize("leased", [False, True])
 def test_an_external_step_is_offered(leased: bool) -> None:
     attempt = attempt_of("outside")
-    assert will_be_asked(attempt) and not is_asked(attempt)
+    assert becomes_reportable(attempt) and not is_reportable(attempt)
     assert AttemptMachine(leased).begin(attempt, NOW) is OFFER
-    assert attempt.reason is Suspension.EXTERNAL and attempt.until is None and is_asked(attempt)
-    assert attempt.fresh is leased  # else a worker may have started it
+    assert attempt.reason is Suspension.EXTERNAL and attempt.until is None and is_reportable(attempt)
+    assert attempt.is_uncalled is leased  # else a worker may have started it
 
 
 # -- waits
@@ -212,35 +219,35 @@ def test_an_external_step_is_offered(leased: bool) -> None:
 
 def test_a_wait_is_stored_then_waits_then_is_called() -> None:
     attempt = attempt_of("pause")
-    assert will_be_asked(attempt)
+    assert becomes_reportable(attempt)
     decision = MACHINE.begin(attempt, NOW)
     assert (
         decision == Decision(Do.SUSPEND, SuspensionRow(Suspension.TIMER, NOW + 30))
         and not decision.timer
     )
-    attempt.pending = decision.row
-    assert not is_asked(attempt) and will_be_asked(attempt)
+    attempt.pending_row = decision.row
+    assert not is_reportable(attempt) and becomes_reportable(attempt)
     assert MACHINE.stored(attempt) == Decision(
         Do.SUSPEND, timer=True, event=("step_suspended", "wait")
     )
     assert (
-        is_asked(attempt)
-        and MACHINE.delay(attempt, NOW) == 30
-        and MACHINE.delay(attempt, NOW - 900) == LOOK
+        is_reportable(attempt)
+        and MACHINE.timer_delay(attempt, NOW) == 30
+        and MACHINE.timer_delay(attempt, NOW - 900) == MAX_SLEEP
     )
     assert MACHINE.timer(attempt, NOW - 900) is SLEEP  # a clock that jumped back
     decision = MACHINE.timer(attempt, NOW + 30)
     assert decision == Decision(Do.SUSPEND, SuspensionRow(Suspension.TIMER, 0.0))
-    attempt.pending = decision.row
-    assert MACHINE.stored(attempt) is CALL and not will_be_asked(attempt)
+    attempt.pending_row = decision.row
+    assert MACHINE.stored(attempt) is CALL and not becomes_reportable(attempt)
 
 
 def test_the_next_attempt_of_a_wait_does_not_wait_again() -> None:
     attempt = attempt_of("pause", 2)
-    attempt.instance.rare.due[attempt.word] = 0.0
+    attempt.instance.rare.wait_ends[attempt.action_key] = 0.0
     assert MACHINE.begin(attempt, NOW) is CALL and attempt.has_row
     attempt = attempt_of("pause", 2)
-    attempt.instance.rare.due[attempt.word] = NOW + 7
+    attempt.instance.rare.wait_ends[attempt.action_key] = NOW + 7
     assert MACHINE.begin(attempt, NOW).row == SuspensionRow(Suspension.TIMER, NOW + 7)
 
 
@@ -249,10 +256,10 @@ def answered(attempt: Attempt) -> Decision:
     called.
     """
     decision = MACHINE.begin(attempt, NOW)
-    assert decision.do is Do.ASK and decision.question and attempt.state is AttemptState.CLAIMED
-    assert decision.question.words == "until="
-    attempt.rare.returned |= decision.question.answers()
-    return MACHINE.go_on(attempt, NOW)
+    assert decision.do is Do.ASK and decision.option_calls and attempt.state is AttemptState.CLAIMED
+    assert decision.option_calls.option_names == "until="
+    attempt.rare.returned |= decision.option_calls.answers()
+    return MACHINE.decide_again(attempt, NOW)
 
 
 def test_a_wait_until_a_time_of_the_program() -> None:
@@ -283,14 +290,16 @@ def test_a_saga_drains_while_the_time_of_a_wait_is_computed() -> None:
     """The result of its function is not used: the attempt is given up."""
     attempt = attempt_of("later", 1)
     decision = MACHINE.begin(attempt, NOW)
-    assert decision.question
+    assert decision.option_calls
     attempt.instance.draining = True
-    attempt.rare.returned |= decision.question.answers()
-    assert MACHINE.drain(attempt.instance, NOW) == [] and MACHINE.go_on(attempt, NOW) is REPORT
+    attempt.rare.returned |= decision.option_calls.answers()
+    assert (
+        MACHINE.drain(attempt.instance, NOW) == [] and MACHINE.decide_again(attempt, NOW) is REPORT
+    )
 
 
 def test_a_wait_of_a_saga_that_drains_is_given_up_before_it_waits() -> None:
-    attempt = attempt_of("pause", fresh=False)  # an earlier program had started it
+    attempt = attempt_of("pause", is_uncalled=False)  # an earlier program had started it
     attempt.instance.draining = True
     assert MACHINE.begin(attempt, NOW) is REPORT and attempt.has_row
     last = attempt_of("pause", 2)
@@ -308,8 +317,12 @@ def test_a_wait_of_a_saga_that_drains_is_given_up_before_it_waits() -> None:
 def test_an_outcome_is_reported(outcome: Outcome) -> None:
     attempt = running("plain")
     assert MACHINE.ended(attempt, outcome, NOW) is REPORT
-    assert (attempt.outcome, attempt.at, attempt.state) == (outcome, NOW, AttemptState.FINISHED)
-    assert (attempt.word in attempt.instance.rare.final) is (
+    assert (attempt.outcome, attempt.finished_at, attempt.state) == (
+        outcome,
+        NOW,
+        AttemptState.FINISHED,
+    )
+    assert (attempt.action_key in attempt.instance.rare.final) is (
         outcome.kind is OutcomeKind.FAILED_PERMANENTLY
     )
 
@@ -323,15 +336,21 @@ def test_an_unknown_outcome_is_called_again_until_a_person_has_to_say() -> None:
             and decision.timer
         )
         assert decision.event == ("step_unknown", "lost" if count == 1 else "lost; 2 times so far")
-        assert (attempt.count, attempt.since, MACHINE.delay(attempt, now)) == (count, NOW, pause)
+        assert (attempt.count, attempt.waiting_since, MACHINE.timer_delay(attempt, now)) == (
+            count,
+            NOW,
+            pause,
+        )
         now += pause
         assert MACHINE.timer(attempt, now) is CALL
         attempt.queue()
         attempt.start()
     decision = MACHINE.ended(attempt, outcomes.unknown("lost"), now)
     assert decision.row == SuspensionRow(Suspension.UNKNOWN, None, "lost") and attempt.until is None
-    assert decision.event and "a person must report it" in decision.event[1] and is_asked(attempt)
-    assert MACHINE.delay(attempt, now) is None and MACHINE.timer(attempt, now) is NOTHING
+    assert (
+        decision.event and "a person must report it" in decision.event[1] and is_reportable(attempt)
+    )
+    assert MACHINE.timer_delay(attempt, now) is None and MACHINE.timer(attempt, now) is NOTHING
     assert MACHINE.finish(attempt, outcomes.succeeded(1), now) is REPORT
 
 
@@ -363,14 +382,14 @@ def test_undecodable_values_park_an_attempt() -> None:
         SuspensionRow(Suspension.CANNOT_DECODE, None, "input lacks x"),
         event=("step_cannot_decode", "input lacks x"),
     )
-    attempt.pending = decision.row
+    attempt.pending_row = decision.row
     assert (
         MACHINE.stored(attempt).timer is False
-        and MACHINE.delay(attempt, NOW) is None
-        and is_asked(attempt)
+        and MACHINE.timer_delay(attempt, NOW) is None
+        and is_reportable(attempt)
     )
     wait = running("pause")
-    wait.instance.rare.due[wait.word] = 0.0
+    wait.instance.rare.wait_ends[wait.action_key] = 0.0
     assert MACHINE.ended(wait, outcome, NOW).row == SuspensionRow(
         Suspension.CANNOT_DECODE, 0.0, "input lacks x"
     )
@@ -381,14 +400,17 @@ def test_an_approval_is_requested_and_times_out() -> None:
     decision = MACHINE.ended(attempt, outcomes.succeeded(None), NOW)
     assert (
         decision == Decision(Do.SUSPEND, SuspensionRow(Suspension.APPROVAL, NOW + 60))
-        and attempt.fresh
+        and attempt.is_uncalled
     )
-    attempt.pending = decision.row
+    attempt.pending_row = decision.row
     assert MACHINE.stored(attempt) == Decision(
         Do.SUSPEND, timer=True, event=("step_suspended", "approval")
     )
     assert MACHINE.timer(attempt, NOW + 59) is SLEEP and MACHINE.timer(attempt, NOW + 60) is REPORT
-    assert "nobody approved it" in error_of(attempt) and attempt.word in attempt.instance.rare.final
+    assert (
+        "nobody approved it" in error_of(attempt)
+        and attempt.action_key in attempt.instance.rare.final
+    )
 
 
 @pytest.mark.parametrize(
@@ -421,7 +443,7 @@ def test_external_attempts_are_withdrawn_first() -> None:
     attempt = attempt_of("outside")
     leased = AttemptMachine(leased=True)
     assert leased.begin(attempt, NOW) is OFFER
-    attempt.instance.busy[attempt.word] = attempt
+    attempt.instance.busy[attempt.action_key] = attempt
     attempt.instance.draining = attempt.instance.aborted = True
     assert (
         leased.drain(attempt.instance, NOW) == [(attempt, WITHDRAW)]
@@ -443,9 +465,9 @@ def test_an_offered_attempt_is_withdrawn_first() -> None:
 
 def test_a_row_that_is_stored_when_the_attempt_went_on_leads_to_nothing() -> None:
     attempt = running("plain")
-    attempt.pending = MACHINE.ended(attempt, outcomes.unknown("lost"), NOW).row
+    attempt.pending_row = MACHINE.ended(attempt, outcomes.unknown("lost"), NOW).row
     attempt.queue()
-    assert MACHINE.stored(attempt) is NOTHING and attempt.pending is None
+    assert MACHINE.stored(attempt) is NOTHING and attempt.pending_row is None
     assert MACHINE.stored(attempt) is NOTHING
 
 
@@ -468,7 +490,7 @@ def test_running_and_waiting_attempts_continue() -> None:
 
 def test_a_row_that_was_on_its_way_is_put_again() -> None:
     attempt = running("plain")
-    attempt.pending = row = MACHINE.ended(attempt, outcomes.unknown("lost"), NOW).row
+    attempt.pending_row = row = MACHINE.ended(attempt, outcomes.unknown("lost"), NOW).row
     assert MACHINE.resume(attempt, NOW + 1) == Decision(Do.SUSPEND, row, timer=True)
     attempt.queue()
     assert (
@@ -496,11 +518,16 @@ def test_an_earlier_attempt_continues_by_its_row(
     step: str, reason: Suspension, until: float | None, decision: Decision
 ) -> None:
     made = attempt_of(step)
-    attempt = Attempt(made.instance, made.step, "run", 1, fresh=False)
-    attempt.reason, attempt.since, attempt.until, attempt.has_row = reason, NOW - 9, until, True
-    assert attempt.has_row and not attempt.fresh and attempt.since == NOW - 9
+    attempt = Attempt(made.instance, made.step, "run", 1, is_uncalled=False)
+    attempt.reason, attempt.waiting_since, attempt.until, attempt.has_row = (
+        reason,
+        NOW - 9,
+        until,
+        True,
+    )
+    assert attempt.has_row and not attempt.is_uncalled and attempt.waiting_since == NOW - 9
     assert MACHINE.resume(attempt, NOW) == decision
-    assert attempt.fresh is (reason in (Suspension.TIMER, Suspension.APPROVAL) and until != 0)
+    assert attempt.is_uncalled is (reason in (Suspension.TIMER, Suspension.APPROVAL) and until != 0)
     if decision is not CALL:
         assert (attempt.state, attempt.reason, attempt.until) == (
             AttemptState.SUSPENDED,
@@ -510,18 +537,18 @@ def test_an_earlier_attempt_continues_by_its_row(
 
 
 def test_an_earlier_attempt_without_a_row_starts_again() -> None:
-    assert MACHINE.resume(attempt_of("plain", fresh=False), NOW) is CALL
-    assert MACHINE.resume(attempt_of("outside", fresh=False), NOW) is OFFER
+    assert MACHINE.resume(attempt_of("plain", is_uncalled=False), NOW) is CALL
+    assert MACHINE.resume(attempt_of("outside", is_uncalled=False), NOW) is OFFER
 
 
 def test_an_attempt_with_a_child_is_resumed() -> None:
     """Its child may exist, also if the attempt was given up before its row was stored: it is
     followed, and not given up again.
     """
-    attempt = attempt_of("plain", fresh=True)
+    attempt = attempt_of("plain", is_uncalled=True)
     attempt.reason, attempt.has_row = Suspension.CHILD, True
-    assert MACHINE.resume(attempt, NOW) is FOLLOW and not attempt.fresh
-    attempt.instance.busy[attempt.word] = attempt
+    assert MACHINE.resume(attempt, NOW) is FOLLOW and not attempt.is_uncalled
+    attempt.instance.busy[attempt.action_key] = attempt
     attempt.instance.aborted = attempt.instance.draining = True
     assert MACHINE.drain(attempt.instance, NOW) == [(attempt, FOLLOW)]
 
@@ -540,8 +567,8 @@ def test_a_draining_saga_gives_up_waiting_attempts() -> None:
         ("pause", 1),
         ("later", 1),
     ):
-        attempt = Attempt(instance, KIND.names.index(step), "run", number, fresh=True)
-        made[step] = instance.busy[attempt.word] = attempt
+        attempt = Attempt(instance, KIND.names.index(step), "run", number, is_uncalled=True)
+        made[step] = instance.busy[attempt.action_key] = attempt
     made["simple"].suspend(Suspension.BACKOFF, NOW + 5)
     made["plain"].suspend(Suspension.BACKOFF, NOW + 5)  # the last attempt
     made["timed"].start()
@@ -606,7 +633,11 @@ def decide(what: str, attempt: Attempt, outcome: Outcome, now: float) -> Decisio
     if what == "ended":
         return MACHINE.ended(attempt, outcome, now)
     if what == "report":
-        return MACHINE.finish(attempt, outcomes.succeeded(3), now) if is_asked(attempt) else NOTHING
+        return (
+            MACHINE.finish(attempt, outcomes.succeeded(3), now)
+            if is_reportable(attempt)
+            else NOTHING
+        )
     if what == "stored":
         return MACHINE.stored(attempt)
     if what == "drain":
@@ -633,7 +664,7 @@ def test_whatever_happens_each_decision_fits_the_state(
     called that waits for its row.
     """
     attempt, now = attempt_of(step, number), NOW
-    attempt.instance.rare.missed_at[attempt.word] = NOW
+    attempt.instance.rare.failed_at[attempt.action_key] = NOW
     for _ in range(12):
         if attempt.state is AttemptState.FINISHED:
             break
@@ -641,7 +672,7 @@ def test_whatever_happens_each_decision_fits_the_state(
         what = data.draw(st.sampled_from(CHOICES[attempt.state]))
         decision = decide(what, attempt, data.draw(st.sampled_from(OUTCOMES)), now)
         if decision.row:
-            attempt.pending, attempt.has_row = decision.row, True
+            attempt.pending_row, attempt.has_row = decision.row, True
         if decision.do is Do.CALL:
             attempt.queue()
         assert (decision.do is Do.REPORT) <= (attempt.state is AttemptState.FINISHED)
@@ -662,19 +693,21 @@ def test_early_reports() -> None:
     for step in ("sign", "outside"):
         for aborted in (False, True):
             attempt = attempt_of(step)
-            instance, word = attempt.instance, attempt.word
+            instance, word = attempt.instance, attempt.action_key
             instance.aborted = instance.draining = aborted
             EarlyReport(instance, word, Outcome(OutcomeKind.SUCCEEDED, '"yes"')).keep()
             assert early_reports.stored(instance, word) == Outcome(OutcomeKind.SUCCEEDED, '"yes"')
             assert MACHINE.begin(attempt, NOW) == REPORT and attempt.has_row
             assert attempt.outcome == Outcome(OutcomeKind.SUCCEEDED, '"yes"')
     attempt = attempt_of("sign")
-    EarlyReport(attempt.instance, attempt.word, outcomes.reported(None, "no")).keep()
-    assert MACHINE.begin(attempt, NOW) == REPORT and attempt.word in attempt.instance.rare.final
+    EarlyReport(attempt.instance, attempt.action_key, outcomes.reported_outcome(None, "no")).keep()
+    assert (
+        MACHINE.begin(attempt, NOW) == REPORT and attempt.action_key in attempt.instance.rare.final
+    )
     again = Attempt(attempt.instance, attempt.step, "run", 2, True)
     assert MACHINE.begin(again, NOW) == REPORT and again.outcome and not again.outcome.called
     undo = attempt_of("outside", kind="undo")
-    undo.instance.rare.early[undo.step, "run"] = (EarlyReason.RESULT, "1")
+    undo.instance.rare.early_reports[undo.step, "run"] = (EarlyReason.RESULT, "1")
     assert MACHINE.begin(undo, NOW) == CALL
 
 
@@ -682,10 +715,10 @@ def test_which_reports_are_taken_early() -> None:
     """Those of approvals and of external steps, while the saga continues."""
     for step, kind in (("simple", "run"), ("pause", "run"), ("sent", "run"), ("outside", "undo")):
         instance = attempt_of(step).instance
-        assert early_reports.refusal(instance, KIND.names.index(step), kind)
+        assert early_reports.refusal_reason(instance, KIND.names.index(step), kind)
     for step in ("sign", "outside"):
         instance = attempt_of(step).instance
         number = KIND.names.index(step)
-        assert early_reports.refusal(instance, number, "run") is None
+        assert early_reports.refusal_reason(instance, number, "run") is None
         instance.draining = True
-        assert "is being undone" in str(early_reports.refusal(instance, number, "run"))
+        assert "is being undone" in str(early_reports.refusal_reason(instance, number, "run"))

@@ -58,17 +58,17 @@ def attempt_of(given: Any, kind: str = "run") -> Attempt:
     """Return an attempt that was claimed."""
     instance = SagaInstance("k", json.dumps(given), KIND, 0)
     instance.token = "test-0"
-    return Attempt(instance, 0, kind, 1, fresh=True)
+    return Attempt(instance, 0, kind, 1, is_uncalled=True)
 
 
 def limited(attempt: Attempt) -> tuple[str, Decision]:
     """Return the functions that were called for the limits of its step, and the decision."""
-    decision, names = AttemptMachine().limit(attempt, 5.0), ""
+    decision, names = AttemptMachine().decide_limits(attempt, 5.0), ""
     if decision.do is Do.ASK:
-        assert decision.question and attempt.state is AttemptState.CLAIMED
-        names = decision.question.words
-        attempt.rare.returned |= decision.question.answers()
-        decision = AttemptMachine().limit(attempt, 5.0)
+        assert decision.option_calls and attempt.state is AttemptState.CLAIMED
+        names = decision.option_calls.option_names
+        attempt.rare.returned |= decision.option_calls.answers()
+        decision = AttemptMachine().decide_limits(attempt, 5.0)
     return names, decision
 
 
@@ -141,6 +141,6 @@ def noted() -> Exception:
 def test_the_line_of_an_error_is_pythons_own(error: BaseException) -> None:
     """It is made without `traceback`, which takes ten times as long."""
     assert (
-        outcomes.described(error)
+        outcomes.describe_error(error)
         == "".join(traceback.format_exception_only(type(error), error)).strip()
     )

@@ -8,7 +8,7 @@ import pytest
 
 import sagas
 from sagas.core import exhaustion, outcomes
-from sagas.core.attempts import AttemptMachine, is_asked
+from sagas.core.attempts import AttemptMachine, is_reportable
 from sagas.core.decisions import CALL, NOTHING, REPORT, SLEEP, Do
 from sagas.core.model import Attempt, SagaInstance
 from sagas.core.states import OutcomeKind, Suspension
@@ -31,7 +31,7 @@ def attempt_of(kind: str = "run", number: int = 1, **options: Any) -> Attempt:
     instance = SagaInstance("k", "null", DefinitionRegistry([saga]).kinds[0], 0)
     instance.token = "test-0"
     attempt = Attempt(instance, 0, kind, number, True)
-    instance.busy[attempt.word] = attempt
+    instance.busy[attempt.action_key] = attempt
     attempt.start()
     return attempt
 
@@ -72,7 +72,7 @@ def test_the_decision_after_a_failure(
         return
     assert decision.do is Do.SUSPEND and decision.row and decision.row.reason is comes
     asks = comes is Suspension.EXHAUSTED
-    assert (attempt.until is None) is asks and decision.timer is not asks and is_asked(attempt)
+    assert (attempt.until is None) is asks and decision.timer is not asks and is_reportable(attempt)
     name = "step_exhausted" if asks else "step_retrying"
     assert decision.event == (name, decision.row.error) and attempt.failures == 1
 
@@ -86,19 +86,19 @@ def test_attempts_up_to_the_limit() -> None:
     for pauses in ((20.0, 40.0, 60.0), (10.0, 20.0, 40.0, 60.0)):
         for pause in pauses:
             MACHINE.ended(attempt, NO, now)
-            assert attempt.until == now + pause and MACHINE.delay(attempt, now) == pause
+            assert attempt.until == now + pause and MACHINE.timer_delay(attempt, now) == pause
             now += pause
-            attempt.pending = None
+            attempt.pending_row = None
             assert MACHINE.timer(attempt, now) is CALL
             again(attempt)
         MACHINE.ended(attempt, NO, now)
         assert attempt.reason is Suspension.EXHAUSTED
         assert MACHINE.timer(attempt, now) is NOTHING and exhaustion.may_retry(attempt)
-        attempt.pending = None
+        attempt.pending_row = None
         decision = exhaustion.retry(attempt, now)
         assert decision.row and (decision.row.reason, decision.row.until) == (Suspension.RETRY, now)
         assert MACHINE.timer(attempt, now) is CALL
-        attempt.pending = None
+        attempt.pending_row = None
         again(attempt)
 
 
@@ -109,9 +109,9 @@ def test_a_retried_unknown_attempt_stays_unknown() -> None:
     """
     attempt = attempt_of(number=2, max_unknown=0)
     MACHINE.ended(attempt, outcomes.unknown("lost"), NOW)
-    assert attempt.since == NOW
+    assert attempt.waiting_since == NOW
     decision = exhaustion.retry(attempt, NOW + 5)
-    assert attempt.since == NOW + 5
+    assert attempt.waiting_since == NOW + 5
     assert decision.row and (decision.row.reason, decision.row.error) == (
         Suspension.UNKNOWN,
         "lost",
@@ -148,10 +148,10 @@ def test_the_pause_that_a_function_wants(number: int) -> None:
         assert attempt.until == NOW + 3 and decision.timer
         return
     instance = attempt.instance
-    instance.missed(attempt.word, NOW, {"error": "soon", "retry_after": 3.0})
+    instance.note_failure(attempt.action_key, NOW, {"error": "soon", "retry_after": 3.0})
     following = Attempt(instance, 0, "run", 2, True)
     assert MACHINE.begin(following, NOW) is SLEEP and following.until == NOW + 3
-    instance.missed(attempt.word, NOW, {"error": "no"})
+    instance.note_failure(attempt.action_key, NOW, {"error": "no"})
     assert MACHINE.begin(Attempt(instance, 0, "run", 2, True), NOW + 9) is SLEEP
 
 
@@ -161,6 +161,6 @@ def test_a_restart_continues_a_wait(reason: Suspension) -> None:
     asks = reason is Suspension.EXHAUSTED
     attempt = Attempt(attempt_of(number=2).instance, 0, "run", 2, False)
     until = attempt.until = None if asks else NOW + 30
-    attempt.reason, attempt.since, attempt.has_row = reason, NOW, True
+    attempt.reason, attempt.waiting_since, attempt.has_row = reason, NOW, True
     assert MACHINE.resume(attempt, NOW) is (NOTHING if asks else SLEEP)
     assert (attempt.reason, attempt.until) == (reason, until) and exhaustion.may_retry(attempt)

@@ -6,7 +6,7 @@ import fleet_model
 import pytest
 
 from sagas.core.fleet_record import Chunk, ShardRecord, Takeover
-from sagas.core.record_lines import BadLine, Records
+from sagas.core.record_lines import InvalidLine, Records
 
 BORN = Takeover(1, "a", -1, "1")
 CHUNKS = [Chunk(1, 0, 2, 11), Chunk(1, 2, 3, 12)]
@@ -34,7 +34,7 @@ def merged(
     for line in filter(None, notes.splitlines()):
         records.add(line)
     record = ShardRecord(records.notes.get(7, {}), sync)
-    record.make(takeovers, chunks, now, ends or [])
+    record.build(takeovers, chunks, now, ends or [])
     return record
 
 
@@ -191,7 +191,7 @@ def test_another_server_lacks_the_last_commit() -> None:
     takeovers = [BORN, Takeover(2, "a", 0, "2")]
     record = merged(f"{NODE}\ntook a 7 2 2 2 11", takeovers, CHUNKS[:1], "2")
     assert events_of(record) == f"{TWO}, moved 1 1, took 2 1 11, heard 1"
-    assert [(loss.had, loss.told) for loss in record.losses] == [(1, [("wake", 2)])]
+    assert [(loss.chunk_count, loss.acknowledgements) for loss in record.losses] == [(1, [("wake", 2)])]
     assert events_of(merged(NODE, takeovers, CHUNKS[:1], "2", sync=True)).endswith(
         "FewerThanShipped"
     )
@@ -211,7 +211,7 @@ def test_another_server_lacks_takeovers() -> None:
 
 def test_another_server_lacks_the_shard() -> None:
     record = merged(NODE, [], [], "2")
-    assert events_of(record) == f"{TWO}, moved 0 0" and [loss.had for loss in record.losses] == [0]
+    assert events_of(record) == f"{TWO}, moved 0 0" and [loss.chunk_count for loss in record.losses] == [0]
 
 
 def test_another_server_takes_over_and_the_shard_rests() -> None:
@@ -240,7 +240,7 @@ def test_an_end_that_a_client_got(notes: str) -> None:
     ],
 )
 def test_an_invalid_line(line: str) -> None:
-    with pytest.raises(BadLine):
+    with pytest.raises(InvalidLine):
         Records().add(line)
 
 

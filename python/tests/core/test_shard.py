@@ -12,11 +12,11 @@ import pytest
 
 import sagas
 from sagas.core import outcomes, recovery
-from sagas.core.batch import Loaded
+from sagas.core.batch import LoadedShard
 from sagas.core.effects import Abort, Effects
 from sagas.core.model import Attempt, SagaInstance
-from sagas.core.replies import Disagrees
-from sagas.core.shard import MOST_REPORTS, ShardDriver, ShardIdentity
+from sagas.core.replies import EngineDisagrees
+from sagas.core.shard import MAX_REPORTS, ShardDriver, ShardIdentity
 from sagas.core.shard_definitions import ShardDefinitions
 from sagas.core.states import AttemptState, Check, IllegalTransition, ShardState, Suspension
 from sagas.core.suspensions import SuspensionRow
@@ -51,8 +51,8 @@ def driver() -> ShardDriver:
     shard = ShardDriver.created(
         ShardIdentity(NUMBER, "name", ShardDefinitions(DEFINITIONS.kinds)), "line"
     )
-    shard.to(ShardState.STARTING)
-    shard.to(ShardState.ACTIVE)
+    shard.set_state(ShardState.STARTING)
+    shard.set_state(ShardState.ACTIVE)
     return shard
 
 
@@ -93,7 +93,7 @@ def come(shard: ShardDriver, *replies: str, text: str = "line\n") -> Effects:
 
 def kept(shard: ShardDriver, effects: Effects) -> Effects:
     """Return the effects of a reply once its batch is durable."""
-    shard.writes(effects)
+    shard.begin_commit(effects)
     shard.committed(effects)
     return effects
 
@@ -118,20 +118,31 @@ def test_a_saga_from_its_start_to_its_end() -> None:
     effects = come(shard, opened(0), tasks((0, 0, "run", 1)))
     assert (
         effects.batch.opened == [(7000, "k", "two", 0, '{"n":1}', NOW, None, None)]
-        and effects.batch.born
+        and effects.batch.new_shard
         and effects.unclaimed == 1
     )
-    assert effects.opened == [saga] and not saga.committed and shard.sent and shard.events == 1
-    shard.writes(effects)
-    assert shard.unwritten == 1 and not shard.is_over
+    assert (
+        effects.opened == [saga] and not saga.committed and shard.opens_sent and shard.events == 1
+    )
+    shard.begin_commit(effects)
+    assert shard.commits_in_flight == 1 and not shard.is_over
     shard.committed(effects)
-    assert saga.committed and not shard.sent and shard.unwritten == 0 and shard.born is None
+    assert (
+        saga.committed
+        and not shard.opens_sent
+        and shard.commits_in_flight == 0
+        and shard.new_shard is None
+    )
     for step, phase in ((0, "going"), (1, "ended")):
         (attempt,) = effects.dispatch
-        assert (attempt.step, attempt.fresh, saga.busy) == (step, True, {attempt.word: attempt})
+        assert (attempt.step, attempt.is_uncalled, saga.busy) == (
+            step,
+            True,
+            {attempt.action_key: attempt},
+        )
         attempt.finish(outcomes.Outcome(outcomes.SUCCEEDED, str(step)), NOW)
         shard.report(attempt)
-        assert [*shard.unkept()] == [attempt] and shard.is_due(may_claim=False)
+        assert [*shard.unstored_reports()] == [attempt] and shard.is_due(may_claim=False)
         assert (
             shard.requests(8)[0]
             == f'{{"attempt":1,"do":"report","outcome":"ok","saga":0,"step":{step},"task":"run"}}'
@@ -150,7 +161,7 @@ def test_a_saga_from_its_start_to_its_end() -> None:
     )
     assert (
         shard.is_over
-        and not shard.hungry
+        and not shard.may_have_tasks
         and not shard.is_due(may_claim=True)
         and shard.requests(8) == []
     )
@@ -159,20 +170,20 @@ def test_a_saga_from_its_start_to_its_end() -> None:
 def test_no_more_tasks_are_claimed_than_there_are_slots() -> None:
     """Without a free slot it claims none; a question has a bounded number of reports and opens."""
     shard = driver()
-    for number in range(MOST_REPORTS + 10):
+    for number in range(MAX_REPORTS + 10):
         shard.open(instance(f"k{number}"))
     assert (
-        len(shard.requests(0)) == MOST_REPORTS
-        and shard.asked
-        and shard.asked.claims == 0
+        len(shard.requests(0)) == MAX_REPORTS
+        and shard.unanswered
+        and shard.unanswered.claim_count == 0
         and len(shard.opens) == 10
     )
-    come(shard, *(opened(number) for number in range(MOST_REPORTS)))
-    assert shard.hungry and not shard.is_due(may_claim=False) or shard.opens
+    come(shard, *(opened(number) for number in range(MAX_REPORTS)))
+    assert shard.may_have_tasks and not shard.is_due(may_claim=False) or shard.opens
     assert (
         shard.requests(3)[-1] == '{"do":"next","most":3}'
-        and shard.unask() == 3
-        and shard.asked is None
+        and shard.drop_request() == 3
+        and shard.unanswered is None
     )
 
 
@@ -195,7 +206,7 @@ def test_a_shard_that_is_full_takes_no_more() -> None:
     empty, saga = driver(), SagaInstance("k", "1", two().kinds[0], 0)
     empty.open(saga)
     empty.requests(0)
-    with pytest.raises(Disagrees, match="an empty log was to take saga"):
+    with pytest.raises(EngineDisagrees, match="an empty log was to take saga"):
         empty.replies(['{"refused":"log-full"}'], "", NOW)
 
 
@@ -248,12 +259,12 @@ def test_an_engine_that_knows_something_else() -> None:
     for replies in ([], ['{"error":"x"}', tasks((0, 1, "run", 1))]):
         shard.report(attempt)
         shard.requests(8)
-        with pytest.raises(Disagrees):
+        with pytest.raises(EngineDisagrees):
             shard.replies(replies, "", NOW)
     shard.open(instance("other"))
     shard.reports.clear()
     shard.requests(0)
-    with pytest.raises(Disagrees):
+    with pytest.raises(EngineDisagrees):
         shard.replies(['{"refused":"number"}'], "", NOW)
 
 
@@ -267,15 +278,15 @@ def test_a_refused_commit_makes_it_stale() -> None:
     shard.report(attempt)
     shard.requests(8)
     effects = come(shard, event("commit"), tasks((0, 1, "run", 1)))
-    shard.writes(effects)
+    shard.begin_commit(effects)
     shard.requests(5)
     assert (
         shard.failed(effects) == 2
         and shard.state is ShardState.STALE
-        and shard.unwritten == 0
-        and not shard.is_known
+        and shard.commits_in_flight == 0
+        and not shard.is_current
     )
-    assert [*shard.unkept()] == [attempt] and shard.fail() == 0
+    assert [*shard.unstored_reports()] == [attempt] and shard.fail() == 0
 
 
 def shown(phase: str, answer: object, states: list[str]) -> str:
@@ -305,7 +316,7 @@ def test_a_failing_saga_drains_and_its_result_is_requested() -> None:
     attempt.finish(outcomes.failure("no", final=True), NOW)
     shard.report(attempt)
     report, _, look = shard.requests(8)
-    assert '"outcome":"fail"' in report and look == '{"do":"show","saga":0}' and saga.odd
+    assert '"outcome":"fail"' in report and look == '{"do":"show","saga":0}' and saga.has_deviated
     effects = kept(
         shard, come(shard, event("fail", "planning"), '{"tasks":[]}', shown("planning", None, []))
     )
@@ -349,14 +360,14 @@ def test_an_abort_is_answered() -> None:
         assert (
             effects.rare.aborted == [abort]
             and abort.done is done
-            and shard.aborting == [abort]
+            and shard.aborts_sent == [abort]
             and saga.aborted is done
         )
         assert effects.batch.rare and effects.batch.rare.answers == [
             ("true" if done else "false", 4)
         ]
         kept(shard, effects)
-        assert shard.aborting == []
+        assert shard.aborts_sent == []
 
 
 def test_a_suspension_is_kept_by_itself() -> None:
@@ -378,26 +389,26 @@ def test_a_state_that_may_not_follow(monkeypatch: pytest.MonkeyPatch) -> None:
     """The table forbids it."""
     monkeypatch.setattr(Check, "is_on", True)
     shard = driver()
-    shard.to(ShardState.CLOSED)
+    shard.set_state(ShardState.CLOSED)
     with pytest.raises(IllegalTransition):
-        shard.to(ShardState.ACTIVE)
+        shard.set_state(ShardState.ACTIVE)
 
 
-def rows(*, results: list[Any] = [], held: list[Any] = [], open: bool = True) -> Loaded:
+def rows(*, results: list[Any] = [], held: list[Any] = [], open: bool = True) -> LoadedShard:
     """Return the rows of the store for a shard with one saga."""
     there = [(7000, "k", 0, '{"n":1}', 9.0, TRACE, None)] if open else []
-    return Loaded("x\n", 1, 1, there, results, held, epoch=3, line="other")
+    return LoadedShard("x\n", 1, 1, there, results, held, epoch=3, timeline="other")
 
 
 def recovered(
-    shard: ShardDriver, loaded: Loaded, busy: list[tuple[int, str, int]]
+    shard: ShardDriver, loaded: LoadedShard, busy: list[tuple[int, str, int]]
 ) -> recovery.Recovery:
     """Return a shard that was recovered from them."""
     shard.fail()
-    shard.to(ShardState.LOADING)
+    shard.set_state(ShardState.LOADING)
     shard.loaded(loaded)
     known = {saga.key: saga for saga in shard.sagas.values()}
-    starting, new = recovery.unopened(shard, loaded, known)
+    starting, new = recovery.take_unopened(shard, loaded, known)
     assert not starting and not new and recovery.requests(loaded) == ['{"do":"busy"}']
     busy_tasks = [
         {"saga": 0, "step": step, "task": word, "attempt": count} for step, word, count in busy
@@ -420,7 +431,7 @@ def test_recovery_keeps_running_attempts_and_drops_new_ones() -> None:
     )
     assert (
         shard.state is ShardState.ACTIVE
-        and shard.known == (3, "other")
+        and shard.fence == (3, "other")
         and shard.epoch == 3
         and recovery_result.restored == [attempt.instance]
     )
@@ -442,16 +453,16 @@ def test_a_finished_attempt_is_reported_again_or_replaced() -> None:
     assert (
         recovery_result.resumed == [attempt]
         and attempt.state is AttemptState.FINISHED
-        and [*shard.unkept()] == []
+        and [*shard.unstored_reports()] == []
     )
-    attempt.recorded = True
+    attempt.is_recorded = True
     recovery_result = recovered(shard, rows(), [(0, "run", 1)])
     (other,) = recovery_result.resumed
     assert (
         recovery_result.forgotten == [attempt]
         and other is not attempt
         and other.state is AttemptState.CLAIMED
-        and not other.fresh
+        and not other.is_uncalled
     )
 
 
@@ -469,21 +480,21 @@ def test_an_attempt_that_was_given_up_is_decided_again(
     attempt = begun(shard)
     attempt.finish(outcomes.failure("not called", called=False), NOW)
     shard.report(attempt)
-    loaded = dataclasses.replace(rows(), epoch=epoch, line=line)
+    loaded = dataclasses.replace(rows(), epoch=epoch, timeline=line)
     (given_up,) = recovered(shard, loaded, [(0, "run", 1)]).resumed
     assert (
         given_up is not attempt
         and given_up.state is AttemptState.CLAIMED
-        and given_up.fresh is is_ours
+        and given_up.is_uncalled is is_ours
     )
-    shard.known = (1, "line")
+    shard.fence = (1, "line")
     given_up.suspend(Suspension.BACKOFF, NOW + 1)
     recovery_result = recovered(shard, loaded, [(0, "run", 1)])
     (other,) = recovery_result.resumed
     assert (
         (other is given_up) is is_ours
         and (given_up in recovery_result.forgotten) is not is_ours
-        and other.fresh is is_ours
+        and other.is_uncalled is is_ours
     )
 
 
@@ -500,11 +511,11 @@ def test_rows_of_an_earlier_program() -> None:
         attempt.state is AttemptState.FINISHED
         and attempt.outcome
         and attempt.outcome.value == '"r"'
-        and attempt.at == 9.0
+        and attempt.finished_at == 9.0
     )
     held = (*row, "unknown", 2, 5.0, 60.0, "lost")
     (attempt,) = recovered(driver(), rows(held=[held]), [(0, "run", 1)]).resumed
-    assert (attempt.reason, attempt.count, attempt.until, attempt.has_row, attempt.fresh) == (
+    assert (attempt.reason, attempt.count, attempt.until, attempt.has_row, attempt.is_uncalled) == (
         Suspension.UNKNOWN,
         2,
         60.0,
@@ -512,7 +523,7 @@ def test_rows_of_an_earlier_program() -> None:
         False,
     )
     saga = attempt.instance
-    assert saga.rare.due == {(0, "run"): 0.0} and begun_shard.hungry
+    assert saga.rare.wait_ends == {(0, "run"): 0.0} and begun_shard.may_have_tasks
     gone = recovered(begun_shard, rows(open=False), [])
     assert [one.key for one in gone.gone] == ["k"] and not gone.restored and not begun_shard.sagas
 
@@ -529,7 +540,7 @@ def test_aborts_are_repeated_or_answered() -> None:
     assert (
         recovered(shard, rows(), []).aborted == []
         and shard.aborts == [abort]
-        and shard.aborting == []
+        and shard.aborts_sent == []
     )
     recovery_result = recovered(shard, rows(open=False), [])
     assert recovery_result.aborted == [abort] and abort.done is False and shard.aborts == []
@@ -540,7 +551,7 @@ def aborted_by_the_log(shard: ShardDriver) -> recovery.Recovery:
     loaded = rows()
     loaded.text = event("abort", "draining")
     shard.fail()
-    shard.to(ShardState.LOADING)
+    shard.set_state(ShardState.LOADING)
     shard.loaded(loaded)
     reply = shown("draining", None, ["running", "waiting"]).replace("false", "true", 1)
     known = {saga.key: saga for saga in shard.sagas.values()}
@@ -576,7 +587,7 @@ def test_a_saga_that_comes_from_the_store_has_its_options() -> None:
     recovery_result = recovered(shard, rows(), [])
     (saga,) = recovery_result.restored
     assert (saga.options.deadline, saga.options.traceparent) == (9.0, TRACE)
-    attempt = Attempt(saga, 0, "run", 1, fresh=True)
+    attempt = Attempt(saga, 0, "run", 1, is_uncalled=True)
     assert attempt.traceparent == attempt.task().traceparent == TRACE
 
 

@@ -58,7 +58,7 @@ class Store:
 
     def enter(self, step: str) -> Attempt:
         attempt = Attempt(
-            SagaInstance("k", "{}", KIND, 0), KIND.names.index(step), "run", 1, fresh=True
+            SagaInstance("k", "{}", KIND, 0), KIND.names.index(step), "run", 1, is_uncalled=True
         )
         self.slots.enter(attempt)
         return attempt
@@ -76,12 +76,12 @@ def test_attempts_come_in_turn() -> None:
     store = Store(2)
     first, second, third, fourth = (store.enter("wide") for _ in range(4))
     assert store.called == [first, second] and third.state is AttemptState.QUEUED
-    assert store.slots.is_waiting(third) and store.slots.free() == -2
+    assert store.slots.is_waiting(third) and store.slots.free_count() == -2
     store.slots.leave(first)
     assert store.called[2:] == [third] and not store.slots.is_waiting(third)
     store.slots.cancel(fourth)
-    store.slots.left(2)
-    assert len(store.called) == 3 and store.slots.running == 0 and store.slots.free() == 2
+    store.slots.leave_many(2)
+    assert len(store.called) == 3 and store.slots.running == 0 and store.slots.free_count() == 2
 
 
 def test_an_attempt_over_its_limit_delays_no_other() -> None:
@@ -111,23 +111,27 @@ def test_an_unused_limit_is_dropped() -> None:
 
 def test_slots_are_taken_for_many_at_once() -> None:
     store = Store(5)
-    assert store.slots.take(3) == 3 and store.slots.take(9) == 2 and store.slots.take() == 0
-    store.slots.left(5)
+    assert (
+        store.slots.take_slots(3) == 3
+        and store.slots.take_slots(9) == 2
+        and store.slots.take_slots() == 0
+    )
+    store.slots.leave_many(5)
     assert store.slots.running == 0
 
 
 def test_waiting_shards_are_notified_of_slots() -> None:
     store, shard, other = Store(2), Shard(), Shard()
     store.slots.reserve(2)
-    store.slots.starve(shard)
-    store.slots.starve(other)
+    store.slots.add_waiting_shard(shard)
+    store.slots.add_waiting_shard(other)
     store.slots.feed()
-    assert store.slots.free() == 0 and shard.pokes == 0
-    store.slots.sate(other)
+    assert store.slots.free_count() == 0 and shard.pokes == 0
+    store.slots.remove_waiting_shard(other)
     store.slots.release(1)
     assert store.fed == 1
     store.slots.feed()
-    assert (shard.pokes, other.pokes) == (1, 0) and not store.slots.starved
+    assert (shard.pokes, other.pokes) == (1, 0) and not store.slots.waiting_shards
 
 
 def test_a_store_that_is_closed_begins_nothing() -> None:
@@ -154,9 +158,9 @@ def test_slots_are_shared_among_tenants() -> None:
         if draw.random() < 0.55:
             tenant = draw.choice("aaaabbc")
             attempt = Attempt(
-                SagaInstance(f"k{number}", f'"{tenant}"', kind, 0), 0, "run", 1, fresh=True
+                SagaInstance(f"k{number}", f'"{tenant}"', kind, 0), 0, "run", 1, is_uncalled=True
             )
-            store.slots.come(attempt)
+            store.slots.request_slot(attempt)
             if len(running) == 3:
                 waiting.setdefault(attempt.instance.tenant, []).append(attempt)
         elif running and draw.random() < 0.9:

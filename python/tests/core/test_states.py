@@ -56,7 +56,7 @@ def attempt_in(state: AttemptState) -> Attempt:
         ...
 
     attempt = Attempt(
-        SagaInstance("k", "{}", DefinitionRegistry([saga]).kinds[0], 0), 0, "run", 1, fresh=True
+        SagaInstance("k", "{}", DefinitionRegistry([saga]).kinds[0], 0), 0, "run", 1, is_uncalled=True
     )
     attempt.state = state
     return attempt
@@ -83,7 +83,7 @@ def test_an_attempt_follows_the_table_of_transitions(
     if after in states.ATTEMPT_TRANSITIONS[before]:
         WRITERS[after](attempt)
         assert attempt.state is after
-        assert attempt.fresh is (after is not AttemptState.RUNNING)
+        assert attempt.is_uncalled is (after is not AttemptState.RUNNING)
     else:
         with pytest.raises(IllegalTransition, match=f"AttemptState: {before.name} -> {after.name}"):
             WRITERS[after](attempt)
@@ -111,10 +111,10 @@ def test_an_attempt_is_forgotten_from_each_state(before: AttemptState) -> None:
 def test_many_are_started_and_finished_at_once() -> None:
     some = [attempt_in(AttemptState.CLAIMED) for _ in range(3)]
     start_all(some)
-    assert all(one.state is AttemptState.RUNNING and not one.fresh for one in some)
+    assert all(one.state is AttemptState.RUNNING and not one.is_uncalled for one in some)
     some[1].forget()
     assert finish_all(some, 3.0) == [some[0], some[2]]
-    assert [one.at for one in some] == [3.0, 0.0, 3.0]
+    assert [one.finished_at for one in some] == [3.0, 0.0, 3.0]
 
 
 def test_without_the_check_nothing_is_looked_up() -> None:

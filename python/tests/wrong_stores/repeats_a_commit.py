@@ -21,8 +21,8 @@ def apply() -> None:
 
     def commit(self: PostgreSQL, batches: Sequence[Batch], then: CommitCallback, now: bool) -> None:
         async def again() -> None:
-            for log in {batch.log for batch in batches if batch.text}:
-                mine = [batch for batch in batches if batch.log == log and batch.text]
+            for log in {batch.shard for batch in batches if batch.text}:
+                mine = [batch for batch in batches if batch.shard == log and batch.text]
                 taken = await self.take_up(log, mine[0].epoch)
                 at = taken[1] if taken else mine[0].first
                 for batch in mine:

@@ -8,7 +8,7 @@ from typing import Any
 from sagas.celery.worker import Work
 from sagas.definition.task import Task, snapshot
 from sagas.core.dispatch import Order
-from sagas.core.dispatch import Begun
+from sagas.core.dispatch import AttemptTexts
 
 FINDS = "handed"
 STRIKES = "run"
@@ -19,7 +19,7 @@ def apply() -> None:
     right = Work._task
     seen: dict[str, str] = {}
 
-    def task(self: Work, order: Order, begun: Begun) -> Task[Any]:
+    def task(self: Work, order: Order, begun: AttemptTexts) -> Task[Any]:
         told = snapshot(right(self, order, begun)._data)
         return Task(
             dataclasses.replace(

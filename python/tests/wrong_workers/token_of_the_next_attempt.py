@@ -8,7 +8,7 @@ from typing import Any
 from sagas.celery.worker import Work
 from sagas.definition.task import Task, snapshot
 from sagas.core.dispatch import Order
-from sagas.core.dispatch import Begun
+from sagas.core.dispatch import AttemptTexts
 
 FINDS = "begun-early"
 STRIKES = "run"
@@ -18,7 +18,7 @@ def apply() -> None:
     """Count the attempt before it starts."""
     right = Work._task
 
-    def task(self: Work, order: Order, begun: Begun) -> Task[Any]:
+    def task(self: Work, order: Order, begun: AttemptTexts) -> Task[Any]:
         told = snapshot(right(self, order, begun)._data)
         return Task(dataclasses.replace(told, attempt=told.attempt + 1))
 

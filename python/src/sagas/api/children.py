@@ -39,7 +39,7 @@ class ChildOperations:
         """Wait until a saga has ended."""
         ended = await self._lookup.whole(key)
         if isinstance(ended, SagaInstance):
-            end = history.end_of_live(ended)
+            end = history.live_result(ended)
             return ChildEnd(end, ended.id, ended.kind, ended.text, ended.results)
         coordinator = self._access.coordinator
         known = await retries.until_answered(functools.partial(coordinator.store.known, ended))
@@ -50,7 +50,7 @@ class ChildOperations:
             if event == "commit"
         }
         return ChildEnd(
-            history.end_of(kind, ended, known.results), ended.id, kind, ended.input, results
+            history.stored_result(kind, ended, known.results), ended.id, kind, ended.input, results
         )
 
     async def abort(self, key: str, by: str) -> None:

@@ -15,12 +15,12 @@ from sagas.api.client_run import ClientRun
 from sagas.api.repeated_reports import check_again
 from sagas.api.schedules import Schedules
 from sagas.base.errors import Closed, InvalidStore, NoSuchSaga
-from sagas.base.fork_guard import Opened
+from sagas.base.fork_guard import OpenState
 
 from sagas.core import pending
 from sagas.core import attention, history, step_reports
-from sagas.core.batch import Known, SagaRow
-from sagas.core.outcomes import Outcome, reported
+from sagas.core.batch import StoredSaga, SagaRow
+from sagas.core.outcomes import Outcome, reported_outcome
 from sagas.core.results import HistoryEvent, SagaResult
 from sagas.definition import arguments, children, payloads, serialization
 from sagas.definition.blobs import LEAST, BlobStore
@@ -105,7 +105,7 @@ class Client(Schedules):
         self._asker = connections_module.Asker(self._url, self.path, connections)
         self._asker.late = self._look_at_hosts
         self._reader = AsyncStoreReader(self._read, self._read)
-        self._opened = Opened("the client")
+        self._opened = OpenState("the client")
         self._notifier: notifications.Notifications | None = None
         self._record = RecordFile.of(record_path(arguments.record(record)), secrets.token_hex(4))
         self._kinds: dict[str, CompiledDefinition] = {}
@@ -195,7 +195,7 @@ class Client(Schedules):
 
     async def close(self) -> None:
         """Close the connections."""
-        if self._opened.is_elsewhere:  # another process owns the connections
+        if self._opened.is_other_process:  # another process owns the connections
             return
         notifier, self._notifier = self._notifier, None
         try:
@@ -304,7 +304,7 @@ class Client(Schedules):
         early: bool = True,
     ) -> None:
         """Report that a step succeeded. See `Store.complete`."""
-        await self._report(key, step, reported(result, None), undo, early)
+        await self._report(key, step, reported_outcome(result, None), undo, early)
 
     async def fail(
         self,
@@ -316,7 +316,7 @@ class Client(Schedules):
         early: bool = True,
     ) -> None:
         """Report that a step failed permanently. See `Store.fail`."""
-        await self._report(key, step, reported(None, error), undo, early)
+        await self._report(key, step, reported_outcome(None, error), undo, early)
 
     async def retry(self, key: str, step: Step[Any] | str, *, undo: bool = False) -> None:
         """Attempt an exhausted step again. See `Store.retry`."""
@@ -379,7 +379,7 @@ class Client(Schedules):
         details = serialization.write({"by": by, "note": note})
         if not await self._ask(RESOLVE, key=key, note=note, details=details):
             row = await self._row(key)
-            unused = await self._ask(queries.named(attention.UNUSED, "id"), id=row.id)
+            unused = await self._ask(queries.named(attention.UNUSED_REPORTS, "id"), id=row.id)
             attention.is_to_resolve(row, note, bool(unused))
 
     async def compensate(
@@ -408,12 +408,12 @@ class Client(Schedules):
         if row.id < 0:
             holders = await self._ask(LEFT_BY, id=-row.id)
             is_left = holders and holders[0][1]
-            return [pending.left_by(row.saga, *holders[0]) if is_left else pending.NOT_BEGUN]
+            return [pending.missing_definition(row.saga, *holders[0]) if is_left else pending.NO_NODE_YET]
         rows = await self._read(WAITS, row.id)
         if not rows:
             return []
         known = await self._known(row)
-        return pending.of_rows(self._kind(row, known.definition).names, rows)
+        return pending.stored_waits(self._kind(row, known.definition).names, rows)
 
     async def _ask(self, query: str, **parameters: Any) -> builtins.list[Row]:
         self._open_notifier
@@ -437,7 +437,7 @@ class Client(Schedules):
             raise NoSuchSaga(f"no saga has the key {key!r}")
         return row
 
-    async def _known(self, row: SagaRow) -> Known:
+    async def _known(self, row: SagaRow) -> StoredSaga:
         """Return what the store has of a saga. Raises `NoSuchSaga` if it was deleted."""
         query = queries.known_query(row.id, history=False)
         return queries.known(await self._read(*query), row.key)
@@ -452,4 +452,4 @@ class Client(Schedules):
     async def _end(self, row: SagaRow) -> SagaResult:
         known = await self._known(row)
         kind = self._kind(row, known.definition)
-        return history.end_of(kind, row, known.results, known.shape)
+        return history.stored_result(kind, row, known.results, known.shape)

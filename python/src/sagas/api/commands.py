@@ -13,14 +13,14 @@ from sagas.api.saga_lookup import SagaLookup
 from sagas.api.store_access import StoreAccess
 from sagas.base.errors import (
     KeyConflict,
-    Moved,
+    SagaMoved,
     NoSuchSaga,
     SagasError,
     StepNotWaiting,
     WouldWaitForever,
 )
 from sagas.core import attempts, attention, early_reports, exhaustion, progress, step_reports
-from sagas.core.batch import Asked, Batch, SagaRow, Wanted
+from sagas.core.batch import AnsweredRequest, Batch, SagaRow, RequestRef
 from sagas.core.early_reports import EarlyReport, Refusal
 from sagas.core.model import Attempt, SagaInstance
 from sagas.core.outcomes import Outcome
@@ -43,14 +43,14 @@ class Commands:
 
     def command_row(
         self, key: str, command: str, by: str | None, note: str | None, **arguments: Any
-    ) -> Asked | None:
+    ) -> AnsweredRequest | None:
         """Return the stored row of a command; None if no requester is named."""
         if by is None:
             return None
         text = serialization.write({"by": by, "note": note, **arguments})
         return key, command, text, self._access.coordinator.clock()
 
-    async def abort(self, key: str, request: Wanted, of: int | None = None) -> bool:
+    async def abort(self, key: str, request: RequestRef, of: int | None = None) -> bool:
         """Abort a saga; return False if it has ended, or was aborted before.
 
         Raises `NotAbortable`.
@@ -83,16 +83,16 @@ class Commands:
                 children.check_abortable(key)
             try:
                 return await coordinator.shards.abort(live, request)
-            except Moved:
+            except SagaMoved:
                 continue
 
-    async def _hand_over(self, row: SagaRow, command: str, arguments: Any, request: Wanted) -> Any:
+    async def _hand_over(self, row: SagaRow, command: str, arguments: Any, request: RequestRef) -> Any:
         """Ask the node that has the saga.
 
         That node itself executes a stored command.
         """
         if isinstance(request, int):
-            raise Moved(f"saga {row.key!r}")
+            raise SagaMoved(f"saga {row.key!r}")
         value = serialization.write(arguments) if request is None else request[2]
         coordinator = self._access.coordinator
         answer = await coordinator.store.ask(row, command, value, coordinator.registry.payloads)
@@ -104,7 +104,7 @@ class Commands:
         step: str,
         outcome: Outcome,
         undo: bool,
-        request: Wanted,
+        request: RequestRef,
         of: int | None = None,
         early: bool = True,
     ) -> None:
@@ -140,11 +140,11 @@ class Commands:
                 elif attempt is not None:
                     await self._report_early(live, attempt, outcome, request, early)
                 return
-            except Moved:
+            except SagaMoved:
                 continue
 
     async def retry(
-        self, key: str, step: str, undo: bool, request: Wanted, of: int | None = None
+        self, key: str, step: str, undo: bool, request: RequestRef, of: int | None = None
     ) -> None:
         """Retry an attempt that waits for an operator, or for its next time."""
         kind = "undo" if undo else "run"
@@ -163,50 +163,50 @@ class Commands:
             if step not in names:
                 raise StepNotWaiting(f"saga {key!r} has no step {step!r}{meant(step, names)}")
             attempt = live.busy.get((names.index(step), kind))
-            while attempt is not None and attempt.pending:
+            while attempt is not None and attempt.pending_row:
                 await self._access.coordinator.executor.changes.wait(attempt)
                 self._access.coordinator  # raises if it was closed in the meantime
             if self._access.coordinator.sagas.by_key.get(key) is not live:
                 continue  # its shard was lost in the meantime
-            if attempt is not None and live.busy.get(attempt.word) is not attempt:
+            if attempt is not None and live.busy.get(attempt.action_key) is not attempt:
                 continue
             if attempt is None or not exhaustion.may_retry(attempt):
                 why = "it has no failed attempt that waits for a retry"
                 if attempt is not None:
-                    why = progress.described(attempt, self._access.coordinator.clock())
+                    why = progress.describe_attempt(attempt, self._access.coordinator.clock())
                 raise StepNotWaiting(f"saga {key!r}, step {step!r} cannot be retried: {why}")
             try:
                 await self._access.coordinator.executor.retry(attempt, request)
                 return
-            except Moved:
+            except SagaMoved:
                 continue
 
-    async def _report_here(self, attempt: Attempt, outcome: Outcome, request: Wanted) -> None:
+    async def _report_here(self, attempt: Attempt, outcome: Outcome, request: RequestRef) -> None:
         """Report an attempt that is in progress here.
 
-        Raises `Moved` if it has ended, or is not here any more. The reply never relies on a state
+        Raises `SagaMoved` if it has ended, or is not here any more. The reply never relies on a state
         that may not be stored.
         """
         coordinator, key, step = self._access.coordinator, attempt.instance.key, attempt.name
         is_checked = not child_reports.is_of_child(attempt, outcome)
-        while not (is_checked and attempts.is_asked(attempt)):
-            if attempts.is_asked(attempt):
+        while not (is_checked and attempts.is_reportable(attempt)):
+            if attempts.is_reportable(attempt):
                 await child_reports.check(coordinator.store.read, attempt, outcome)
                 is_checked = True
                 continue
             is_over = await coordinator.executor.until_kept(attempt)
-            is_here = attempt.instance.busy.get(attempt.word) is attempt
+            is_here = attempt.instance.busy.get(attempt.action_key) is attempt
             if is_over or not is_here or coordinator.sagas.by_key.get(key) is not attempt.instance:
-                raise Moved(f"saga {key!r}")  # the stored outcome counts
+                raise SagaMoved(f"saga {key!r}")  # the stored outcome counts
             if attempt is current_step.waiter(
                 coordinator.executor.calls.running
-            ) and attempts.will_be_asked(attempt):
+            ) and attempts.becomes_reportable(attempt):
                 raise WouldWaitForever(
                     f"step {step!r} of saga {key!r} reports itself before it waits for a report. "
                     "Return sagas.Approved(result) or sagas.Rejected(why) instead"
                 )
-            if not attempts.will_be_asked(attempt):
-                why = progress.described(attempt, coordinator.clock())
+            if not attempts.becomes_reportable(attempt):
+                why = progress.describe_attempt(attempt, coordinator.clock())
                 raise StepNotWaiting(
                     f"saga {key!r}, step {step!r} does not wait for a report: {why}"
                 )
@@ -223,7 +223,7 @@ class Commands:
     ) -> Attempt | ActionKey | None:
         """Return the attempt to report; the key of the action if none has started.
 
-        Returns None if the same outcome was reported before. Raises `Moved` if its end is being
+        Returns None if the same outcome was reported before. Raises `SagaMoved` if its end is being
         stored.
         """
         if step not in live.kind.names:
@@ -236,7 +236,7 @@ class Commands:
             return attempt
         is_there = live.shard is not None and live.committed
         rows = await coordinator.store.read(step_reports.RESULTS, live.id) if is_there else []
-        first = step_reports.first_of(rows, *word)
+        first = step_reports.first_outcome(rows, *word)
         if first is None and attempt is not None:
             return attempt
         over = _over(live, rows, word)
@@ -249,32 +249,32 @@ class Commands:
         return word
 
     async def _check_not_begun(self, live: SagaInstance, word: ActionKey) -> None:
-        """Raise `Moved` if an attempt has started since the store was read.
+        """Raise `SagaMoved` if an attempt has started since the store was read.
 
         That includes an attempt whose report is being stored.
         """
         coordinator = self._access.coordinator
-        unkept = live.shard.unkept() if live.shard else ()
+        unkept = live.shard.unstored_reports() if live.shard else ()
         attempt = next(
-            (other for other in unkept if other.instance is live and other.word == word), None
+            (other for other in unkept if other.instance is live and other.action_key == word), None
         )
         if attempt is not None:
             await coordinator.executor.until_kept(attempt)
         is_known = word[0] in live.results or word in live.busy or word in live.rare.final
         is_here = coordinator.sagas.by_key.get(live.key) is live
         if attempt is not None or not is_here or (is_known and word[1] == Action.RUN):
-            raise Moved(f"saga {live.key!r}")
+            raise SagaMoved(f"saga {live.key!r}")
 
     async def _report_early(
-        self, live: SagaInstance, word: ActionKey, outcome: Outcome, request: Wanted, early: bool
+        self, live: SagaInstance, word: ActionKey, outcome: Outcome, request: RequestRef, early: bool
     ) -> None:
         """Store a report of a step that has not started.
 
-        Raises `StepNotWaiting`, or `Moved` if the caller has to check again.
+        Raises `StepNotWaiting`, or `SagaMoved` if the caller has to check again.
         """
         coordinator, key, step = self._access.coordinator, live.key, live.kind.names[word[0]]
         first = early_reports.stored(live, word)
-        why = early_reports.refusal(live, *word) if early else early_reports.NOT_STARTED
+        why = early_reports.refusal_reason(live, *word) if early else early_reports.NOT_STARTED
         if why is not None and first is None:
             if live.shard is not None and live.committed:
                 await coordinator.executor.early.put(Refusal(live))
@@ -287,7 +287,7 @@ class Commands:
         elif live.shard is None or not live.committed:
             with contextlib.suppress(KeyConflict):  # another saga has the key
                 await coordinator.sagas.started(live)
-            raise Moved(f"saga {key!r}")
+            raise SagaMoved(f"saga {key!r}")
         else:
             await coordinator.executor.early.put(EarlyReport(live, word, outcome, request))
 
@@ -295,11 +295,11 @@ class Commands:
         """Mark a saga as resolved by an operator."""
         coordinator, row = self._access.coordinator, await self._lookup.row(key)
         note = serialization.clean(note)
-        unused = await coordinator.store.read(attention.UNUSED, row.id)
+        unused = await coordinator.store.read(attention.UNUSED_REPORTS, row.id)
         if not attention.is_to_resolve(row, note, bool(unused)):
             return
         batch, value = Batch(-1, coordinator.clock()), serialization.write({"by": by, "note": note})
-        batch.more.notes.append((note, row.id))
+        batch.rare_rows.notes.append((note, row.id))
         batch.answer((key, "resolve", value, coordinator.clock()), "true")
         await coordinator.kept(batch)
         coordinator.executor.children.look()
@@ -317,9 +317,9 @@ class Commands:
 
 def _over(live: SagaInstance, rows: Iterable[tuple[Any, ...]], word: ActionKey) -> str | None:
     """Return how a step without a running attempt ended; None if it has not ended."""
-    over = step_reports.over_by(rows, *word)
+    over = step_reports.end_text(rows, *word)
     undo = live.busy.get((word[0], "undo")) if over and word[1] == "run" else None
-    if over and undo and attempts.is_asked(undo):
+    if over and undo and attempts.is_reportable(undo):
         over += "; its compensation waits for a report (undo=True, or --undo)"
     return over
 

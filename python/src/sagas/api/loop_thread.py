@@ -10,7 +10,7 @@ from collections.abc import Callable, Coroutine
 from typing import Any, TypeVar
 
 from sagas.base.errors import Closed
-from sagas.base.fork_guard import Opened
+from sagas.base.fork_guard import OpenState
 from sagas.core import pending
 from sagas.runtime import current_step
 
@@ -27,7 +27,7 @@ class Loop:
 
     def __init__(self, path: str, subject: str, remedy: str) -> None:
         self.path, self._closed = path, f"{subject} {remedy}"
-        self._opened = Opened(subject)
+        self._opened = OpenState(subject)
         self._loop: asyncio.AbstractEventLoop | None = None
         self._pending: set[concurrent.futures.Future[Any]] = set()
         self._guard = threading.Lock()
@@ -35,7 +35,7 @@ class Loop:
     @property
     def runs(self) -> bool:
         """Whether the loop runs in this process."""
-        return self._loop is not None and not self._opened.is_elsewhere
+        return self._loop is not None and not self._opened.is_other_process
 
     def start(self) -> None:
         """Start the thread.
@@ -116,7 +116,7 @@ class Loop:
         waited_for: list[str] = []
         with contextlib.suppress(Exception):  # the loop may be blocked
             waited_for = self.do(waits(), SOON)
-        raise pending.still_open(key, timeout, waited_for)
+        raise pending.timeout_error(key, timeout, waited_for)
 
 
 async def _finish(loop: asyncio.AbstractEventLoop) -> None:

@@ -10,7 +10,7 @@ from sagas.api.questions import Questions
 from sagas.api.saga_lookup import SagaLookup
 from sagas.api.store_access import StoreAccess
 from sagas.api.unused_reports import UnusedReports
-from sagas.core.outcomes import reported
+from sagas.core.outcomes import reported_outcome
 from sagas.definition import arguments, serialization
 from sagas.definition.payloads import Payloads
 from sagas.definition.step import Step
@@ -105,7 +105,7 @@ class Operators(Questions):
             Closed: The store is closed.
         """
         self._access.coordinator_here()
-        outcome, name = reported(result, None), step if isinstance(step, str) else step.name
+        outcome, name = reported_outcome(result, None), step if isinstance(step, str) else step.name
         kept = self._access.coordinator.registry.payloads.encode_value(json.loads(outcome.value))
         step_fields = operator_commands.step_arguments(name, "undo" if undo else "run", early)
         command = self._commands.command_row(key, "complete", by, note, **step_fields, result=kept)
@@ -133,7 +133,7 @@ class Operators(Questions):
             TypeError: `error` is not a text.
         """
         self._access.coordinator_here()
-        outcome, name = reported(None, error), step if isinstance(step, str) else step.name
+        outcome, name = reported_outcome(None, error), step if isinstance(step, str) else step.name
         step_fields = operator_commands.step_arguments(name, "undo" if undo else "run", early)
         command = self._commands.command_row(key, "fail", by, note, **step_fields, error=error)
         await self._commands.report(key, name, outcome, undo, command, early=early)

@@ -32,12 +32,12 @@ async def check_again(
         raise step_reports.over(row)
     step_index = names.index(step)
     first, why = (
-        step_reports.first_of(await read(step_reports.RESULTS, row.id), step_index, kind),
+        step_reports.first_outcome(await read(step_reports.RESULTS, row.id), step_index, kind),
         None,
     )
     if first is None:
-        why = step_reports.UNUSED
-        first = step_reports.early_of(await read(step_reports.EARLY, row.id, step_index, kind))
+        why = step_reports.UNUSED_TEXT
+        first = step_reports.early_outcome(await read(step_reports.EARLY, row.id, step_index, kind))
     if first is None:
         raise step_reports.over(row)
     step_reports.check(row.key, step, first, outcome, why, payloads)

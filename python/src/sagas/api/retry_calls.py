@@ -9,7 +9,7 @@ from typing import Any
 from sagas.api.batches import definition_name
 from sagas.api.operators import Operators
 from sagas.base.errors import ConflictingReport, InvalidResult, NoSuchSaga, StepNotWaiting
-from sagas.core.outcomes import Outcome, reported
+from sagas.core.outcomes import Outcome, reported_outcome
 from sagas.core.states import Suspension
 from sagas.definition import arguments
 from sagas.definition.labels import Labels, selecting
@@ -117,7 +117,7 @@ class RetryCalls(Operators):
         """
         details = {"by": by, "note": note, "result": result}
         return await self._each(
-            self._exhausted(saga, step, labels, limit), reported(result, None), details
+            self._exhausted(saga, step, labels, limit), reported_outcome(result, None), details
         )
 
     async def fail_all(
@@ -143,7 +143,7 @@ class RetryCalls(Operators):
         """
         details = {"by": by, "note": note, "error": error}
         return await self._each(
-            self._exhausted(saga, step, labels, limit), reported(None, error), details
+            self._exhausted(saga, step, labels, limit), reported_outcome(None, error), details
         )
 
     async def _each(

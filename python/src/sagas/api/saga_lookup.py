@@ -11,10 +11,10 @@ from typing import Any
 
 from sagas.api import timeouts
 from sagas.api.store_access import StoreAccess
-from sagas.base.errors import Moved, NoSuchSaga, SagasError
+from sagas.base.errors import SagaMoved, NoSuchSaga, SagasError
 from sagas.core import history, pending
 from sagas.core.batch import SagaRow
-from sagas.core.key_lookup import Guessing
+from sagas.core.key_lookup import KeyLookupPolicy
 from sagas.core.model import SagaInstance
 from sagas.core.results import SagaResult
 from sagas.runtime import current_step, retries
@@ -26,14 +26,14 @@ class SagaLookup:
     def __init__(self, access: StoreAccess) -> None:
         self._access = access
         self.finding: dict[str, asyncio.Future[None]] = {}  # keys that are being looked up
-        self.guessing = Guessing()
+        self.guessing = KeyLookupPolicy()
 
     async def live(self, key: str) -> SagaInstance | None:
         """Return the saga with this key, if this program executes it.
 
         It waits until the key is known to belong to the saga.
         """
-        while (live := self._access.coordinator.sagas.by_key.get(key)) and live.is_doubtful:
+        while (live := self._access.coordinator.sagas.by_key.get(key)) and live.has_unchecked_key:
             with contextlib.suppress(SagasError):  # its start raises that
                 await self._access.coordinator.sagas.started(live)
         return live
@@ -45,7 +45,7 @@ class SagaLookup:
         try:
             row = await coordinator.store.find(key)
             if row is not None:
-                self.guessing.told(was_there=True)
+                self.guessing.record_start(was_there=True)
             return row
         finally:
             self.finding.pop(key, None)
@@ -80,25 +80,25 @@ class SagaLookup:
         """Wait until a saga has ended, for callers that limit the time themselves."""
         coordinator = self._access.coordinator_here()
         live = coordinator.sagas.by_key.get(key)
-        if live is not None and live.is_doubtful:
+        if live is not None and live.has_unchecked_key:
             live = await self.live(key)
         if live is not None:  # the common case: this program executes it
             try:
                 await coordinator.sagas.ends.wait(live)
                 if live.is_whole:
-                    return history.end_of_live(live)
-            except Moved:
+                    return history.live_result(live)
+            except SagaMoved:
                 pass
         over = await self.whole(key)
         if isinstance(over, SagaInstance):
-            return history.end_of_live(over)
+            return history.live_result(over)
         return await retries.until_answered(functools.partial(self._end_of, over))
 
     async def _end_of(self, row: SagaRow) -> SagaResult:
         coordinator = self._access.coordinator
         known = await coordinator.store.known(row)
         kind = coordinator.registry.kind(known.definition)
-        return history.end_of(kind, row, known.results, known.shape)
+        return history.stored_result(kind, row, known.results, known.shape)
 
     async def whole(self, key: str) -> SagaInstance | SagaRow:
         """Wait until a saga has ended; return the saga, or its row.
@@ -132,7 +132,7 @@ class SagaLookup:
                 try:
                     await coordinator.sagas.ends.wait(live)
                     return live
-                except Moved:
+                except SagaMoved:
                     pass
             coordinator = self._access.coordinator
 
@@ -143,5 +143,5 @@ class SagaLookup:
         """
         live = self._access.coordinator.sagas.by_key.get(key)
         if live is None and (row := await self._access.coordinator.store.find(key)) and row.id < 0:
-            return [pending.NOT_BEGUN]
-        return pending.of_live(live)
+            return [pending.NO_NODE_YET]
+        return pending.live_waits(live)

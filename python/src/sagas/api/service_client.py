@@ -33,7 +33,7 @@ from sagas.api.service_views import (
     waits_of,
 )
 from sagas.base.errors import NoSuchSaga
-from sagas.core.pending import still_open
+from sagas.core.pending import timeout_error
 from sagas.definition import arguments, tracing
 from sagas.definition.blobs import BlobStore
 from sagas.definition.labels import Labels, checked
@@ -198,7 +198,7 @@ class ServiceClient:
             if reply["over"]:
                 return saga_of(self._values.saga(reply))
             if time.monotonic() >= until:
-                raise still_open(key, limit, waits_of(reply))
+                raise timeout_error(key, limit, waits_of(reply))
 
     def abort(self, key: str, *, note: str | None = None) -> bool:
         """Abort a saga: no further step starts, and what costs least is undone.

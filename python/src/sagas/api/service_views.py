@@ -19,7 +19,7 @@ from sagas.base.errors import (
     TooLarge,
 )
 from sagas.base.events import Event
-from sagas.core.results import Answering
+from sagas.core.results import EndQueries
 from sagas.core.states import WAITS_FOR
 from sagas.definition.fan import FIXED, Fan
 
@@ -41,7 +41,7 @@ ERRORS: dict[str, type[SagasError]] = {
 
 
 @dataclasses.dataclass(frozen=True)
-class ServiceSaga(Answering):
+class ServiceSaga(EndQueries):
     """Show a saga at the time of the request. Made by `ServiceClient`.
 
     `str` shows a line for each step.

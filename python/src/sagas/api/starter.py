@@ -121,7 +121,7 @@ class Starter:
             options = dataclasses.replace(options, shape=shape)
         text = self._registry.payloads.encode(text)
         is_new = invalid is None and accepts and key not in coordinator.sagas.by_key
-        if is_new and self._lookup.guessing.is_worth():  # judging by the last starts
+        if is_new and self._lookup.guessing.may_skip_lookup():  # judging by the last starts
             assert kind
             new = coordinator.sagas.add(key, text, kind, options)
             return self._begin(coordinator, new, guessed=True)
@@ -142,7 +142,7 @@ class Starter:
         kind, _, invalid = fitted
         live = coordinator.sagas.by_key.get(key)
         is_sound = invalid is None and accepts
-        if live is not None and live.is_doubtful:
+        if live is not None and live.has_unchecked_key:
             live = await lookup.live(key)
         # otherwise its key is looked up with others, when it is assigned to a shard
         looks = coordinator.store.shared or not is_sound
@@ -192,12 +192,12 @@ class Starter:
         try:
             await stored
         except KeyConflict:
-            self._lookup.guessing.told(was_there=True)
+            self._lookup.guessing.record_start(was_there=True)
             raise
         except StoreUnavailable:
             if not (guessed and await self._is_there(live)):
                 raise
-        self._lookup.guessing.told(was_there=not live.committed)
+        self._lookup.guessing.record_start(was_there=not live.committed)
         return live.committed
 
     async def _is_there(self, live: SagaInstance) -> bool:

@@ -21,7 +21,7 @@ from sagas.api.store_access import StoreAccess, transactions
 from sagas.api.workers import Workers
 from sagas.base import program as program_module
 from sagas.base.errors import InvalidStore, WouldWaitForever
-from sagas.base.events import Hook, Teller
+from sagas.base.events import Hook, EventEmitter
 from sagas.base.logger import logger
 from sagas.core.batch import SagaRow
 from sagas.core.model import SagaInstance
@@ -111,7 +111,7 @@ class Store(RetryCalls):
             if shutdown_timeout is None
             else arguments.time("shutdown_timeout", shutdown_timeout)
         )
-        self._teller, self._program = Teller(on_event, clock), program
+        self._teller, self._program = EventEmitter(on_event, clock), program
         super().__init__(
             StoreAccess("PostgreSQL" if factory.is_url(self._name) else self._name), self._name
         )
@@ -240,7 +240,7 @@ class Store(RetryCalls):
             if shutdown_timeout is None
             else arguments.time("shutdown_timeout", shutdown_timeout)
         )
-        if self._access.opened.is_elsewhere:  # another process owns the store
+        if self._access.opened.is_other_process:  # another process owns the store
             return
         if self._requests:
             self._requests.stop()

@@ -6,7 +6,7 @@ import asyncio
 from typing import Any
 
 from sagas.base.errors import Closed
-from sagas.base.fork_guard import Opened, private
+from sagas.base.fork_guard import OpenState, private_descriptors
 from sagas.runtime.coordinator import Coordinator
 
 
@@ -15,7 +15,7 @@ class StoreAccess:
 
     def __init__(self, path: str) -> None:
         self.path = path
-        self.opened = Opened("the store")
+        self.opened = OpenState("the store")
         self.opened_coordinator: Coordinator | None = None
 
     @property
@@ -25,7 +25,7 @@ class StoreAccess:
             raise Closed(
                 f"{self.path}: the store is not open. Use `async with sagas.open(...) as store`"
             )
-        if self.opened_coordinator.forks != private.forks:
+        if self.opened_coordinator.forks != private_descriptors.forks:
             self.opened.check(self.path)
         if self.opened_coordinator.closed:
             raise self.opened_coordinator.closed
@@ -37,7 +37,7 @@ class StoreAccess:
         Raises `Closed`, and `RuntimeError` in another loop.
         """
         coordinator = self.opened_coordinator
-        if coordinator is None or coordinator.closed or coordinator.forks != private.forks:
+        if coordinator is None or coordinator.closed or coordinator.forks != private_descriptors.forks:
             coordinator = self.coordinator  # raises
         if asyncio.get_running_loop() is not coordinator.loop:
             raise RuntimeError(

@@ -7,7 +7,7 @@ from collections.abc import Awaitable, Callable, Coroutine
 from typing import Any, TypeVar
 
 from sagas.base.errors import SagasError
-from sagas.core.pending import still_open
+from sagas.core.pending import timeout_error
 
 T = TypeVar("T")
 SOON = 2.0
@@ -38,4 +38,4 @@ async def in_time(
         waited_for = ["its store does not answer"]
     except SagasError as error:
         waited_for = [str(error)]
-    raise still_open(key, timeout, waited_for)
+    raise timeout_error(key, timeout, waited_for)

@@ -9,10 +9,10 @@ from typing import Any
 from sagas.api.saga_lookup import SagaLookup
 from sagas.api.starter import Starter
 from sagas.api.store_access import StoreAccess
-from sagas.base.errors import Closed, Moved, NoSuchSaga, SagasError, StepNotWaiting
+from sagas.base.errors import Closed, SagaMoved, NoSuchSaga, SagasError, StepNotWaiting
 from sagas.base.logger import logger
 from sagas.core import step_reports
-from sagas.core.batch import Batch, Known, SagaRow, Wanted
+from sagas.core.batch import Batch, StoredSaga, SagaRow, RequestRef
 from sagas.core.states import Action, EarlyReason
 from sagas.definition import children, report_undos, serialization, tokens
 from sagas.definition.capacity import SHARD_CAPACITY
@@ -53,7 +53,7 @@ class UnusedReports:
         self._access, self._lookup = access, lookup
         self._changed = asyncio.Event()
 
-    async def compensate(self, key: str, step: str, request: Wanted, of: int | None = None) -> None:
+    async def compensate(self, key: str, step: str, request: RequestRef, of: int | None = None) -> None:
         """Have the compensation called for a step whose report was not used."""
         row = await self._ended(key, of)
         coordinator = self._access.coordinator
@@ -90,17 +90,17 @@ class UnusedReports:
         options = StartOptions(labels, parent=row.id)
         await self.starter.start_child(saga, children.key_of(key, step, undo=True), input, options)
         batch = Batch(-1, coordinator.clock())
-        batch.more.undone.append((row.id, number))
+        batch.rare_rows.undone.append((row.id, number))
         batch.answer(request, "true")
         await coordinator.kept(batch)
 
-    async def _hand_over(self, row: SagaRow, step: str, request: Wanted) -> None:
+    async def _hand_over(self, row: SagaRow, step: str, request: RequestRef) -> None:
         """Ask the nodes that have the definition.
 
         These nodes themselves execute a stored command.
         """
         if isinstance(request, int):
-            raise Moved(f"saga {row.key!r}")
+            raise SagaMoved(f"saga {row.key!r}")
         coordinator = self._access.coordinator
         value = serialization.write({"step": step}) if request is None else request[2]
         answer = await coordinator.store.ask(
@@ -112,7 +112,7 @@ class UnusedReports:
         """Return the row of a saga. Raises `StepNotWaiting` if it has not ended."""
         live = await self._lookup.live(key)
         if live is not None and live.over:
-            with contextlib.suppress(Moved):
+            with contextlib.suppress(SagaMoved):
                 await self._access.coordinator.sagas.ends.wait(live)
         row = await self._lookup.row(key, of)
         if row.phase is None:
@@ -123,7 +123,7 @@ class UnusedReports:
         return row
 
     async def _input(
-        self, row: SagaRow, known: Known, kind: CompiledDefinition, step: int, text: str
+        self, row: SagaRow, known: StoredSaga, kind: CompiledDefinition, step: int, text: str
     ) -> dict[str, Any]:
         """Return the input of the saga that undoes a report. All nodes compute the same."""
         decode, name = kind.payloads.decode, kind.names[step]

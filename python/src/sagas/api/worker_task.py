@@ -165,7 +165,7 @@ def _outcome(
         return "unknown", {"error": "cancelled, since the saga was aborted"}, None
     except BaseException as error:  # also sys.exit(): the thread of the function continues
         kind = outcomes.classify(error, manner.unknown)
-        reply: dict[str, Any] = {"error": outcomes.described(error)[:MAX_TEXT]}
+        reply: dict[str, Any] = {"error": outcomes.describe_error(error)[:MAX_TEXT]}
         if kind is outcomes.PERMANENT:
             reply["final"] = True
         return ("unknown" if kind is outcomes.UNKNOWN else "fail"), reply, error

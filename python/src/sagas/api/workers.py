@@ -8,7 +8,7 @@ from typing import Any
 
 from sagas.api.store_access import StoreAccess
 from sagas.core import outcomes
-from sagas.core.outcomes import reported
+from sagas.core.outcomes import reported_outcome
 from sagas.definition.control import checked
 from sagas.runtime.leased_tasks import Heartbeat, LeasedTask, Queue, Word
 from sagas.storage.interface import Peers
@@ -170,7 +170,7 @@ class Workers:
         if unknown is not None:
             outcome = outcomes.unknown(unknown)
         else:
-            outcome = reported(result, error, final)
+            outcome = reported_outcome(result, error, final)
         external = self._access.coordinator.external
         return await external.report(attempt_id, lease, holder, outcome, stored)
 

@@ -11,21 +11,21 @@ SagasError
 |   |-- KeyConflict           the key has another saga or input
 |   |-- LeaseLost             another worker has the task, or it is over
 |   |-- NotAbortable          the saga undoes a child, so it is not aborted
-|   |-- StepNotWaiting        nobody has to report anything about the step
+|   |-- StepNotWaiting        the step waits for no report
 |   `-- ConflictingReport     another outcome was reported before (a StepNotWaiting)
-|-- InvalidError              what was given, or is stored, is not valid
+|-- InvalidError              an argument, or stored data, is not valid
 |   |-- DefinitionError       a saga is not well made
-|   |-- MissingStep           this program has no function for a step that goes on
+|   |-- MissingStep           this program has no function for a step of an open saga
 |   |-- WrongStore            a worker reports into another store
-|   |-- InvalidStore          it is no store
+|   |-- InvalidStore          the file or database is not a store
 |   |   |-- StoreSchemaTooNew it is of a later release
 |   |   `-- MissingCodec      its values are encoded, and no codec was given
 |   |-- InvalidSchedule       a schedule is not well made (a ValueError, too)
 |   |-- InvalidLease          the lease was not issued for this task
 |   |-- TooLarge              a saga has too many steps or needs for its input
-|   |-- InvalidResult         a child step was completed with what is no child's result
+|   |-- InvalidResult         a child step was completed with an invalid result
 |   |-- CannotDecode          a stored value cannot be read as its type
-|   `-- NotSerializable       a value is no JSON (a TypeError, too)
+|   `-- NotSerializable       a value cannot be written as JSON (a TypeError, too)
 |       |-- InvalidKey
 |       |-- InvalidInput
 |       |-- InvalidLabel
@@ -35,10 +35,10 @@ SagasError
 |-- NoSuchTask                no task has the attempt id
 |-- EngineError               the program `sagas` cannot be started, or refuses a shard
 |   `-- EngineNotRunnable
-|-- WouldWaitForever          a step waits for what ends only behind it
+|-- WouldWaitForever          a step waits for something that ends only after it
 |   `-- SlotsTaken            (an Unknown, too)
 |-- Fail                      raised by a step: it had no effect, and is not tried again
-`-- Unknown                   raised by a step: nobody knows whether it had its effect
+`-- Unknown                   raised by a step: its effect may have happened
 """
 
 from __future__ import annotations
@@ -95,14 +95,18 @@ class MissingCodec(InvalidStore):
     """
 
 
-class Lost(SagasError):
-    """A shard is another node's now, or a saga of it has a key that is another's, and nothing was
-    written. A caller never meets it.
+class ShardLost(SagasError):
+    """Another node has the shard, or another saga has a key of it. Nothing was written.
+
+    This exception is internal: callers never get it.
     """
 
 
-class Moved(SagasError):
-    """A saga is another node's now: who waits for it looks there. A caller never meets it."""
+class SagaMoved(SagasError):
+    """Another node has the saga now: waiting calls continue there.
+
+    This exception is internal: callers never get it.
+    """
 
 
 class WrongStore(InvalidError):
@@ -133,13 +137,13 @@ class NoSuchSaga(SagasError):
 
 
 class StepNotWaiting(ConflictError):
-    """Nobody has to report this step now: it has not started, is over, or runs."""
+    """The step waits for no report now: it has not started, has ended, or runs."""
 
 
 class NotAbortable(ConflictError):
     """The saga undoes a child, and such a saga is not aborted. Nothing was changed.
 
-    An abort would leave the rest of the child in place. If a compensation of it waits for a person,
+    An abort would leave the rest of the child in place. If a compensation waits for an operator,
     answer it by `Store.retry`, `Store.complete` or `Store.fail`.
     """
 
@@ -178,7 +182,7 @@ class LeaseLost(ConflictError):
 
 
 class InvalidLease(InvalidError):
-    """The lease was not issued for this task to whoever reports it.
+    """The lease was not issued for this task to the worker that reports it.
 
     Nothing was recorded. Report a task with the attempt id and the lease of its claim.
     """
@@ -261,9 +265,9 @@ class CannotDecode(InvalidError):
     """A stored input or result does not fit the type of a hint, or cannot be decoded.
 
     The message names the place, but not the value. The attempt waits, and nothing is compensated:
-    see `Store.attention`. It goes on when a program that can read the value opens the store. Give a
-    new field a default, for example, or give the program the codec. Do not catch this in a step's
-    function.
+    see `Store.attention`. It continues when a program that can read the value opens the store. For
+    example, give a new field a default, or give the program the codec. Do not catch this in a
+    step's function.
     """
 
     __module__ = "sagas"
@@ -284,14 +288,14 @@ class DamagedShard(EngineError):
 
 
 class EngineNotRunnable(EngineError):
-    """This machine cannot run the program `sagas`: it is for another system, say.
+    """This machine cannot run the program `sagas`, for example of another system.
 
-    A repetition does not help. The message says what does.
+    A repetition does not help. The message has the remedy.
     """
 
 
 class Closed(TemporaryError):
-    """The store is closed or closing. Open sagas go on when it is opened again."""
+    """The store is closed or closing. Open sagas continue when it is opened again."""
 
 
 class Unknown(SagasError):
@@ -308,7 +312,7 @@ class Unknown(SagasError):
         ...         raise sagas.Unknown("the bank did not answer") from error
     """
 
-    __module__ = "sagas"  # as its users write it, and as it is told
+    __module__ = "sagas"  # the name that users write and messages show
 
 
 class Fail(SagasError):

@@ -10,11 +10,11 @@ import re
 from collections.abc import Callable
 from typing import Any
 
-from sagas.base.logger import Traced, logger
+from sagas.base.logger import ExceptionInfo, logger
 
 _quoted: Callable[[str], str] = getattr(json.encoder, "encode_basestring")
 PLAIN = re.compile(r'[^\s"=\\]+\Z')
-HERE = os.path.dirname(os.path.dirname(os.path.abspath(__file__))) + os.sep
+PACKAGE_FOLDER = os.path.dirname(os.path.dirname(os.path.abspath(__file__))) + os.sep
 
 
 @dataclasses.dataclass(frozen=True, slots=True)
@@ -52,7 +52,7 @@ class Event:
 
 
 Hook = Callable[[Event], object]
-SAID = ("key", "saga", "step", "index", "undo", "attempt", "detail")
+LOGGED_FIELDS = ("key", "saga", "step", "index", "undo", "attempt", "detail")
 """The fields of a log line."""
 
 LEVELS = {
@@ -81,40 +81,39 @@ LEVELS = {
 
 
 def quoted(value: object) -> str:
-    """A field of a log line: as it is where it is one plain word, else in quotes, so that an
-    event is one line and each field is told from the next.
+    """Return a field of a log line: unchanged if it is one plain word, else in quotes.
+
+    So an event is one line, and its fields are separate.
     """
     text = str(value)
     if text.isprintable():
         return text if PLAIN.match(text) else _quoted(text)
     return "".join(
-        one if one.isprintable() else json.dumps(one)[1:-1]
-        for one in json.dumps(text, ensure_ascii=False)
+        character if character.isprintable() else json.dumps(character)[1:-1]
+        for character in json.dumps(text, ensure_ascii=False)
     )
 
 
-def traced(error: BaseException) -> Traced:
-    """What a function raised, for a log: its traceback begins in the function."""
+def exception_info(error: BaseException) -> ExceptionInfo:
+    """Return an exception for the log, with a traceback that begins in the user's function."""
     trace = error.__traceback__
-    while trace and trace.tb_next and trace.tb_frame.f_code.co_filename.startswith(HERE):
+    while trace and trace.tb_next and trace.tb_frame.f_code.co_filename.startswith(PACKAGE_FOLDER):
         trace = trace.tb_next
     return type(error), error, trace
 
 
-class Teller:
-    """Hands each event to the hook, and to the log `sagas` with its fields as `extra={"sagas":
-    {..}}`.
-    """
+class EventEmitter:
+    """Pass each event to the hook, and to the log `sagas` with its fields in `extra["sagas"]`."""
 
     def __init__(self, hook: Hook | None, clock: Callable[[], float]) -> None:
         self._hook, self._clock = hook, clock
-        self.listens = hook is not None
+        self.has_hook = hook is not None
 
-    def wants(self, name: str) -> bool:
-        """Whether anybody hears an event of this name; looked at where events are many."""
-        return self.listens or logger.logger.isEnabledFor(LEVELS.get(name, logging.DEBUG))
+    def is_wanted(self, name: str) -> bool:
+        """Whether a hook or the log gets an event of this name; checked before frequent events."""
+        return self.has_hook or logger.logger.isEnabledFor(LEVELS.get(name, logging.DEBUG))
 
-    def tell(
+    def emit(
         self,
         name: str,
         *,
@@ -122,22 +121,29 @@ class Teller:
         error: BaseException | None = None,
         **fields: Any,
     ) -> None:
-        """An event with its fields; in the log at this level, and with the traceback of an
-        error.
+        """Emit an event with its fields.
+
+        Args:
+            name: The event's name.
+            level: The level in the log (default: that of `LEVELS`).
+            error: An exception whose traceback is logged.
+            fields: The fields of `Event`.
         """
-        if not self.wants(name):
+        if not self.is_wanted(name):
             return
         at = self._clock()
         level = LEVELS.get(name, logging.DEBUG) if level is None else level
         if logger.logger.isEnabledFor(level):
-            told = {"name": name, "at": at, "undo": False, **fields}
-            told = {field: value for field, value in told.items() if value is not None}
-            words = [
-                f"{field}={quoted(told[field])}"
-                for field in SAID
-                if told.get(field) or (field == "index" and field in told)
+            logged = {"name": name, "at": at, "undo": False, **fields}
+            logged = {field: value for field, value in logged.items() if value is not None}
+            parts = [
+                f"{field}={quoted(logged[field])}"
+                for field in LOGGED_FIELDS
+                if logged.get(field) or (field == "index" and field in logged)
             ]
-            logger.event(level, name, " ".join(words), told, traced(error) if error else None)
+            logger.event(
+                level, name, " ".join(parts), logged, exception_info(error) if error else None
+            )
         if self._hook is not None:
             event = Event(name, at, **fields)
             try:

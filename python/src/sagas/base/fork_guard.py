@@ -1,7 +1,7 @@
 """Protection of locks and pipes from forked children.
 
-What a forked child must not keep: the lock of a store, and the pipes to `sagas drive`. And what
-it must not use: what was opened before the fork.
+A forked child must not keep the lock of a store or the pipes to `sagas drive`. It must not use
+stores and clients that were opened before the fork.
 """
 
 from __future__ import annotations
@@ -15,15 +15,11 @@ from sagas.base.errors import Closed
 
 
 class _Private:
-    """Descriptors of this process alone: closed in every child that it forks. One for the
-    process, since a fork copies all of it.
-    """
+    """The descriptors that are closed in every forked child. A process has one such object."""
 
     def __init__(self) -> None:
         self.forks = 0
-        """How often this process was forked, counted from the first of them all: another number
-        is another process.
-        """
+        """The number of forks from the first process to this one: it differs in each child."""
         self._fds: set[int] = set()
         self._forking = threading.RLock()
         os.register_at_fork(
@@ -33,9 +29,11 @@ class _Private:
         )
 
     @contextlib.contextmanager
-    def unforked(self) -> Iterator[None]:
-        """A fork in another thread waits meanwhile. While a program is started, its child would
-        keep the program's ends of pipes open, and nobody would see their end.
+    def without_forks(self) -> Iterator[None]:
+        """Block forks in other threads while a program is started.
+
+        A forked child would keep the program's ends of the pipes open, so that no reader would see
+        their end.
         """
         with self._forking:
             yield
@@ -55,35 +53,36 @@ class _Private:
         self._forking.release()
 
 
-private = _Private()
+private_descriptors = _Private()
 
 
-class Opened:
-    """Whether a store or a client is open, and in which process: it is entered once, and neither
-    used nor closed by a process that was forked meanwhile.
+class OpenState:
+    """Whether a store or a client is open, and in which process.
+
+    It is entered once. A process that was forked after that can neither use nor close it.
     """
 
-    def __init__(self, what: str) -> None:
-        self._what, self._forks = what, -1
+    def __init__(self, subject: str) -> None:
+        self._what, self._forks = subject, -1
 
     @property
-    def is_elsewhere(self) -> bool:
-        """Whether the process that opened it is another one."""
-        return self._forks not in (-1, private.forks)
+    def is_other_process(self) -> bool:
+        """Whether another process opened it."""
+        return self._forks not in (-1, private_descriptors.forks)
 
-    def begin(self, where: str) -> None:
-        """It is about to be opened. Raises `RuntimeError` where it is open, and as `check`."""
-        self.check(where)
+    def begin(self, operation: str) -> None:
+        """Note that it is being opened. Raises `RuntimeError` if it is open, and as `check`."""
+        self.check(operation)
         if self._forks != -1:
             raise RuntimeError(
-                f"{where}: {self._what} is already open. Enter it once, and share it"
+                f"{operation}: {self._what} is already open. Enter it once, and share it"
             )
-        self._forks = private.forks
+        self._forks = private_descriptors.forks
 
     @contextlib.contextmanager
-    def opening(self, where: str) -> Iterator[None]:
-        """As `begin`; what fails within it means that it could not be opened."""
-        self.begin(where)
+    def opening(self, operation: str) -> Iterator[None]:
+        """Note that it is being opened; an exception in the block means that it is not open."""
+        self.begin(operation)
         try:
             yield
         except BaseException:
@@ -91,13 +90,13 @@ class Opened:
             raise
 
     def end(self) -> None:
-        """It is closed, or could not be opened."""
+        """Note that it is closed, or could not be opened."""
         self._forks = -1
 
-    def check(self, where: str) -> None:
-        """Raises `Closed` where another process opened it."""
-        if self.is_elsewhere:
+    def check(self, operation: str) -> None:
+        """Raise `Closed` if another process opened it."""
+        if self.is_other_process:
             raise Closed(
-                f"{where}: {self._what} was opened in another process, before a fork. Create "
+                f"{operation}: {self._what} was opened in another process, before a fork. Create "
                 "and open one in this process, after the fork"
             )

@@ -10,31 +10,37 @@ from collections.abc import MutableMapping
 from types import TracebackType
 from typing import Any
 
-Traced = tuple[type[BaseException], BaseException, "TracebackType | None"]
+ExceptionInfo = tuple[type[BaseException], BaseException, "TracebackType | None"]
 """An exception for a log, with the traceback that is shown."""
 
 
-class Guarded(logging.LoggerAdapter[logging.Logger]):
-    """A logger. What is raised as it writes goes to standard error, as far as that can be."""
+class GuardedLogger(logging.LoggerAdapter[logging.Logger]):
+    """A logger whose handlers' exceptions go to standard error, if possible."""
 
     def process(
         self, msg: Any, kwargs: MutableMapping[str, Any]
     ) -> tuple[Any, MutableMapping[str, Any]]:
-        """As it is given."""
+        """Return the message unchanged."""
         return msg, kwargs
 
     def log(self, level: int, msg: object, *args: object, **kwargs: Any) -> None:
-        """As `logging.Logger.log`."""
+        """Log a message, as `logging.Logger.log`."""
         try:
             super().log(level, msg, *args, stacklevel=2, **kwargs)
         except Exception:
-            _say()
+            _print_handler_error()
 
     def event(
-        self, level: int, name: str, words: str, told: dict[str, Any], error: Traced | None
+        self,
+        level: int,
+        name: str,
+        text: str,
+        logged_fields: dict[str, Any],
+        error: ExceptionInfo | None,
     ) -> None:
-        """Log an event with its fields, as `log` would. Where in this package that was, which each
-        line would have to be looked up for, is here for all of them.
+        """Log an event with its fields, as `log` would.
+
+        The location of each record is this function, since a lookup of the caller is slow.
         """
         inner = self.logger
         try:
@@ -44,18 +50,18 @@ class Guarded(logging.LoggerAdapter[logging.Logger]):
                 __file__,
                 0,
                 "%s %s",
-                (name, words),
+                (name, text),
                 error,
                 "event",
-                {"sagas": told},
+                {"sagas": logged_fields},
             )
             inner.handle(record)
         except Exception:
-            _say()
+            _print_handler_error()
 
 
-def _say() -> None:
-    """A handler raised: that goes to standard error."""
+def _print_handler_error() -> None:
+    """Print the exception of a handler to standard error."""
     with contextlib.suppress(Exception):
         print(
             f"sagas: a handler or a filter of the log raised:\n{traceback.format_exc()}",
@@ -64,4 +70,4 @@ def _say() -> None:
         )
 
 
-logger = Guarded(logging.getLogger("sagas"), {})
+logger = GuardedLogger(logging.getLogger("sagas"), {})

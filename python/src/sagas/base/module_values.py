@@ -7,18 +7,18 @@ import sys
 from typing import Any
 
 
-def loaded(option: str, place: str) -> Any:
-    """Return what a module has by a name. The current folder is searched, too.
+def load_reference(option: str, reference: str) -> Any:
+    """Return the value that `MODULE:NAME` refers to. The current folder is searched, too.
 
     Raises:
-        ValueError: The place has another form, or the module or the name does not exist.
+        ValueError: The reference has another form, or the module or the name does not exist.
     """
-    module, _, name = place.partition(":")
+    module, _, name = reference.partition(":")
     if not name or not module or module.startswith("."):
-        raise ValueError(f"invalid {option} {place!r}: use MODULE:NAME")
+        raise ValueError(f"invalid {option} {reference!r}: use MODULE:NAME")
     if "" not in sys.path:
         sys.path.insert(0, "")
     try:
         return getattr(importlib.import_module(module), name)
     except (ImportError, AttributeError) as error:
-        raise ValueError(f"cannot load {option} {place}: {error}") from error
+        raise ValueError(f"cannot load {option} {reference}: {error}") from error

@@ -1,4 +1,4 @@
-"""Numbers that options of the commands take, as types of `argparse`."""
+"""Types of `argparse` for numbers in options of the commands."""
 
 from __future__ import annotations
 
@@ -6,10 +6,10 @@ import argparse
 import re
 from collections.abc import Callable
 
-MOST = 10**12
-"""No option means more than this, and the integers of each database hold it."""
+MAX_OPTION = 10**12
+"""The maximum of all options. The integers of each database can hold it."""
 UNITS = {"s": 1, "m": 60, "h": 3600, "d": 86400, "w": 7 * 86400}
-MOST_SHOWN = 40
+MAX_SHOWN = 40
 """Characters of a value that a message repeats."""
 
 
@@ -17,38 +17,38 @@ def integer_from(least: int) -> Callable[[str], int]:
     """Return a type for integers from this one on."""
 
     def read(text: str) -> int:
-        if not re.fullmatch(r"[0-9]{1,13}", text) or not least <= int(text) <= MOST:
-            raise invalid(text, f"an integer from {least} to {MOST}")
+        if not re.fullmatch(r"[0-9]{1,13}", text) or not least <= int(text) <= MAX_OPTION:
+            raise invalid(text, f"an integer from {least} to {MAX_OPTION}")
         return int(text)
 
     return read
 
 
 def positive(text: str) -> float:
-    """A number above 0. Raises `argparse.ArgumentTypeError`."""
-    found = _number(text)
-    if not 0 < found <= MOST:
-        raise invalid(text, f"a number above 0, up to {MOST}")
-    return found
+    """Return a number above 0. Raises `argparse.ArgumentTypeError`."""
+    value = _number(text)
+    if not 0 < value <= MAX_OPTION:
+        raise invalid(text, f"a number above 0, up to {MAX_OPTION}")
+    return value
 
 
 def not_negative(text: str) -> float:
-    """A number of 0 or more. Raises `argparse.ArgumentTypeError`."""
-    found = _number(text)
-    if not 0 <= found <= MOST:
-        raise invalid(text, f"a number from 0 to {MOST}")
-    return found
+    """Return a number of 0 or more. Raises `argparse.ArgumentTypeError`."""
+    value = _number(text)
+    if not 0 <= value <= MAX_OPTION:
+        raise invalid(text, f"a number from 0 to {MAX_OPTION}")
+    return value
 
 
 def age(text: str) -> float:
-    """Seconds, of a number and a unit: `30d`, `12h`."""
-    found = re.fullmatch(r"(\d{1,9})([smhdw])", text)
-    if not found:
+    """Return the seconds of a number with a unit, for example `30d` or `12h`."""
+    match = re.fullmatch(r"(\d{1,9})([smhdw])", text)
+    if not match:
         raise argparse.ArgumentTypeError(
             f"invalid duration {text!r}: use an integer and a unit s, m, h, d or w, for "
             "example 30d"
         )
-    return float(int(found[1]) * UNITS[found[2]])
+    return float(int(match[1]) * UNITS[match[2]])
 
 
 def _number(text: str) -> float:
@@ -59,6 +59,6 @@ def _number(text: str) -> float:
 
 
 def invalid(text: str, rule: str) -> argparse.ArgumentTypeError:
-    """What is said of a value that an option does not take."""
-    shown = text if len(text) <= MOST_SHOWN else f"{text[:MOST_SHOWN]}..."
+    """Return the error for an invalid value of an option."""
+    shown = text if len(text) <= MAX_SHOWN else f"{text[:MAX_SHOWN]}..."
     return argparse.ArgumentTypeError(f"invalid value {shown!r}: use {rule}")

@@ -12,43 +12,50 @@ import tempfile
 from collections.abc import Sequence
 
 from sagas.base.errors import EngineError, EngineNotRunnable
-from sagas.base.fork_guard import private
+from sagas.base.fork_guard import private_descriptors
 
 HERE = pathlib.Path(__file__).resolve().parents[1]
-CANNOT = 4
-"""The status of a command that the system refused something."""
+SYSTEM_ERROR_STATUS = 4
+"""The exit status of a command that failed because of an error of the system."""
 PROCESSORS = {"x86_64": 62, "aarch64": 183, "arm64": 183}
-"""By the system's name of a processor, the number that a program for Linux has for it."""
+"""The machine number of ELF programs, by the name that the system has for the processor."""
 INTERPRETER = 3  # the kind of a program header that names a loader
 
 
-def released(name: str) -> list[pathlib.Path]:
-    """Where a file of the release may be: beside the package, or in the release of the checkout
-    that it is in, for this processor."""
+def release_paths(name: str) -> list[pathlib.Path]:
+    """Return where a file of the release may be.
+
+    It is in the package, or in the release of the surrounding checkout for this processor.
+    """
     part = "aarch64" if platform.machine() in ("aarch64", "arm64") else ""
     of_checkout = [above / "dist" / part / name for above in HERE.parents[:4]]
     return [HERE / "bin" / name, *(of_checkout if platform.system() == "Linux" else [])]
 
 
-def path(told: str | None = None) -> str:
-    """Where the program is: as told, or by `$SAGAS_PROGRAM`; else the one that came with the
-    package, or the release of the checkout that this is in.
+def path(explicit: str | None = None) -> str:
+    """Return the path of the program.
 
-    Raises `EngineNotRunnable` where this machine cannot run it."""
-    told = told or os.environ.get("SAGAS_PROGRAM")
-    places = [pathlib.Path(told)] if told else released("sagas")
-    for place in places:
-        if place.is_file():
-            look(str(place))
-            return str(place)
+    It is the explicit path, `$SAGAS_PROGRAM`, the program of the package, or the release of the
+    surrounding checkout, in this order.
+
+    Raises:
+        EngineError: The program does not exist.
+        EngineNotRunnable: This machine cannot run it.
+    """
+    explicit = explicit or os.environ.get("SAGAS_PROGRAM")
+    candidates = [pathlib.Path(explicit)] if explicit else release_paths("sagas")
+    for candidate in candidates:
+        if candidate.is_file():
+            check_runnable(str(candidate))
+            return str(candidate)
     raise EngineError(
-        f"the program sagas does not exist: {places[0]}. Install the package again, "
+        f"the program sagas does not exist: {candidates[0]}. Install the package again, "
         "or set SAGAS_PROGRAM to its path"
     )
 
 
 def not_runnable(program: str, why: str) -> EngineNotRunnable:
-    """That the program cannot be run here, and what mends it."""
+    """Return the error that this machine cannot run the program, with its remedy."""
     machine = f"{platform.system()} on {platform.machine()}"
     return EngineNotRunnable(
         f"{program}: this machine ({machine}) cannot run it: {why}. Install the wheel "
@@ -56,20 +63,22 @@ def not_runnable(program: str, why: str) -> EngineNotRunnable:
     )
 
 
-def look(program: str) -> None:
-    """Raises `EngineNotRunnable` where this machine cannot run the program. It is started for
-    that only where it seems to be for another machine."""
+def check_runnable(program: str) -> None:
+    """Raise `EngineNotRunnable` if this machine cannot run the program.
+
+    The program is started for this check only if it seems to be for another machine.
+    """
     why = _seems_wrong(program)
     if why is None:
         return
     try:
-        finished([program, "--version"])
+        run_to_end([program, "--version"])
     except OSError:
         raise not_runnable(program, why) from None
 
 
 def _seems_wrong(program: str) -> str | None:
-    """Why this machine will hardly run the program, by its rights and its head."""
+    """Return why this machine probably cannot run the program, from its rights and header."""
     if not os.access(program, os.X_OK):
         return "it is not executable"
     with open(program, "rb") as file:
@@ -89,13 +98,12 @@ def _seems_wrong(program: str) -> str | None:
 
 
 def _loader(head: bytes) -> str | None:
-    """The loader that a program for Linux asks for; None where it asks for none, or that is not
-    in its head."""
+    """Return the loader that a program for Linux requires; None if its header names none."""
     start, size, count = struct.unpack_from("<Q", head, 32)[0], *struct.unpack_from("<HH", head, 54)
-    for at in range(start, min(start + size * count, len(head) - size + 1), size or 1):
+    for offset in range(start, min(start + size * count, len(head) - size + 1), size or 1):
         kind, begin, length = (
-            struct.unpack_from("<I", head, at)[0],
-            *struct.unpack_from("<QQQQ", head, at + 8)[::3],
+            struct.unpack_from("<I", head, offset)[0],
+            *struct.unpack_from("<QQQQ", head, offset + 8)[::3],
         )
         if kind == INTERPRETER:
             return head[begin : begin + length].rstrip(b"\0").decode(errors="replace") or None
@@ -103,16 +111,17 @@ def _loader(head: bytes) -> str | None:
 
 
 def descriptors() -> str | None:
-    """The folder by which a child opens a file that was handed to it; None where the system has
-    none."""
+    """Return the folder in which a child opens inherited descriptors; None if there is none."""
     return next(
         (folder for folder in ("/proc/self/fd", "/dev/fd") if os.path.exists(f"{folder}/0")), None
     )
 
 
 def memory_file(name: str, data: bytes = b"") -> int:
-    """A file in memory with these bytes; on a disk, without a name, where the system has none in
-    memory. Gives its descriptor."""
+    """Return the descriptor of a new file in memory with these bytes.
+
+    If the system has no such files, it is a deleted file on disk.
+    """
     try:
         fd = os.memfd_create(name, os.MFD_CLOEXEC)
     except (AttributeError, OSError):
@@ -128,47 +137,50 @@ def memory_file(name: str, data: bytes = b"") -> int:
 
 
 def write_all(fd: int, data: bytes) -> None:
-    """Writes all of it."""
+    """Write all bytes to a descriptor."""
     left = memoryview(data)
     while left:
         left = left[os.write(fd, left) :]
 
 
-class Texts:
-    """Texts that a child reads by `paths`: handed to it as `files`, or in a folder, where it
-    could not open what is handed to it."""
+class TextFiles:
+    """Texts that a child process reads by `paths`.
+
+    The child inherits them as the descriptors `files`. If the system cannot open descriptors by
+    path, they are files in a temporary folder.
+    """
 
     def __init__(self, texts: Sequence[str | bytes]) -> None:
         self.files: list[int] = []
         self.paths: list[str] = []
         self._folder: tempfile.TemporaryDirectory[str] | None = None
-        where = descriptors()
+        folder = descriptors()
         try:
-            if where is None:
+            if folder is None:
                 self._folder = tempfile.TemporaryDirectory(prefix="sagas-")
-            for place, text in enumerate(texts):
-                self._add(where, place, text.encode() if isinstance(text, str) else text)
+            for index, text in enumerate(texts):
+                self._add(folder, index, text.encode() if isinstance(text, str) else text)
         except BaseException:
             self.close()
             raise
 
-    def _add(self, where: str | None, place: int, data: bytes) -> None:
+    def _add(self, folder: str | None, index: int, data: bytes) -> None:
         if self._folder is None:
             self.files.append(memory_file("text", data))
-            self.paths.append(f"{where}/{self.files[-1]}")
+            self.paths.append(f"{folder}/{self.files[-1]}")
         else:
-            self.paths.append(os.path.join(self._folder.name, str(place)))
+            self.paths.append(os.path.join(self._folder.name, str(index)))
             pathlib.Path(self.paths[-1]).write_bytes(data)
 
-    def given(self) -> None:
-        """The child has what was handed to it; a folder stays until `close`."""
+    def close_passed_files(self) -> None:
+        """Close the descriptors that the child has inherited. A folder is kept until `close`."""
         for fd in self.files:
             os.close(fd)
         self.files = []
 
     def close(self) -> None:
-        """Nobody reads them any more."""
-        self.given()
+        """Close the descriptors and delete the folder."""
+        self.close_passed_files()
         if self._folder is not None:
             self._folder.cleanup()
 
@@ -176,19 +188,25 @@ class Texts:
 def run(
     command: str, texts: Sequence[str], program: str | None = None, *, options: Sequence[str] = ()
 ) -> subprocess.CompletedProcess[str]:
-    """Runs `sagas COMMAND OPTIONS` over these texts, in the order of its words."""
-    with contextlib.closing(Texts(texts)) as given:
-        done = finished([program or path(), command, *options, *given.paths], given.files)
-    told = done.stdout.decode(), done.stderr.decode()
-    return subprocess.CompletedProcess(done.args, done.returncode, *told)
+    """Run `sagas COMMAND OPTIONS` on these texts, in the order of its arguments."""
+    with contextlib.closing(TextFiles(texts)) as text_files:
+        process = run_to_end(
+            [program or path(), command, *options, *text_files.paths], text_files.files
+        )
+    output = process.stdout.decode(), process.stderr.decode()
+    return subprocess.CompletedProcess(process.args, process.returncode, *output)
 
 
-def finished(words: list[str], files: Sequence[int] = ()) -> subprocess.CompletedProcess[bytes]:
-    """As `subprocess.run`, with what the program prints, where other threads may fork. `files`:
-    descriptors that are handed to it."""
-    with private.unforked():
+def run_to_end(
+    arguments: list[str], files: Sequence[int] = ()
+) -> subprocess.CompletedProcess[bytes]:
+    """Run a program and capture its output, even if other threads fork.
+
+    `files`: descriptors that it inherits.
+    """
+    with private_descriptors.without_forks():
         child = subprocess.Popen(
-            words,
+            arguments,
             stdin=subprocess.DEVNULL,
             stdout=subprocess.PIPE,
             stderr=subprocess.PIPE,
@@ -196,17 +214,19 @@ def finished(words: list[str], files: Sequence[int] = ()) -> subprocess.Complete
         )
     with child:
         try:
-            told = child.communicate()
+            output = child.communicate()
         except BaseException:
             child.kill()
             raise
-    return subprocess.CompletedProcess(words, child.returncode, *told)
+    return subprocess.CompletedProcess(arguments, child.returncode, *output)
 
 
 def draw(definition: str, case: str | None = None, answer: str | None = None) -> str:
-    """A definition's picture as text for Graphviz, with the states of a case and the marks of an
-    answer where they are given."""
-    done = run("draw", [text for text in (definition, case, answer) if text is not None])
-    if done.returncode != 0:
-        raise EngineError((done.stdout + done.stderr).strip())
-    return done.stdout
+    """Return a definition's drawing as text for Graphviz.
+
+    It shows the states of `case` and the decisions of `answer`, if they are given.
+    """
+    process = run("draw", [text for text in (definition, case, answer) if text is not None])
+    if process.returncode != 0:
+        raise EngineError((process.stdout + process.stderr).strip())
+    return process.stdout

@@ -7,12 +7,14 @@ def number(count: int, word: str) -> str:
 
 
 def escaped(text: str) -> str:
-    """Return a text in one line: what is not printable, such as a control character, by its number.
+    """Return a text in one line, with escapes for characters that are not printable.
 
-    So a text that a caller or a worker chose adds no line and moves no cursor of a terminal.
+    So a text of a caller or a worker cannot add a line or move the cursor of a terminal.
     """
     return (
         text
         if text.isprintable()
-        else "".join(one if one.isprintable() else ascii(one)[1:-1] for one in text)
+        else "".join(
+            character if character.isprintable() else ascii(character)[1:-1] for character in text
+        )
     )

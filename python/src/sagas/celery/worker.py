@@ -13,7 +13,7 @@ from celery.exceptions import Reject, SoftTimeLimitExceeded
 from sagas.base.errors import StoreUnavailable
 from sagas.base.logger import logger
 from sagas.core import outcomes
-from sagas.core.dispatch import Begun, Order, Settled
+from sagas.core.dispatch import AttemptTexts, Order, AlreadyReported
 from sagas.core.outcomes import Outcome
 from sagas.core.states import OutcomeKind
 from sagas.definition import awaitables, children, decoders, tokens, tracing
@@ -93,7 +93,7 @@ class Work:
             function = queue.desk().within(order, function)
         try:
             outcome = self._outcome(function, self._task(order, started))
-        except Settled:
+        except AlreadyReported:
             logger.info("%s: rolled back a repeated message", order.token)
             return
         is_reported = outcome.kind is OutcomeKind.SUCCEEDED and self.manner.transaction
@@ -116,17 +116,17 @@ class Work:
             _surely(report, deadline)
 
     def _outcome(self, function: Function, task: Task[Any]) -> Outcome:
-        """Call the function, within a span if there is a tracer. Raises `Settled`."""
+        """Call the function, within a span if there is a tracer. Raises `AlreadyReported`."""
         assert self.manner.function
         tracer = self.tracer
         if tracer is None:
             return _call(function, self.manner, task)
         with tracer.attempt(task, self.manner.function) as span:
             outcome = _call(function, self.manner, task)
-            span.ended(outcome.kind.value, outcomes.fault(outcome), outcome.error)
+            span.ended(outcome.kind.value, outcomes.error_text(outcome), outcome.error)
             return outcome
 
-    def _location(self, order: Order, started: Begun) -> tuple[StepLocation | None, Decoders]:
+    def _location(self, order: Order, started: AttemptTexts) -> tuple[StepLocation | None, Decoders]:
         """Return the location of the step, if any, and the decoders of results."""
         if started.shape is None:
             return None, self.decoders
@@ -138,7 +138,7 @@ class Work:
         values = ShapeValues() if shape == "null" else ShapeValues.read(shape)
         return kind.location(order.step, values, started.input), kind.decoders
 
-    def _task(self, order: Order, started: Begun) -> Task[Any]:
+    def _task(self, order: Order, started: AttemptTexts) -> Task[Any]:
         """Return the task for the function."""
         undo, token = self.kind == "undo", tokens.saga_token(order.log, order.number)
         location, decoders = self._location(order, started)
@@ -183,13 +183,13 @@ def _surely(request: Callable[[], T], deadline: float) -> T:
 
 
 def _call(function: Function, manner: Manner, task: Task[Any]) -> Outcome:
-    """Call the function, plain or async, and return its outcome. Raises `Settled`."""
+    """Call the function, plain or async, and return its outcome. Raises `AlreadyReported`."""
     try:
         value = function(task)
         return outcomes.succeeded(
             asyncio.run(awaitables.awaited(value)) if inspect.isawaitable(value) else value, task
         )
-    except Settled:
+    except AlreadyReported:
         raise
     except SoftTimeLimitExceeded as error:
         return outcomes.unknown(f"{type(error).__name__}: {error}")

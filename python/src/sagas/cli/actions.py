@@ -16,7 +16,7 @@ from sagas.cli.batches import WAITS, abort_all, check_keys, filter_of, show_coun
 from sagas.cli.formatting import GOOD, NO, complain, show_json
 from sagas.cli.snapshot import Snapshot
 from sagas.core import child_results, step_reports
-from sagas.core.outcomes import reported
+from sagas.core.outcomes import reported_outcome
 from sagas.core.states import Suspension
 from sagas.definition import children
 from sagas.definition.payloads import ENVELOPE
@@ -117,11 +117,11 @@ def is_repeated(link: admin.Source, key: str, command: str, value: Any) -> bool:
         if phase == "open" or value["step"] not in names:
             return False
         index, kind = names.index(value["step"]), value["kind"]
-        first = step_reports.first_of(link.ask(step_reports.RESULTS, id), index, kind)
-        first = first or step_reports.early_of(link.ask(step_reports.EARLY, id, index, kind))
+        first = step_reports.first_outcome(link.ask(step_reports.RESULTS, id), index, kind)
+        first = first or step_reports.early_outcome(link.ask(step_reports.EARLY, id, index, kind))
         if first is None or ENVELOPE.match(first.value):  # it cannot be compared here
             return False
-        outcome = reported(value.get("result"), value["error"] if command == "fail" else None)
+        outcome = reported_outcome(value.get("result"), value["error"] if command == "fail" else None)
         try:
             step_reports.check(key, value["step"], first, outcome)
         except ConflictingReport as error:

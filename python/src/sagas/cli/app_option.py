@@ -6,7 +6,7 @@ import argparse
 from typing import Any
 
 from sagas.base.errors import CannotDecode
-from sagas.base.module_values import loaded
+from sagas.base.module_values import load_reference
 from sagas.definition.payloads import PLAIN, Payloads, checked
 from sagas.inspection.saga import Read
 from sagas.storage.admin import CANNOT, Trouble
@@ -47,7 +47,7 @@ def payloads_of(options: argparse.Namespace) -> Payloads:
     if location is None:
         return PLAIN
     try:
-        value = loaded("--app", location)
+        value = load_reference("--app", location)
         return checked(getattr(value, "codec", value))
     except ValueError as error:
         raise Trouble(str(error), 2) from error

@@ -15,7 +15,7 @@ from sagas.base.wording import escaped, number
 from sagas.cli.formatting import CANNOT, GOOD, NO, Progress, show_json, table
 from sagas.cli.snapshot import Snapshot
 from sagas.core import protocol
-from sagas.core.history import STARTS
+from sagas.core.history import START_EVENTS
 from sagas.core.states import EVENT_STATES, UNDO_FAILED, EnginePhase, saga_phase
 from sagas.inspection.names import step_names
 from sagas.inspection.question import Row
@@ -59,15 +59,15 @@ class Events:
             name, id = event["event"], self.first + event["saga"]
             if name == "open":
                 self.places[id] = event["def"]
-            elif name in STARTS:
-                key = id, event["step"], "undo" if STARTS[name] else "run"
+            elif name in START_EVENTS:
+                key = id, event["step"], "undo" if START_EVENTS[name] else "run"
                 counts[key] = counts.get(key, 0) + 1
                 running[key[:2]] = *key, counts[key]
             elif name in EVENT_STATES:
                 self.attempts[running.pop((id, event["step"]))] = name
         self.under_way = {*running.values()}
 
-    def ask(self, texts: program.Texts) -> None:
+    def ask(self, texts: program.TextFiles) -> None:
         """Ask the engine for the state of each saga after these events. Raises `Trouble`."""
         if not self.places:
             return
@@ -82,7 +82,7 @@ class Events:
 
 def standing(reply: str) -> Standing:
     """Return the state of a saga from the engine's reply to `show`, as a row has it."""
-    phase, text = protocol.standing(reply)
+    phase, text = protocol.phase_and_end(reply)
     if not EnginePhase(phase).is_over:
         return None, None, False, False
     outcome = json.loads(text)
@@ -91,7 +91,7 @@ def standing(reply: str) -> Standing:
 
 
 def ran(
-    arguments: list[str], texts: program.Texts, requests: str = ""
+    arguments: list[str], texts: program.TextFiles, requests: str = ""
 ) -> subprocess.CompletedProcess[str]:
     """Run the program over texts that are passed as files."""
     return subprocess.run(
@@ -127,7 +127,7 @@ def audit_shard(store: Snapshot, log: int) -> ShardAudit:
     """Verify the events of a shard, and compare its rows with them. Raises `Trouble`."""
     texts = [text for _, text in store.rows(queries.TEXTS, log, log)]
     lines, _ = queries.joined(store.rows(queries.LINES, log))
-    with contextlib.closing(program.Texts([protocol.HEADER + lines, *texts])) as opened:
+    with contextlib.closing(program.TextFiles([protocol.HEADER + lines, *texts])) as opened:
         done = ran(["audit", *opened.paths], opened)
         result = ShardAudit((done.stdout or done.stderr).strip(), done.returncode == GOOD)
         if not result.is_allowed:

@@ -16,7 +16,7 @@ from sagas.cli.backlog import held_json, show_held
 from sagas.cli.batches import filter_of
 from sagas.cli.formatting import GOOD, lines, moment, short, show_json, table
 from sagas.cli.snapshot import Snapshot
-from sagas.core.history import MISSES, was_called
+from sagas.core.history import FAILURE_EVENTS, was_called
 from sagas.core.results import HistoryEvent, Summary
 from sagas.core.states import known_state, state_text
 from sagas.definition import folded_drawing
@@ -168,7 +168,7 @@ def show_steps(view: SagaView) -> None:
     undos = {
         attempt.step: f"its compensation: {short(attempt.value)}"
         for attempt in view.attempts
-        if attempt.outcome in MISSES and was_called(attempt.outcome, attempt.value)
+        if attempt.outcome in FAILURE_EVENTS and was_called(attempt.outcome, attempt.value)
     }
     heads = ["STEP", "STATE", "TRIES", "STARTED", "ENDED", "DETAIL"]
     cells = []

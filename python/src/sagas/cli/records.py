@@ -17,7 +17,7 @@ from sagas.cli.formatting import CANNOT, GOOD, NO, Progress, show_json, table
 from sagas.cli.nodes import is_database
 from sagas.cli.snapshot import Snapshot
 from sagas.core.fleet_record import Chunk, Loss, ShardRecord, Takeover
-from sagas.core.record_lines import BadLine, Records
+from sagas.core.record_lines import InvalidLine, Records
 from sagas.definition.capacity import SHARD_CAPACITY
 from sagas.storage.admin import Trouble
 from sagas.storage.record_file import number
@@ -72,7 +72,7 @@ def read(paths: list[str]) -> Records:
         for number_of_line, line in enumerate(text[: text.rfind("\n") + 1].splitlines(), 1):
             try:
                 records.add(line)
-            except BadLine as error:
+            except InvalidLine as error:
                 raise Trouble(
                     f"{path}, line {number_of_line}: {error}. Pass a file that a program wrote for "
                     "SAGAS_RECORD",
@@ -129,7 +129,7 @@ class RecordChecker:
         seen = self._records.ends(first, first + SHARD_CAPACITY)
         ends = [(edge, at[id - first]) for id, edge in seen if id in over and id - first in at]
         record = ShardRecord(self._records.notes.get(shard, {}), self._is_synchronous)
-        record.make(takeovers, chunks, self._timeline, ends)
+        record.build(takeovers, chunks, self._timeline, ends)
         if self._folder:
             save(pathlib.Path(self._folder, f"{shard}.record"), record.text())
         is_allowed, answer = self._judge(record.text())
@@ -209,7 +209,7 @@ def shown(shard: ShardCheck) -> dict[str, Any]:
     """Return a shard as JSON."""
     fields: dict[str, Any] = json.loads(json.dumps(dataclasses.asdict(shard)))
     fields["losses"] = [
-        {"chunks": loss.had, "told": [telling._asdict() for telling in loss.told]}
+        {"chunks": loss.chunk_count, "told": [telling._asdict() for telling in loss.acknowledgements]}
         for loss in shard.losses
     ]
     return fields
@@ -219,10 +219,10 @@ def lost(shard: ShardCheck) -> list[str]:
     """Return the gaps of a shard, and what was acknowledged and no longer exists."""
     lines = [f"shard {shard.shard}: gap: {gap}" for gap in shard.gaps]
     for loss in shard.losses:
-        last = max(telling.chunks for telling in loss.told)
-        edges = ", ".join(sorted({telling.edge for telling in loss.told}))
+        last = max(telling.chunks for telling in loss.acknowledgements)
+        edges = ", ".join(sorted({telling.edge for telling in loss.acknowledgements}))
         lines.append(
-            f"shard {shard.shard}: lost: a server took over with {loss.had} commits, but "
+            f"shard {shard.shard}: lost: a server took over with {loss.chunk_count} commits, but "
             f"acknowledged results ({edges}) need {last}"
         )
     if shard.ends_lost:

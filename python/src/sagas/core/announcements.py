@@ -1,6 +1,6 @@
 """Deliveries of webhooks: rows that are written in the commit of their cause.
 
-Where no webhook is told of a definition, nothing is made.
+If a definition has no webhook, no row is made.
 """
 
 from __future__ import annotations
@@ -11,7 +11,7 @@ import json
 from typing import TYPE_CHECKING, Any
 
 from sagas.core import early_reports
-from sagas.core.batch import Delivery
+from sagas.core.batch import DeliveryRow
 from sagas.core.states import EnginePhase, Suspension, undo_failures
 
 if TYPE_CHECKING:
@@ -22,54 +22,58 @@ COMPLETED, RECOVERED = "saga.completed", "saga.recovered"
 STUCK, ATTENTION = "saga.stuck", "saga.attention"
 ENDS = (COMPLETED, RECOVERED, STUCK)
 TYPES = (*ENDS, ATTENTION)
-"""The types of what is told, and those of them that tell of an end."""
-ASKED = (Suspension.APPROVAL, Suspension.EXHAUSTED, Suspension.CANNOT_DECODE)
-"""Suspensions that always need a person; an unknown outcome does where it has no time."""
+"""The types of webhook events. `ENDS` has those that report the end of a saga."""
+NEEDS_OPERATOR = (Suspension.APPROVAL, Suspension.EXHAUSTED, Suspension.CANNOT_DECODE)
+"""Suspensions that always need an operator. `UNKNOWN` also does if it has no time."""
 
 
-def of_end(saga: SagaInstance, id: int, phase: str, recovered: bool, at: float) -> list[Delivery]:
-    """What is told of a saga's end: how it ended, each compensation that failed for good, and each
-    report that was not used and that a person has to see to.
+def end_deliveries(
+    saga: SagaInstance, id: int, phase: str, recovered: bool, at: float
+) -> list[DeliveryRow]:
+    """Return the deliveries of a saga's end.
+
+    They report how it ended, each compensation that failed permanently, and each unused report
+    that an operator has to handle.
     """
-    kind = RECOVERED if recovered else COMPLETED
-    found = _rows(saga, id, STUCK if phase == EnginePhase.STUCK else kind, {}, at, "end")
+    type = RECOVERED if recovered else COMPLETED
+    deliveries = _rows(saga, id, STUCK if phase == EnginePhase.STUCK else type, {}, at, "end")
     for step in undo_failures(saga.end) if recovered and saga.kind.hooks.get(ATTENTION) else ():
-        more = {"kind": "undo_failed", "step": saga.kind.names[step], "undo": True}
-        found += _rows(saga, id, ATTENTION, more, at, f"undo_failed {step}")
+        data = {"kind": "undo_failed", "step": saga.kind.names[step], "undo": True}
+        deliveries += _rows(saga, id, ATTENTION, data, at, f"undo_failed {step}")
     for step in early_reports.unused(saga):
         declared = saga.kind.steps[step]
         if declared is None or declared.early_unused == "ask":
-            more = {"kind": "unused_report", "step": saga.kind.names[step], "undo": False}
-            found += _rows(saga, id, ATTENTION, more, at, f"unused_report {step}")
-    return found
+            data = {"kind": "unused_report", "step": saga.kind.names[step], "undo": False}
+            deliveries += _rows(saga, id, ATTENTION, data, at, f"unused_report {step}")
+    return deliveries
 
 
-def of_suspension(attempt: Attempt, row: SuspensionRow, at: float) -> list[Delivery]:
-    """What is told of an attempt that is suspended, where a person has to do something."""
+def suspension_deliveries(attempt: Attempt, row: SuspensionRow, at: float) -> list[DeliveryRow]:
+    """Return the deliveries of a suspended attempt, if it needs an operator."""
     is_parked = row.reason is Suspension.UNKNOWN and row.until is None and not attempt.is_remote
-    if not is_parked and row.reason not in ASKED:
+    if not is_parked and row.reason not in NEEDS_OPERATOR:
         return []
-    more = {"kind": row.reason.value, "step": attempt.name, "undo": attempt.undo}
+    data = {"kind": row.reason.value, "step": attempt.name, "undo": attempt.undo}
     name = f"{attempt.token()} {row.reason} {at}"
-    return _rows(attempt.instance, attempt.instance.id, ATTENTION, more, at, name)
+    return _rows(attempt.instance, attempt.instance.id, ATTENTION, data, at, name)
 
 
 def _rows(
-    saga: SagaInstance, id: int, type: str, more: dict[str, Any], at: float, name: str
-) -> list[Delivery]:
-    """A row for each webhook that is told; `name`: what is told of, among all of the saga."""
+    saga: SagaInstance, id: int, type: str, data: dict[str, Any], at: float, name: str
+) -> list[DeliveryRow]:
+    """Return a row for each webhook of this type. `name`: names the cause within the saga."""
     hooks = saga.kind.hooks.get(type, ())
     if not hooks:
         return []
-    moment = datetime.datetime.fromtimestamp(at, datetime.timezone.utc)
-    told = {
+    timestamp = datetime.datetime.fromtimestamp(at, datetime.timezone.utc)
+    payload = {
         "type": type,
-        "timestamp": moment.isoformat(timespec="milliseconds").replace("+00:00", "Z"),
-        "data": {"key": saga.key, "definition": saga.kind.name, **more},
+        "timestamp": timestamp.isoformat(timespec="milliseconds").replace("+00:00", "Z"),
+        "data": {"key": saga.key, "definition": saga.kind.name, **data},
     }
-    body, shard = json.dumps(told), saga.shard.name if saga.shard else ""
-    found = []
+    body, shard = json.dumps(payload), saga.shard.name if saga.shard else ""
+    deliveries = []
     for hook in hooks:
         digest = hashlib.sha256(f"{hook}\n{shard}\n{id}\n{type}\n{name}".encode()).hexdigest()
-        found.append((f"msg_{digest[:24]}", hook, type, id, saga.key, body, at))
-    return found
+        deliveries.append((f"msg_{digest[:24]}", hook, type, id, saga.key, body, at))
+    return deliveries

@@ -1,7 +1,7 @@
-"""`AttemptMachine`: begins, suspends, retries, drains and finishes attempts.
+"""`AttemptMachine`: starts, suspends, retries, drains and finishes attempts.
 
-Nothing here knows a clock, a loop or a database. Time comes in as a value; what is to be done
-comes out as a `Decision`.
+This module has no clock, no event loop and no database. The caller passes the time as `now` and
+carries out the `Decision` that a method returns.
 """
 
 from __future__ import annotations
@@ -11,7 +11,7 @@ from typing import Any
 
 from sagas.base.errors import CannotDecode, Fail
 from sagas.core import early_reports
-from sagas.core.collection import collected, has_nothing_to_undo, is_unclear
+from sagas.core.collection import collected, has_nothing_to_undo, needs_stored_value
 from sagas.core.decisions import (
     CALL,
     FOLLOW,
@@ -25,68 +25,75 @@ from sagas.core.decisions import (
     Decision,
     Do,
 )
-from sagas.core.declared_values import due_time, limit_subjects, of_limits, of_until
-from sagas.core.exhaustion import FAILED_BEFORE, LEAST_PAUSE, RETRIED, backoff, go_on, yields
+from sagas.core.declared_values import due_time, limit_subjects, limit_calls, until_call
+from sagas.core.exhaustion import (
+    AFTER_FAILURE,
+    MIN_PAUSE,
+    RETRYABLE,
+    backoff_seconds,
+    after_failure,
+    yield_seconds,
+)
 from sagas.core.model import CLAIMED, FINISHED, QUEUED, RUNNING, SUSPENDED, Attempt, SagaInstance
-from sagas.core.outcomes import MOST_TEXT, Outcome, decided, failure, not_read
+from sagas.core.outcomes import MAX_TEXT, Outcome, approval_outcome, failure, values_unavailable
 from sagas.core.states import Action, OutcomeKind, Suspension
-from sagas.core.suspensions import Subject, SuspensionRow
+from sagas.core.suspensions import FunctionOption, SuspensionRow
 from sagas.definition.blobs import BlobUnavailable
 from sagas.definition.step import Step
 
-LOOK = 30.0
-"""Seconds: a clock may jump, so nobody sleeps longer without a look at it."""
-COUNTED = frozenset({Suspension.BACKOFF, Suspension.UNKNOWN, Suspension.RETRY})
-"""Suspensions of some seconds, which are counted here: to put the clock back does not make them
-more.
+MAX_SLEEP = 30.0
+"""Seconds: the wall clock may jump, so no timer sleeps longer before it reads the clock."""
+COUNTED_DOWN = frozenset({Suspension.BACKOFF, Suspension.UNKNOWN, Suspension.RETRY})
+"""Short suspensions, whose seconds are counted down: a clock that is set back does not make them
+longer.
 """
-PARKED = RETRIED | {Suspension.CANNOT_DECODE}
-"""Suspensions of an attempt that was called, and is called again."""
-WAITS = PARKED | {Suspension.TIMER, Suspension.APPROVAL}
-"""Suspensions that are told as `step_suspended`."""
+PARKED = RETRYABLE | {Suspension.CANNOT_DECODE}
+"""Suspensions of an attempt that was called and will be called again."""
+ANNOUNCED = PARKED | {Suspension.TIMER, Suspension.APPROVAL}
+"""Suspensions that emit the event `step_suspended`."""
 LEAST_UNREAD, MOST_UNREAD = 1.0, 60.0
-"""Seconds until values are asked for again that a blob store did not give."""
-ASKED = WAITS | {Suspension.EXTERNAL}
-"""Suspensions of an attempt that somebody may report."""
+"""Seconds until the values are read again if the blob store did not return them."""
+REPORTABLE = ANNOUNCED | {Suspension.EXTERNAL}
+"""Suspensions of an attempt that a caller may report."""
 
 
-Decisions = list[tuple[Attempt, Decision]]
+AttemptDecisions = list[tuple[Attempt, Decision]]
 
 
-def is_simple(attempt: Attempt) -> bool:
-    """Whether its function is called at once, and nothing is to be decided."""
+def is_called_at_once(attempt: Attempt) -> bool:
+    """Whether the function is called at once, without any decision."""
     return (
         attempt.action.simple is not None and attempt.attempt == 1 and not attempt.instance.draining
     )
 
 
-def is_asked(attempt: Attempt) -> bool:
-    """Whether somebody may report it: it is suspended for that."""
-    return attempt.state is SUSPENDED and not attempt.pending and attempt.reason in ASKED
+def is_reportable(attempt: Attempt) -> bool:
+    """Whether a caller may report the attempt now: it is suspended for that."""
+    return attempt.state is SUSPENDED and not attempt.pending_row and attempt.reason in REPORTABLE
 
 
-def will_be_asked(attempt: Attempt) -> bool:
-    """Whether it is about to be suspended until somebody reports it."""
+def becomes_reportable(attempt: Attempt) -> bool:
+    """Whether the attempt is about to be suspended until a caller reports it."""
     step = attempt.declared
     if step.manner(attempt.kind).external:
         return attempt.state is CLAIMED
-    if attempt.state is SUSPENDED and attempt.pending and attempt.reason in ASKED:
+    if attempt.state is SUSPENDED and attempt.pending_row and attempt.reason in REPORTABLE:
         return True
     if attempt.undo or attempt.state is FINISHED:
         return False
-    is_due = attempt.instance.rare.due.get(attempt.word) == 0
+    is_due = attempt.instance.rare.wait_ends.get(attempt.action_key) == 0
     return step.kind == "approval" or (step.kind == "wait" and not is_due)
 
 
 class AttemptMachine:
-    """Decide what becomes of attempts. All it knows is in the attempts and their sagas.
+    """Decide the next state of attempts, from the attempts and their sagas alone.
 
     Each method sets the attempt's state before it returns. `CALL` is the exception: the runtime
-    queues and starts the attempt when there is a place for it.
+    queues and starts the attempt when it has a slot.
 
     Attributes:
-        leased: Whether external workers get leases. Else who does an external step may begin
-            before this program knows of it.
+        leased: Whether external workers get leases. Otherwise the performer of an external step
+            may start before this program knows of it.
     """
 
     def __init__(self, leased: bool = False) -> None:
@@ -95,271 +102,268 @@ class AttemptMachine:
     # -- begin
 
     def begin(self, attempt: Attempt, now: float) -> Decision:
-        """Decide how one goes on that is in the store as begun.
+        """Decide how an attempt continues that the store has as started.
 
         Args:
-            attempt: One in the state `CLAIMED`.
+            attempt: An attempt in the state `CLAIMED`.
             now: Wall time in seconds.
 
         Returns:
-            `CALL`, `OFFER`, `SUSPEND`, or `REPORT` where it is given up without a call. `READ`
-            where that rests on values that are not held, and `ASK` where it rests on a function of
-            the definition; then `go_on` is asked.
+            `CALL`, `OFFER`, `SUSPEND`, or `REPORT` if it is given up without a call. `READ` if the
+            decision needs values that are not held, and `ASK` if it needs a function of the
+            definition; then the runtime calls `decide_again`.
         """
         instance = attempt.instance
-        if is_simple(attempt):
+        if is_called_at_once(attempt):
             return CALL
-        if is_unclear(attempt):
+        if needs_stored_value(attempt):
             return READ
         if has_nothing_to_undo(attempt):
             return self.finish(attempt, Outcome(OutcomeKind.SUCCEEDED, "null"), now)
-        if attempt.word in instance.rare.final:
+        if attempt.action_key in instance.rare.final:
             return self._give_up(attempt, "not called: the step failed permanently", now, True)
-        if instance.has_early and (outcome := early_reports.taken(attempt)):
+        if instance.has_early and (outcome := early_reports.taken_outcome(attempt)):
             is_read = outcome.kind is not OutcomeKind.CANNOT_DECODE
             return (self.finish if is_read else self._park)(attempt, outcome, now)
-        if instance.draining and self._may_leave(attempt) and attempt.offered != 0:
+        if instance.draining and self._may_give_up(attempt) and attempt.offered != 0:
             return self._give_up(attempt, "not called: the saga is being undone", now)
-        if attempt.attempt > 1 and (pause := backoff(attempt, now)) > 0:
+        if attempt.attempt > 1 and (pause := backoff_seconds(attempt, now)) > 0:
             attempt.suspend(Suspension.BACKOFF, now + pause)
             return SLEEP
-        return self._first(attempt, now)
+        return self._start(attempt, now)
 
     def resume(self, attempt: Attempt, now: float) -> Decision:
-        """Decide how one goes on in a shard that was recovered: it is under way here, or was made
-        from the rows of an earlier program.
+        """Decide how an attempt continues after its shard was recovered.
+
+        The attempt is under way in this program, or recovery made it from the rows of the store.
 
         Returns:
-            As `begin`; `REPORT_AGAIN` of one that is finished, `NOTHING` of one that goes on.
+            As `begin`; `REPORT_AGAIN` if it is finished, `NOTHING` if it continues unchanged.
         """
         if attempt.state is FINISHED:
             return REPORT_AGAIN
-        if attempt.pending and (attempt.state is not RUNNING or attempt.is_remote):
-            return self._put_again(attempt, attempt.pending)
+        if attempt.pending_row and (attempt.state is not RUNNING or attempt.is_remote):
+            return self._suspend_again(attempt, attempt.pending_row)
         if attempt.reason is Suspension.EXTERNAL and attempt.manner.external:
             attempt.suspend(Suspension.EXTERNAL)
             return OFFER
         if attempt.state is not CLAIMED:
             return NOTHING
-        if attempt.reason in RETRIED:
+        if attempt.reason in RETRYABLE:
             attempt.suspend(attempt.reason, attempt.until)
             return NOTHING if attempt.until is None else SLEEP
         if attempt.reason is Suspension.TIMER and attempt.until == 0:
             return CALL
         if attempt.reason is Suspension.CHILD:
-            attempt.fresh = False  # its row is in the store, and its child may be
+            attempt.is_uncalled = False  # its row is in the store, and its child may be
             attempt.suspend(Suspension.CHILD)
             return FOLLOW
         if attempt.reason in (Suspension.TIMER, Suspension.APPROVAL):
-            attempt.fresh = True
+            attempt.is_uncalled = True
             attempt.suspend(attempt.reason, attempt.until)
             return SLEEP
         return self.begin(attempt, now)
 
-    def _put_again(self, attempt: Attempt, row: SuspensionRow) -> Decision:
-        """The row was on its way to the store, and is not known to be there."""
+    def _suspend_again(self, attempt: Attempt, row: SuspensionRow) -> Decision:
+        """Suspend it again: its row was on the way to the store and may not be stored."""
         if attempt.state in (QUEUED, RUNNING):
             return Decision(Do.NOTHING, row)
         is_unread = row.reason is Suspension.CANNOT_DECODE  # its row has no time of a further try
         attempt.suspend(row.reason, attempt.until if is_unread else row.until)
-        return Decision(Do.SUSPEND, row, timer=is_unread or row.reason in RETRIED)
+        return Decision(Do.SUSPEND, row, timer=is_unread or row.reason in RETRYABLE)
 
-    def _first(self, attempt: Attempt, now: float) -> Decision:
+    def _start(self, attempt: Attempt, now: float) -> Decision:
         step = attempt.declared
         if step.kind == "wait" and attempt.kind == Action.RUN and not step.manner("run").external:
             return self._wait(attempt, step, now)
-        return self._go(attempt, now)
+        return self._call_or_offer(attempt, now)
 
-    def _go(self, attempt: Attempt, now: float) -> Decision:
-        """It is called here, or done by an external worker or a child saga."""
+    def _call_or_offer(self, attempt: Attempt, now: float) -> Decision:
+        """Call its function here, or leave it to an external worker or a child saga."""
         if attempt.is_child:
-            attempt.since = now
+            attempt.waiting_since = now
             attempt.suspend(Suspension.CHILD)
             return Decision(Do.SUSPEND, SuspensionRow(Suspension.CHILD, None))
         if not attempt.manner.external:
             return CALL
-        attempt.fresh = attempt.fresh and self.leased  # else whoever does it may have begun
+        attempt.is_uncalled = (
+            attempt.is_uncalled and self.leased
+        )  # else its worker may have started
         attempt.suspend(Suspension.EXTERNAL)
         return OFFER
 
     def _wait(self, attempt: Attempt, step: Step[Any], now: float) -> Decision:
-        """It waits for its time, counted from the first attempt that could say it. One that cannot
-        has failed, and its function is not called.
+        """Let it wait until its time, which the first attempt that can compute it sets.
+
+        If the time cannot be computed, the attempt fails and its function is not called.
         """
         rare = attempt.instance.rare
-        due = rare.due.get(attempt.word)
+        due = rare.wait_ends.get(attempt.action_key)
         if due == 0:
             attempt.has_row = True  # an earlier attempt's
             return CALL
         if due is None:
-            returned = attempt.take_returned(Subject.UNTIL)
-            is_asked = callable(step.until) and returned is None
-            if is_asked and attempt.lacks():
+            returned = attempt.take_returned(FunctionOption.UNTIL)
+            needs_call = callable(step.until) and returned is None
+            if needs_call and attempt.lacks_values():
                 return READ
             try:
-                if is_asked:
-                    return Decision(Do.ASK, question=of_until(attempt))
+                if needs_call:
+                    return Decision(Do.ASK, option_calls=until_call(attempt))
                 due = due_time(step.until if returned is None else returned.get(), now)
             except Exception as error:
-                return self._without(attempt, error, now)
-        rare.due[attempt.word] = until = max(due, 1.0)
+                return self._finish_uncalled(attempt, error, now)
+        rare.wait_ends[attempt.action_key] = until = max(due, 1.0)
         return self._suspend(attempt, Suspension.TIMER, until, now)
 
-    def go_on(self, attempt: Attempt, now: float) -> Decision:
-        """Decide how one goes on of which this said `READ` or `ASK`, other than `limit`."""
+    def decide_again(self, attempt: Attempt, now: float) -> Decision:
+        """Decide again after `READ` or `ASK`, except if `decide_limits` returned them."""
         return self.begin(attempt, now)
 
-    def _without(self, attempt: Attempt, error: Exception, now: float) -> Decision:
-        """A function that says something of it has raised this: its own is not called."""
+    def _finish_uncalled(self, attempt: Attempt, error: Exception, now: float) -> Decision:
+        """Finish or park an attempt whose definition's function raised: it is not called."""
         if isinstance(error, CannotDecode):
-            outcome = Outcome(OutcomeKind.CANNOT_DECODE, str(error)[:MOST_TEXT])
+            outcome = Outcome(OutcomeKind.CANNOT_DECODE, str(error)[:MAX_TEXT])
             return self._park(attempt, outcome, now)
-        told = f"{type(error).__name__}: {error}"
-        outcome = failure(told, final=isinstance(error, Fail))
+        detail = f"{type(error).__name__}: {error}"
+        outcome = failure(detail, final=isinstance(error, Fail))
         return self.finish(attempt, outcome._replace(error=error), now)
 
-    def limit(self, attempt: Attempt, now: float) -> Decision:
-        """Decide by which key the limits of a step count one that may be called.
+    def decide_limits(self, attempt: Attempt, now: float) -> Decision:
+        """Decide which key the limits of the step use for an attempt that may be called.
 
         Returns:
-            `CALL`; or as `ended`, if the function that says the key has raised; or `READ` or
-            `ASK`, and then this is asked again. `REPORT` where its saga drains meanwhile.
+            `CALL`; or as `ended`, if the function that returns the key raised; or `READ` or
+            `ASK`, and then the runtime calls this method again. `REPORT` if its saga drains now.
         """
-        if attempt.instance.drains and self._may_leave(attempt):
+        if attempt.instance.may_cancel_work and self._may_give_up(attempt):
             return self._give_up(attempt, "not called: the saga is being undone", now)
         try:
-            if (tenant := attempt.take_returned(Subject.TENANT)) is not None:
+            if (tenant := attempt.take_returned(FunctionOption.TENANT)) is not None:
                 attempt.instance.rare.tenant = tenant.get()
-            if (key := attempt.take_returned(Subject.LIMIT_KEY)) is not None:
+            if (key := attempt.take_returned(FunctionOption.LIMIT_KEY)) is not None:
                 attempt.rare.limit_key = key.get()
             if not (subjects := limit_subjects(attempt)):
                 return CALL
-            if attempt.lacks():
+            if attempt.lacks_values():
                 return READ
-            return Decision(Do.ASK, question=of_limits(attempt, subjects))
+            return Decision(Do.ASK, option_calls=limit_calls(attempt, subjects))
         except Exception as error:
-            return self._without(attempt, error, now)
+            return self._finish_uncalled(attempt, error, now)
 
     def _suspend(
         self, attempt: Attempt, reason: Suspension, until: float | None, now: float
     ) -> Decision:
-        """It waits for its time or for an approval, and nobody called it for that before: where
-        its saga drains, it is given up.
-        """
-        attempt.since, attempt.fresh = now, True
-        if attempt.instance.draining and self._may_leave(attempt):
+        """Suspend an attempt until its time or an approval; if its saga drains, give it up."""
+        attempt.waiting_since, attempt.is_uncalled = now, True
+        if attempt.instance.draining and self._may_give_up(attempt):
             return self._give_up(attempt, "not called: the saga is being undone", now)
         attempt.suspend(reason, until)
         return Decision(Do.SUSPEND, SuspensionRow(reason, until))
 
     # -- time
 
-    def delay(self, attempt: Attempt, now: float) -> float | None:
-        """Return in how many seconds `timer` is asked of one that is suspended; None where it has
-        no time.
-        """
+    def timer_delay(self, attempt: Attempt, now: float) -> float | None:
+        """Return in how many seconds `timer` is called for a suspended attempt; None if never."""
         if attempt.until is None:
             return None
-        most = LOOK
-        if attempt.reason in COUNTED:
-            most = max(LEAST_PAUSE, attempt.manner.backoff.maximum, attempt.rare.pause)
-        return max(0.0, min(most, attempt.until - now))
+        longest = MAX_SLEEP
+        if attempt.reason in COUNTED_DOWN:
+            longest = max(MIN_PAUSE, attempt.manner.backoff.maximum, attempt.rare.pause)
+        return max(0.0, min(longest, attempt.until - now))
 
     def timer(self, attempt: Attempt, now: float) -> Decision:
-        """Decide how one goes on whose timer rang.
+        """Decide how an attempt continues whose timer fired.
 
         Returns:
-            `SUSPEND` where its time has not come, or a row says that its wait is over; else as
-            `begin`.
+            `SUSPEND` if its time has not come, or to store the end of its wait; else as `begin`.
         """
         if attempt.state is not SUSPENDED or attempt.until is None:
             return NOTHING
-        if attempt.until > now and attempt.reason not in COUNTED:
+        if attempt.until > now and attempt.reason not in COUNTED_DOWN:
             return SLEEP
         if attempt.reason is Suspension.APPROVAL:
             return self.finish(attempt, failure("nobody approved it in time", final=True), now)
         if attempt.reason is Suspension.TIMER:
-            attempt.instance.rare.due[attempt.word] = 0.0
+            attempt.instance.rare.wait_ends[attempt.action_key] = 0.0
             attempt.suspend(Suspension.TIMER, 0.0)
             return Decision(Do.SUSPEND, SuspensionRow(Suspension.TIMER, 0.0))
-        return self._again(attempt, now)
+        return self._after_pause(attempt, now)
 
     def stored(self, attempt: Attempt) -> Decision:
-        """Decide how one goes on whose row is in the store."""
-        row, attempt.pending = attempt.pending, None
+        """Decide how an attempt continues after its row was stored."""
+        row, attempt.pending_row = attempt.pending_row, None
         if row is None or attempt.state is not SUSPENDED:
             return NOTHING
         if row.reason is Suspension.TIMER and row.until == 0:
             return CALL
         event = ("step_suspended", row.reason.value)
         if row.reason is Suspension.CHILD:
-            attempt.fresh = False
+            attempt.is_uncalled = False
             return Decision(Do.FOLLOW, event=event)
         return Decision(Do.SUSPEND, timer=row.reason not in PARKED, event=event)
 
-    def _again(self, attempt: Attempt, now: float) -> Decision:
-        """Behind its back-off: the next attempt, or the same one whose outcome is unknown. Or it is
-        tried again to read its values.
-        """
+    def _after_pause(self, attempt: Attempt, now: float) -> Decision:
+        """Continue after a pause: call it, call it again, or read its values again."""
         if attempt.reason in (Suspension.BACKOFF, Suspension.CANNOT_DECODE):
-            return self._first(attempt, now)
-        return self._go(attempt, now)
+            return self._start(attempt, now)
+        return self._call_or_offer(attempt, now)
 
     # -- outcomes
 
     def ended(self, attempt: Attempt, outcome: Outcome, now: float) -> Decision:
-        """Decide what an outcome leads to.
+        """Decide what follows from the outcome of a call.
 
         Args:
-            attempt: One in the state `RUNNING`, or done by an external worker.
-            outcome: What the call came to.
+            attempt: An attempt that is `RUNNING`, or that an external worker performs.
+            outcome: The outcome of the call.
             now: Wall time in seconds.
 
         Returns:
-            `REPORT`, or `SUSPEND` where it is asked for an approval, where the same attempt is
-            called again, and where a person or another program has to go on.
+            `REPORT`; or `SUSPEND` if it needs an approval, if the same attempt is called again,
+            or if an operator or another program has to act.
         """
         kind = outcome.kind
-        attempt.fresh = False  # also where the worker got it from another node
+        attempt.is_uncalled = False  # also where the worker got it from another node
         if kind is OutcomeKind.UNKNOWN:
             return self._unknown(attempt, outcome, now)
         if kind is OutcomeKind.CANNOT_DECODE:
             return self._park(attempt, outcome, now)
         if kind is OutcomeKind.ANSWERED:
-            return self.finish(attempt, decided(outcome), now)
+            return self.finish(attempt, approval_outcome(outcome), now)
         if kind is OutcomeKind.SUCCEEDED and self._is_approval(attempt):
-            within = attempt.declared.approval_timeout
-            until = None if within is None else now + within.total_seconds()
+            timeout = attempt.declared.approval_timeout
+            until = None if timeout is None else now + timeout.total_seconds()
             return self._suspend(attempt, Suspension.APPROVAL, until, now)
-        decision = None if kind is OutcomeKind.SUCCEEDED else go_on(attempt, outcome, now)
+        decision = None if kind is OutcomeKind.SUCCEEDED else after_failure(attempt, outcome, now)
         return decision or self.finish(attempt, outcome, now)
 
     def finish(self, attempt: Attempt, outcome: Outcome, now: float) -> Decision:
-        """Take an outcome as the attempt's last: somebody reported it, say."""
+        """Set the final outcome of an attempt, for example one that a caller reported."""
         attempt.finish(collected(attempt, outcome), now)
         return self.report(attempt)
 
     def report(self, attempt: Attempt) -> Decision:
-        """Report one that is finished; also where an earlier report of it was not kept."""
+        """Report a finished attempt; also if an earlier report of it was not stored."""
         if attempt.outcome and attempt.outcome.kind is OutcomeKind.FAILED_PERMANENTLY:
-            attempt.instance.rare.final.add(attempt.word)
+            attempt.instance.rare.final.add(attempt.action_key)
         return REPORT
 
     def _is_approval(self, attempt: Attempt) -> bool:
         return attempt.kind == Action.RUN and attempt.declared.kind == "approval"
 
     def _unknown(self, attempt: Attempt, outcome: Outcome, now: float) -> Decision:
-        """The same attempt is called again, after its back-off; or a person has to report it."""
+        """Call the same attempt again after its backoff, or wait until an operator reports it."""
         manner, rare = attempt.manner, attempt.rare
         rare.count += 1
-        attempt.since = attempt.since or now
+        attempt.waiting_since = attempt.waiting_since or now
         attempt.outcome = outcome
-        most = manner.max_unknown
-        if isinstance(most, datetime.timedelta):
-            is_spent = now - attempt.since >= most.total_seconds()
+        limit = manner.max_unknown
+        if isinstance(limit, datetime.timedelta):
+            is_spent = now - attempt.waiting_since >= limit.total_seconds()
         else:
-            is_spent = most is not None and rare.count > most
-        rare.pause = max(LEAST_PAUSE, manner.backoff.after(rare.count), yields(attempt))
+            is_spent = limit is not None and rare.count > limit
+        rare.pause = max(MIN_PAUSE, manner.backoff.after(rare.count), yield_seconds(attempt))
         until = None if is_spent else now + rare.pause
         times = f"; {rare.count} times so far" if rare.count > 1 else ""
         detail = f"{outcome.value}{times}{'; a person must report it' if is_spent else ''}"
@@ -371,24 +375,26 @@ class AttemptMachine:
             event=("step_unknown", detail),
         )
 
-    def unread(self, attempt: Attempt, error: BlobUnavailable, now: float) -> Decision:
-        """Decide on one whose values were to be read, and which the blob store does not give."""
-        return self._park(attempt, not_read(error), now)
+    def values_unavailable(self, attempt: Attempt, error: BlobUnavailable, now: float) -> Decision:
+        """Decide how an attempt continues if the blob store does not return its values."""
+        return self._park(attempt, values_unavailable(error), now)
 
     def _park(self, attempt: Attempt, outcome: Outcome, now: float) -> Decision:
-        """This program cannot read what is stored for it: it waits for one that can, or for a
-        person. Nothing counts as failed. Where only a blob store does not answer, it is tried again
-        after a pause, which is told once.
+        """Park an attempt whose stored values this program cannot read.
+
+        It waits for a program that can read them, or for an operator, and does not count as
+        failed. If only the blob store does not answer, the values are read again after a pause,
+        and the event is emitted once.
         """
-        before, attempt.outcome = attempt.outcome, outcome
-        attempt.since = attempt.since or now
-        is_due = attempt.is_wait and attempt.instance.rare.due.get(attempt.word) == 0
+        previous, attempt.outcome = attempt.outcome, outcome
+        attempt.waiting_since = attempt.waiting_since or now
+        is_due = attempt.is_wait and attempt.instance.rare.wait_ends.get(attempt.action_key) == 0
         until = None
         if isinstance(outcome.error, BlobUnavailable):
             attempt.rare.pause = min(MOST_UNREAD, max(LEAST_UNREAD, 2 * attempt.rare.pause))
             until = now + attempt.rare.pause
-            is_told = before is not None and before[:2] == outcome[:2] and attempt.has_row
-            if is_told and attempt.pending is None:
+            is_announced = previous is not None and previous[:2] == outcome[:2] and attempt.has_row
+            if is_announced and attempt.pending_row is None:
                 attempt.suspend(Suspension.CANNOT_DECODE, until)
                 return SLEEP
         attempt.suspend(Suspension.CANNOT_DECODE, until)
@@ -405,44 +411,46 @@ class AttemptMachine:
 
     # -- a saga that drains
 
-    def drain(self, instance: SagaInstance, now: float) -> Decisions:
-        """Let a saga drain, so that it can be planned: what waits and was not called is given up,
-        and what waits for its back-off goes on now. If it was planned meanwhile, nothing is to be
-        done. Asked once the commit is answered that has why it drains.
+    def drain(self, instance: SagaInstance, now: float) -> AttemptDecisions:
+        """Drain a saga, so that the engine can plan it.
+
+        Attempts that wait and were not called are given up. Attempts that wait for their backoff
+        continue now. If the saga was planned in the meantime, nothing is done. The runtime calls
+        this after the commit that stores why the saga drains.
         """
-        found: Decisions = []
+        decisions: AttemptDecisions = []
         if not instance.draining:
-            return found
-        instance.rare.drains = True
+            return decisions
+        instance.rare.may_cancel_work = True
         for attempt in list(instance.busy.values()):
             if attempt.state is SUSPENDED and attempt.reason is Suspension.EXTERNAL:
-                if self._may_leave(attempt):  # unless a worker has it by now
-                    found.append((attempt, WITHDRAW))
-            elif attempt.state in (SUSPENDED, QUEUED) and self._may_leave(attempt):
+                if self._may_give_up(attempt):  # unless a worker has it by now
+                    decisions.append((attempt, WITHDRAW))
+            elif attempt.state in (SUSPENDED, QUEUED) and self._may_give_up(attempt):
                 why = "not called: the saga is being undone"
-                found.append((attempt, self._give_up(attempt, why, now)))
-            elif attempt.reason is Suspension.CHILD and not attempt.pending:
-                found.append((attempt, FOLLOW))  # which aborts the child, where that is meant
+                decisions.append((attempt, self._give_up(attempt, why, now)))
+            elif attempt.reason is Suspension.CHILD and not attempt.pending_row:
+                decisions.append((attempt, FOLLOW))  # which aborts the child if the saga is aborted
             elif attempt.state is not SUSPENDED or attempt.undo:
                 continue
             elif attempt.reason is Suspension.EXHAUSTED and not instance.aborted:
-                continue  # a person was asked, and may have done it by hand
-            elif attempt.outcome and attempt.reason in FAILED_BEFORE:
-                found.append((attempt, self.finish(attempt, attempt.outcome, now)))
-            elif attempt.until is not None and attempt.reason in COUNTED:
-                # its last attempt, or one whose outcome is unknown: to give it up would be a
-                # failure that was none
-                found.append((attempt, self._again(attempt, now)))
-        return found
+                continue  # an operator may have performed it by hand
+            elif attempt.outcome and attempt.reason in AFTER_FAILURE:
+                decisions.append((attempt, self.finish(attempt, attempt.outcome, now)))
+            elif attempt.until is not None and attempt.reason in COUNTED_DOWN:
+                # its last attempt, or one with an unknown outcome: to give it up would report a
+                # failure that did not happen
+                decisions.append((attempt, self._after_pause(attempt, now)))
+        return decisions
 
     def withdrawn(self, attempt: Attempt, now: float) -> Decision:
-        """Decide on one that no worker has, and none gets, since its saga drains."""
+        """Give up an attempt whose offer was withdrawn, because its saga drains."""
         if attempt.state is not SUSPENDED or attempt.reason is not Suspension.EXTERNAL:
             return NOTHING
         return self._give_up(attempt, "not called: the saga is being undone", now)
 
-    def _may_leave(self, attempt: Attempt) -> bool:
-        if not attempt.fresh or attempt.undo:
+    def _may_give_up(self, attempt: Attempt) -> bool:
+        if not attempt.is_uncalled or attempt.undo:
             return False
         instance = attempt.instance
         return instance.aborted or attempt.attempt < instance.kind.tries["run"][attempt.step]

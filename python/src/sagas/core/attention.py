@@ -1,7 +1,7 @@
 """What needs an operator: stuck sagas, failed compensations, parked attempts.
 
-What needs a person: sagas that are stuck, compensations that failed for good, and attempts that
-do not go on by themselves.
+An operator has to handle stuck sagas, compensations that failed permanently, and attempts that do
+not continue on their own.
 """
 
 from __future__ import annotations
@@ -15,7 +15,7 @@ from sagas.core.states import undo_failures
 
 
 class AttentionReason(enum.StrEnum):
-    """Say why a saga needs a person."""
+    """Say why a saga needs an operator."""
 
     STUCK = "stuck"
     """No plan is feasible: see `Store.resolve`."""
@@ -35,12 +35,12 @@ class AttentionReason(enum.StrEnum):
     by `Store.complete`."""
     DAMAGED = "damaged"
     """The stored data of its shard is damaged, and no program can open the shard. The saga does
-    not go on until the shard is repaired or deleted."""
+    not continue until the shard is repaired or deleted."""
 
 
 @dataclasses.dataclass(frozen=True, slots=True)
 class Attention:
-    """Describe something that needs a person.
+    """Describe something that needs an operator.
 
     Attributes:
         key: The saga's key.
@@ -66,24 +66,33 @@ class Attention:
     by: str | None = None
 
 
-UNUSED = """
+UNUSED_REPORTS = """
 SELECT step, detail FROM suspensions WHERE id = ? AND number = 0 AND reason = 'early_result'
 """
-"""The reports of a saga that were not used, once it has ended."""
+"""Select the unused reports of a saga that has ended."""
 
 
 def is_resolvable(phase: str | None, end: str | None, has_unused: bool) -> bool:
-    """Whether a saga is one that a person resolves: stuck, or ended with a compensation that failed
-    for good, or without a report that was accepted."""
+    """Whether an operator can resolve a saga.
+
+    It is stuck, has ended with a compensation that failed permanently, or has ended without a
+    report that was accepted.
+    """
     is_failed = phase == "ended" and bool(undo_failures(end or ""))
     return phase == "stuck" or is_failed or (phase is not None and has_unused)
 
 
 def is_to_resolve(row: SagaRow, note: str, has_unused: bool) -> bool:
-    """Whether a note is to be stored; False where a person wrote the same one before. `has_unused`:
-    whether `UNUSED` has rows of it.
+    """Whether a note has to be stored; False if the same note is stored already.
 
-    Raises `StepNotWaiting` where another note stands, and of any saga that nobody resolves."""
+    Args:
+        row: The saga.
+        note: The operator's note.
+        has_unused: Whether `UNUSED_REPORTS` has rows of the saga.
+
+    Raises:
+        StepNotWaiting: Another note is stored, or the saga does not need to be resolved.
+    """
     if row.note is None and not is_resolvable(row.phase, row.end, has_unused):
         raise not_resolvable(row.key)
     if row.note is not None and row.note != note:
@@ -94,7 +103,7 @@ def is_to_resolve(row: SagaRow, note: str, has_unused: bool) -> bool:
 
 
 def not_resolvable(key: str) -> StepNotWaiting:
-    """What is said of a saga that is neither stuck nor has a failed compensation."""
+    """Return the error for a saga that does not need to be resolved."""
     return StepNotWaiting(
         f"saga {key!r} does not need to be resolved: it is not stuck, none of its "
         "compensations failed permanently, and it has no unused report"

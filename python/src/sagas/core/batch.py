@@ -6,46 +6,48 @@ import dataclasses
 from collections.abc import Callable, Iterable, Sequence
 from typing import Any, NamedTuple, Optional, Union
 
-Key = tuple[int, str, int]
-"""A step's number, `run` or `undo`, and the attempt."""
+AttemptKey = tuple[int, str, int]
+"""The number of a step, `run` or `undo`, and the number of the attempt."""
 
-Defined = tuple[int, str, str]
-"""place, digest, text: of a definition of a log"""
-Born = tuple[str, Sequence[Defined]]
-"""name, definitions: of a log"""
-Opened = tuple[int, str, str, int, str, float, Optional[float], Optional[str]]
-"""id, key, saga, def, input, at, deadline, traceparent"""
-Result = tuple[int, int, str, int, str, Optional[str], float]
-"""id, step, kind, attempt, outcome, value, at"""
-Ended = tuple[str, str, bool, bool, float, int]
-"""phase, outcome, recovered, undo_failed, ended, id"""
-HeldRow = tuple[int, int, str, int, str, int, float, Optional[float], Optional[str]]
-"""id, step, kind, attempt, why, count, since, until, error"""
-Label = tuple[int, str, str]
-"""id, name, value: of a saga"""
-Freed = tuple[int, int, str, int]
-"""id, step, kind, attempt"""
-Advanced = tuple[int, int, str, int, float, Optional[str], float]
+DefinitionRow = tuple[int, str, str]
+"""index, digest, text: a definition of a shard"""
+NewShard = tuple[str, Sequence[DefinitionRow]]
+"""name, definitions: a shard that the store does not have yet"""
+OpenedRow = tuple[int, str, str, int, str, float, Optional[float], Optional[str]]
+"""id, key, saga, definition index, input, at, deadline, traceparent: an opened saga"""
+ResultRow = tuple[int, int, str, int, str, Optional[str], float]
+"""id, step, kind, attempt, outcome, value, at: the result of an attempt"""
+EndedRow = tuple[str, str, bool, bool, float, int]
+"""phase, outcome, recovered, undo_failed, ended, id: an ended saga"""
+StoredSuspension = tuple[int, int, str, int, str, int, float, Optional[float], Optional[str]]
+"""id, step, kind, attempt, reason, count, since, until, error: a suspended attempt"""
+LabelRow = tuple[int, str, str]
+"""id, name, value: a label of a saga"""
+SuspensionKey = tuple[int, int, str, int]
+"""id, step, kind, attempt: suspensions of the action up to this attempt are deleted"""
+ProgressRow = tuple[int, int, str, int, float, Optional[str], float]
 """id, step, kind, attempt, fraction, detail, at: of `progress`"""
-Delivery = tuple[str, str, str, int, str, str, float]
+DeliveryRow = tuple[str, str, str, int, str, str, float]
 """id, webhook, type, saga, key, body, at: of `webhook_deliveries`"""
-Spans = tuple[int, int, str, int, float, str]
+SpansRow = tuple[int, int, str, int, float, str]
 """id, step, kind, attempt, at, spans: of `attempt_spans`"""
-Offer = tuple[str, int, int, int, str, int, str, Optional[int], Optional[int], float, Optional[str]]
+OfferRow = tuple[
+    str, int, int, int, str, int, str, Optional[int], Optional[int], float, Optional[str]
+]
 """attempt, shard, id, step, action, number, task, concurrency, lease, offered_at, cancelled: of
 `external_attempts`"""
-Cancelled = tuple[str, int]
-"""why, id: of a saga that is to be undone"""
+CancelledSaga = tuple[str, int]
+"""reason, id: a saga that is being undone"""
 
 
 @dataclasses.dataclass(eq=False, slots=True)
 class Withdrawal:
-    """An attempt that no worker is to get any more.
+    """The withdrawal of an attempt from external workers.
 
     Attributes:
         attempt: Its id.
         shard: The number of its shard.
-        is_done: Whether the commit found that no worker has it; written by the commit.
+        is_done: Whether no worker has it; the commit sets this.
     """
 
     attempt: str
@@ -53,148 +55,161 @@ class Withdrawal:
     is_done: bool = False
 
 
-OpenRow = tuple[int, str, int, str, Optional[float], Optional[str], Optional[str]]
-"""id, key, def, input, deadline, traceparent, shape: of a saga that is open"""
-Shape = tuple[int, str]
-"""id, shape: of a saga whose steps come from its input"""
-Told = tuple[str, int]
-"""the answer to a request, as JSON, and the request's id"""
-Request = tuple[int, str, str, Optional[str], Optional[int]]
-"""id, key, what, value, and the id of the saga that it is asked of, where that is there"""
-Start = tuple[int, str, str, int, str, dict[str, str], Optional[float], Optional[str]]
-"""id, key, saga, version, input, labels, deadline, traceparent"""
-Asked = tuple[str, str, str, float]
-"""key, what, value, at: a request that is kept with its answer, in the commit that it came to"""
-Wanted = Union[int, Asked, None]
-"""Who is to hear the answer: the id of a request that is there, or a request that is to be; or
-None
+OpenSagaRow = tuple[int, str, int, str, Optional[float], Optional[str], Optional[str]]
+"""id, key, definition index, input, deadline, traceparent, shape: an open saga"""
+ShapeRow = tuple[int, str]
+"""id, shape: a saga whose steps come from its input"""
+RequestAnswer = tuple[str, int]
+"""answer as JSON, id of the request"""
+PendingRequest = tuple[int, str, str, Optional[str], Optional[int]]
+"""id, key, command, value, id of the saga or None: a request of an operator"""
+PendingStart = tuple[int, str, str, int, str, dict[str, str], Optional[float], Optional[str]]
+"""id, key, saga, version, input, labels, deadline, traceparent: a start of a client"""
+AnsweredRequest = tuple[str, str, str, float]
+"""key, command, value, at: a request that is stored together with its answer"""
+RequestRef = Union[int, AnsweredRequest, None]
+"""The request that gets an answer: the id of a stored request, or a request to store; None if no
+request waits for it.
 """
 
 
-class Rare:
-    """What most batches have nothing of. A part is there from when it is first asked for: whoever
-    writes it looks into `parts` alone, since most of them are missing.
+class RareRows:
+    """Rows that most batches do not have.
+
+    The first access creates a list. A writer reads the existing lists from `parts`, since most are
+    missing. The names are also the keys of the statements in `storage`.
     """
 
-    held: list[HeldRow]
-    freed: list[Freed]
-    labels: list[Label]
-    shapes: list[Shape]
-    defined: list[Defined]
-    """further definitions of the log"""
+    held: list[StoredSuspension]
+    freed: list[SuspensionKey]
+    labels: list[LabelRow]
+    shapes: list[ShapeRow]
+    defined: list[DefinitionRow]
+    """Further definitions of the shard."""
     children: list[tuple[int, int]]
-    """sagas that others started, each with the id of that one"""
-    answers: list[Told]
-    asked: list[tuple[Asked, str]]
-    """requests that have no row yet, with their answers"""
+    """Child sagas, each with the id of its parent."""
+    answers: list[RequestAnswer]
+    asked: list[tuple[AnsweredRequest, str]]
+    """Requests that have no row yet, with their answers."""
     notes: list[tuple[str, int]]
     undone: list[tuple[int, int]]
-    """reports that their sagas did not use, and of which nothing is left to be undone, or other
-    sagas undo it: saga, step"""
+    """Unused reports (saga, step) that have nothing left to undo, or that other sagas undo."""
     begun: list[tuple[int, int | None]]
-    """starts of clients (`Start`) that are done with, each with the saga that it is, which is asked
-    what was asked of the start; None where its key has another saga"""
-    offers: list[Offer]
-    """attempts that others do from now on"""
-    cancelled: list[Cancelled]
-    """sagas that are to be undone, whose workers are to hear so"""
+    """Starts of clients (`PendingStart`) that are finished, each with the id of its saga.
+
+    Requests for the start then apply to the saga. The id is None if another saga has the key.
+    """
+    offers: list[OfferRow]
+    """Attempts that are offered to external workers."""
+    cancelled: list[CancelledSaga]
+    """Sagas that are being undone, whose workers are notified."""
     suspended: list[tuple[str, int, str]]
-    """of these the attempts of which nobody knows, their shard, and `suspended`, or `person` where
-    a person has to say"""
+    """External attempts with an unknown outcome, their shard, and `suspended`, or `person` if an
+    operator has to report them."""
     withdrawn: list[Withdrawal]
-    """of these the attempts that no worker is to get, unless one has them"""
+    """Offers that are withdrawn unless a worker has the attempt."""
     settled: list[tuple[str, int, str | None]]
-    """of these the attempts that are over, their shard, and `succeeded` where they have. No report
-    of them is taken any more. Where it is None, and a worker has reported a success before,
-    nothing of the shard is written: what it did stands"""
-    progress: list[Advanced]
-    deliveries: list[Delivery]
-    """what webhooks are told"""
-    spans: list[Spans]
+    """External attempts that are over, their shard, and `succeeded` or None.
+
+    Later reports of them are refused. If it is None, and a worker has reported a success before,
+    the commit writes nothing for the shard, because the worker's effect remains.
+    """
+    progress: list[ProgressRow]
+    deliveries: list[DeliveryRow]
+    """Deliveries of webhooks."""
+    spans: list[SpansRow]
     work: list[Callable[[Any], object]]
-    """what else is done in the transaction of a file, with its connection"""
+    """Callables that run in the transaction of a SQLite file, with its connection."""
     closed: tuple[int, str] | None = None
     set_aside: tuple[str | None] | None = None
-    """why no program can open the log; None in it where it could be opened again"""
+    """Why no program can open the shard; (None,) if it can be opened again."""
 
     def __getattr__(self, part: str) -> Any:
         if part.startswith("_"):
             raise AttributeError(part)
-        found: list[Any] = []
-        setattr(self, part, found)
-        return found
+        rows: list[Any] = []
+        setattr(self, part, rows)
+        return rows
 
     @property
     def parts(self) -> Iterable[str]:
-        """The names of the parts that there are."""
+        """The names of the existing lists."""
         return vars(self)
 
 
 class Batch:
-    """What one log gains at once.
+    """The rows that one commit adds to a shard.
 
-    `guessed`: keys of sagas that it opens, which nobody has looked for: where one is taken,
-    nothing of the batch is written, as where the log is another's. `lines`: how many `text` has,
-    once they are counted.
+    Attributes:
+        shard: The number of the shard.
+        at: Wall time of the commit.
+        first: The number of events before it.
+        epoch: The fencing token of the shard's owner.
+        text: The new lines of the event log.
+        lines: The number of these lines, after `count_lines`.
+        new_shard: The shard's own row, in its first batch.
+        unchecked_keys: Keys of opened sagas that were not looked up. If one is taken, nothing of
+            the batch is written, as if another node had the shard.
+        rare: Rows that most batches do not have; add them to `rare_rows`.
     """
 
     __slots__ = (
-        "log",
+        "shard",
         "at",
         "first",
         "epoch",
         "text",
         "lines",
-        "born",
+        "new_shard",
         "opened",
         "results",
         "ended",
-        "guessed",
+        "unchecked_keys",
         "rare",
     )
 
     def __init__(self, log: int, at: float, first: int = 0, epoch: int = 0) -> None:
-        self.log = log
+        self.shard = log
         self.at = at
         self.first = first
         self.epoch = epoch
         self.text = ""
         self.lines = 0
-        self.born: Born | None = None
-        self.opened: list[Opened] = []
-        self.results: list[Result] = []
-        self.ended: list[Ended] = []
-        self.guessed: list[str] = []
-        self.rare: Rare | None = None
+        self.new_shard: NewShard | None = None
+        self.opened: list[OpenedRow] = []
+        self.results: list[ResultRow] = []
+        self.ended: list[EndedRow] = []
+        self.unchecked_keys: list[str] = []
+        self.rare: RareRows | None = None
 
     def __bool__(self) -> bool:
         """Whether it holds anything."""
         return bool(self.text or self.opened or self.results or self.ended or self.rare)
 
-    def counted(self) -> int:
+    def count_lines(self) -> int:
         """Count its lines, and return how many there are."""
         self.lines = self.text.count("\n")
         return self.lines
 
     @property
-    def more(self) -> Rare:
-        """What most have nothing of, to be put into."""
-        self.rare = self.rare or Rare()
+    def rare_rows(self) -> RareRows:
+        """The rare rows, created at the first use, to add to."""
+        self.rare = self.rare or RareRows()
         return self.rare
 
-    def answer(self, request: Wanted, answer: str) -> None:
-        """The answer to a request, as JSON."""
+    def answer(self, request: RequestRef, answer: str) -> None:
+        """Add the answer to a request, as JSON."""
         if isinstance(request, int):
-            self.more.answers.append((answer, request))
+            self.rare_rows.answers.append((answer, request))
         elif request is not None:
-            self.more.asked.append((request, answer))
+            self.rare_rows.asked.append((request, answer))
 
 
 @dataclasses.dataclass(slots=True)
-class LogRow:
-    """A log that is not closed. `note`: why no program could open it before."""
+class ShardRow:
+    """A shard that is not closed. `note`: why no program could open it before."""
 
-    log: int
+    shard: int
     name: str
     texts: list[str]
     opened: int
@@ -204,8 +219,7 @@ class LogRow:
 
 
 class Tail(NamedTuple):
-    """The last chunk of a shard's event log: the next commit of the shard requires that it is
-    there, unchanged.
+    """The last chunk of a shard's event log. The next commit requires that it is unchanged.
 
     Attributes:
         first_seq: How many events the shard has before it.
@@ -217,57 +231,70 @@ class Tail(NamedTuple):
 
 
 @dataclasses.dataclass(slots=True)
-class Loaded:
-    """A log as its driver takes it up: lines (without the header), how many events, and its open
-    sagas with results and held attempts.
+class LoadedShard:
+    """The stored rows of a shard that restore its driver.
+
+    Attributes:
+        text: The event log without its header.
+        events: The number of its events.
+        opened: The number of sagas that it has opened.
+        open: Its open sagas.
+        results: The results of their attempts.
+        held: Their suspended attempts.
+        epoch: The fencing token of its owner.
     """
 
     text: str
     events: int
     opened: int
-    open: list[OpenRow]
-    results: list[Result]
-    held: list[HeldRow]
+    open: list[OpenSagaRow]
+    results: list[ResultRow]
+    held: list[StoredSuspension]
     epoch: int = 0
-    line: str = ""
-    """the server's timeline as it was read, where that is kept"""
-    definitions: int = 0
-    """how many definitions the log has"""
+    timeline: str = ""
+    """The server's timeline at the read, if the database has one."""
+    definition_count: int = 0
+    """The number of the shard's definitions."""
     tail: Tail | None = None
-    """of a log that has any events, where other nodes may write it"""
+    """The last chunk, if there are events and other nodes may write the shard."""
     damage: str | None = None
-    """where its chunks do not join"""
+    """Where its chunks do not join; None if they do."""
 
 
-class Known(NamedTuple):
-    """What the store has of a saga beside its row, all of one moment."""
+class StoredSaga(NamedTuple):
+    """The stored data of a saga besides its row, read in one snapshot."""
 
     definition: str
     results: list[tuple[int, str, int, str, Optional[str], float]]
-    """step, kind, attempt, outcome, value, at: of each step its tries, then its compensation's"""
+    """step, kind, attempt, outcome, value, at: for each step, its attempts and then those of its
+    compensation."""
     chunks: list[tuple[float, str]]
-    """at, text: those of its log in which it is named, if they were asked for"""
+    """at, text: the chunks of its shard's log that name it, if they were requested."""
     shape: Optional[str] = None
-    """what is kept of its shape, where its steps come from its input"""
+    """Its stored shape, if its steps come from its input."""
 
 
 class Grant(NamedTuple):
-    """How many calls of a step may begin, the places that they have where it has a limit, and in
-    how many seconds it is worth to ask again.
+    """A grant of calls under fleet limits.
+
+    Attributes:
+        calls: The number of calls of a step that may start.
+        slots: Their slots, if the step has a limit.
+        pause: Seconds until the next request is useful.
     """
 
     calls: int
-    places: list[int]
+    slots: list[int]
     pause: float
 
 
 class SagaRow(NamedTuple):
-    """A saga as the store has it."""
+    """The stored row of a saga."""
 
     id: int
     key: str
     saga: str
-    place: int
+    definition_index: int
     input: str
     at: float
     phase: str | None

@@ -12,7 +12,7 @@ from sagas.definition import children
 PARTS = {"key", "phase", "results"}
 FORM = '{"key": KEY, "phase": "completed", "results": {STEP: RESULT}}'
 CHILDREN = "SELECT s.key, {} FROM children c JOIN sagas s ON s.id = c.id WHERE c.parent = ?"
-"""The children of a saga by its id, each with its phase, which is to be put in."""
+"""Select the children of a saga by its id. `{}` takes the expression of the phase."""
 
 
 def check(
@@ -29,23 +29,29 @@ def check(
         step: The step's name.
         result: What is reported, as JSON values.
         rows: All children of the saga: their keys and phases.
-        steps: The names of the child's steps; None: they are not known.
+        steps: The names of the child's steps, or None if they are unknown.
 
     Raises:
-        InvalidResult: It is neither the result of a child that this step started and that has
-            ended, nor that of none. The message has nothing of the result.
+        InvalidResult: The result is neither that of an ended child of this step nor that of
+            no child. The message does not show the result.
     """
-    there = {key_of: phase for key_of, phase in rows if children.is_of_step(key_of, key, step)}
-    if fault := _fault_of_form(result, steps) or _fault_of_key(result["key"], there):
-        known = f"it started {', '.join(map(repr, sorted(there)))}" if there else "it started none"
+    children_phases = {
+        key_of: phase for key_of, phase in rows if children.is_of_step(key_of, key, step)
+    }
+    if problem := _form_error(result, steps) or _key_error(result["key"], children_phases):
+        known = (
+            f"it started {', '.join(map(repr, sorted(children_phases)))}"
+            if children_phases
+            else "it started none"
+        )
         raise InvalidResult(
-            f"saga {key!r}, step {step!r}: {fault}. Complete a step that starts a child with "
+            f"saga {key!r}, step {step!r}: {problem}. Complete a step that starts a child with "
             f"{FORM}: KEY is that of its child ({known}), or null if there is nothing to undo. "
             "Nothing was stored"
         )
 
 
-def _fault_of_form(result: Any, steps: Collection[str] | None) -> str | None:
+def _form_error(result: Any, steps: Collection[str] | None) -> str | None:
     if not isinstance(result, dict) or set(result) != PARTS:
         return "this is not the result of a child"
     if result["phase"] != SagaPhase.COMPLETED:
@@ -59,15 +65,15 @@ def _fault_of_form(result: Any, steps: Collection[str] | None) -> str | None:
     return None
 
 
-def _fault_of_key(key: str | None, there: Mapping[str, str]) -> str | None:
-    """What is wrong with a key, by the children of the step with their phases."""
-    if key is not None and key not in there:
+def _key_error(key: str | None, children_phases: Mapping[str, str]) -> str | None:
+    """Return what is wrong with a key, given the phases of the step's children; else None."""
+    if key is not None and key not in children_phases:
         return "the key is not that of a child of this step"
-    for one, phase in there.items():
-        if key in (None, one) and phase == SagaPhase.OPEN:
-            return f"its child {one!r} is open. Abort the child, or wait for its end"
+    for child, phase in children_phases.items():
+        if key in (None, child) and phase == SagaPhase.OPEN:
+            return f"its child {child!r} is open. Abort the child, or wait for its end"
         if key is None and phase == SagaPhase.COMPLETED:
-            return f"its child {one!r} has completed, so its key is needed"
+            return f"its child {child!r} has completed, so its key is needed"
     return None
 
 

@@ -1,4 +1,4 @@
-"""What a child's end comes to for the step that started it."""
+"""Keys, inputs and outcomes of child sagas, for the steps that start them."""
 
 from __future__ import annotations
 
@@ -9,21 +9,23 @@ from typing import Any
 from sagas.base.errors import NotSerializable
 from sagas.core.model import Attempt
 from sagas.core.outcomes import SUCCEEDED, Outcome, failure
-from sagas.core.results import Ended
+from sagas.core.results import SagaEnd
 from sagas.core.states import SagaPhase, StepState
 from sagas.definition import children, serialization
 from sagas.definition.compiled import CompiledDefinition
 
 
 def key_of(attempt: Attempt) -> str:
-    """Return the key of the saga that an attempt starts: the same whenever it goes on, and another
-    one once it was called again behind a child that did not complete.
+    """Return the key of the saga that an attempt starts.
+
+    The key stays the same when the attempt continues. It changes when the attempt is called again
+    after a child that did not complete.
     """
     return children.key_of(attempt.key, attempt.name, number_of(attempt), attempt.undo)
 
 
 def number_of(attempt: Attempt) -> int:
-    """Return the number of that saga: greater than 1 behind those that did not complete."""
+    """Return the number of that saga: greater than 1 after children that did not complete."""
     return attempt.attempt + attempt.failures
 
 
@@ -31,14 +33,15 @@ def undone_key(attempt: Attempt) -> str | None:
     """Return the key of the child that an attempt undoes; None if it starts one."""
     if attempt.undo:
         return str(attempt.task().result["key"])
-    if attempt.instance.kind.undoes is not None:  # it undoes a child of the one that is undone
+    if attempt.instance.kind.undoes is not None:  # it undoes a child of the undone saga
         return str(child_input(attempt)())
     return None
 
 
 def child_input(attempt: Attempt) -> Callable[[], Any]:
-    """Return what returns the input of a child, as the step's function says it. A thread may call
-    it.
+    """Return a callable for the input of a child, which the step's function computes.
+
+    A thread may call it.
 
     Raises:
         CannotDecode: The codec failed.
@@ -48,11 +51,14 @@ def child_input(attempt: Attempt) -> Callable[[], Any]:
     return functools.partial(function, attempt.task())
 
 
-def _written(value: Any) -> str:
-    """A child's end as JSON. It adds levels to those of the child's results, which may have ends of
-    children themselves."""
+def _written(end: Any) -> str:
+    """Return a child's end as JSON.
+
+    It nests the child's results, which may hold the ends of further children, so it may be too
+    deep to store.
+    """
     try:
-        return serialization.write(value)
+        return serialization.write(end)
     except NotSerializable as error:
         return serialization.write({serialization.UNSTORABLE: str(error)})
 
@@ -70,7 +76,7 @@ def undo_input(
 
     Args:
         key: The child's key.
-        token: The child's token, of which the idempotency keys are made.
+        token: The child's token, from which its idempotency keys are computed.
         kind: The child's definition.
         text: The child's input, as it is stored.
         results: The results of the child's steps, as they are stored, by the steps' numbers.
@@ -90,12 +96,12 @@ def undo_input(
     }
 
 
-def left_by(child: Mapping[str, str], earlier: Iterable[Mapping[str, str]]) -> set[str]:
+def undone_steps(child: Mapping[str, str], earlier: Iterable[Mapping[str, str]]) -> set[str]:
     """Return the steps of a child that have nothing left to undo.
 
     Args:
         child: The states of its steps, by name.
-        earlier: Those of the steps of the sagas that were to undo it before.
+        earlier: The step states of each earlier saga that undid the child.
     """
     undone = {name for name, state in child.items() if state != StepState.COMMITTED}
     for states in earlier:
@@ -103,8 +109,8 @@ def left_by(child: Mapping[str, str], earlier: Iterable[Mapping[str, str]]) -> s
     return undone
 
 
-def outcome(end: Ended, kind: CompiledDefinition, results: Mapping[int, str]) -> Outcome | None:
-    """Return what a child's end comes to.
+def child_outcome(end: SagaEnd, kind: CompiledDefinition, results: Mapping[int, str]) -> Outcome | None:
+    """Return the outcome of a step whose child has ended.
 
     Args:
         end: How it ended.
@@ -112,18 +118,18 @@ def outcome(end: Ended, kind: CompiledDefinition, results: Mapping[int, str]) ->
         results: As of `undo_input`.
 
     Returns:
-        None where it is stuck: a person has to look at it first.
+        None if the child is stuck: an operator has to resolve it first.
     """
     if end.phase == SagaPhase.STUCK:
         return None
     if end.phase == SagaPhase.COMPLETED:
         decode = kind.payloads.decode
-        told = {
+        child_results = {
             kind.names[step]: serialization.read(decode(value)) for step, value in results.items()
         }
-        value = {"key": end.key, "phase": end.phase, "results": told}
+        value = {"key": end.key, "phase": end.phase, "results": child_results}
         return Outcome(SUCCEEDED, _written(value))
     aborted = " (aborted)" if end.aborted else ""
     failed = [f"{step}: {error}" for step, error in end.errors.items()]
-    told_errors = f". {'; '.join(failed)}" if failed else ""
-    return failure(f"child saga {end.key!r} has not completed: {end.phase}{aborted}{told_errors}")
+    error_text = f". {'; '.join(failed)}" if failed else ""
+    return failure(f"child saga {end.key!r} has not completed: {end.phase}{aborted}{error_text}")

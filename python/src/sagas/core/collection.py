@@ -14,8 +14,9 @@ from sagas.definition.payloads import ABSENT
 
 
 def collected(attempt: Attempt, outcome: Outcome) -> Outcome:
-    """Return what is reported of an attempt: the last failure of an item that is collected is a
-    result, unless its saga is to be undone.
+    """Return the outcome to report for an attempt.
+
+    The last failure of a collected item becomes a result, unless its saga is being undone.
     """
     if outcome.kind not in (FAILED, PERMANENT) or attempt.undo or attempt.instance.draining:
         return outcome
@@ -29,8 +30,10 @@ def collected(attempt: Attempt, outcome: Outcome) -> Outcome:
 
 
 def has_nothing_to_undo(attempt: Attempt) -> bool:
-    """Whether it is the compensation of an item whose failure was collected, or of a step that was
-    completed without a child; or, in a saga that undoes a child, of what is undone already.
+    """Whether an attempt is a compensation without an effect to undo.
+
+    Its item's failure was collected, its step was completed without a child, or, in a saga that
+    undoes a child, the step is undone already.
     """
     if not attempt.undo:
         return _undoes_child(attempt) and attempt.name in _undone_before(attempt)
@@ -38,19 +41,19 @@ def has_nothing_to_undo(attempt: Attempt) -> bool:
     if not step.is_collected and step.child is None:
         return False
     try:
-        own = attempt.own_result
+        stored_result = attempt.own_result
     except CannotDecode:  # the attempt is suspended for that when its values are read
         return False
-    if own is None:
+    if stored_result is None:
         return False
-    result = serialization.read(own)
+    result = serialization.read(stored_result)
     if step.child is not None:
         return child_results.is_none(result)
     return serialization.failed(result) is not None
 
 
-def is_unclear(attempt: Attempt) -> bool:
-    """Whether it may be such a compensation: the value that says so is not held."""
+def needs_stored_value(attempt: Attempt) -> bool:
+    """Whether `has_nothing_to_undo` needs a value that is not held."""
     if not attempt.undo:
         return _undoes_child(attempt) and attempt.instance.text == ABSENT
     step = attempt.declared
@@ -65,11 +68,11 @@ def _undoes_child(attempt: Attempt) -> bool:
 
 
 def _undone_before(attempt: Attempt) -> Sequence[str]:
-    """The steps of the child that its saga need not undo, as its input says."""
+    """Return the steps of the child that are undone already, from the input of its saga."""
     instance = attempt.instance
     try:
-        given = serialization.read(instance.kind.payloads.decode(instance.text))
+        saga_input = serialization.read(instance.kind.payloads.decode(instance.text))
     except CannotDecode:  # the attempt is suspended for that when its values are read
         return ()
-    undone: Sequence[str] = given.get("undone", ()) if isinstance(given, dict) else ()
+    undone: Sequence[str] = saga_input.get("undone", ()) if isinstance(saga_input, dict) else ()
     return undone

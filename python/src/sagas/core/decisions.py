@@ -5,55 +5,56 @@ from __future__ import annotations
 import dataclasses
 import enum
 
-from sagas.core.declared_values import Question
+from sagas.core.declared_values import OptionCalls
 from sagas.core.suspensions import SuspensionRow
 
 
 class Do(enum.Enum):
-    """What the runtime does with an attempt now."""
+    """Name what the runtime does with an attempt now."""
 
     NOTHING = enum.auto()
     CALL = enum.auto()
     """Call its function, within the limits."""
     READ = enum.auto()
-    """A function needs values that are not held: read them, and ask again. Its state stays."""
+    """Read values that are not held, then ask for the next decision. The state is unchanged."""
     ASK = enum.auto()
-    """Functions of its definition say something of it: call them, let `returned` of the attempt
-    have the answers, and ask again. Its state stays.
+    """Call functions of the definition, put their results into `returned` of the attempt, and ask
+    for the next decision. The state is unchanged.
     """
     OFFER = enum.auto()
     """Offer it to external workers: it is suspended until one of them reports it."""
     WITHDRAW = enum.auto()
-    """Take it back from external workers, unless one of them has it."""
+    """Withdraw it from external workers, unless one of them has it."""
     FOLLOW = enum.auto()
-    """Start its child saga, unless that is there, and report the attempt once the child has ended.
-    If its saga is aborted, abort the child. It may be followed already.
+    """Start its child saga unless it exists, and report the attempt when the child has ended. If
+    the saga is aborted, abort the child. The runtime may follow the child already.
     """
     SUSPEND = enum.auto()
-    """It is suspended: put its row into the store, and set a timer, as the decision says."""
+    """It is suspended: store its row and set a timer, if the decision has them."""
     REPORT = enum.auto()
     """It is finished: report it to its shard."""
     REPORT_AGAIN = enum.auto()
-    """As `REPORT`, of one whose report was not kept: its worker may have reported it, too."""
+    """As `REPORT`, if an earlier report was not stored: its worker may have reported it, too."""
 
 
 @dataclasses.dataclass(frozen=True, slots=True)
 class Decision:
-    """What is to be done with an attempt, whose state is changed already.
+    """Say what the runtime does with an attempt, whose state is changed already.
 
     Attributes:
-        do: What is to be done.
-        row: The row to be put into the store. Once it is there, `AttemptMachine.stored` is asked.
-        timer: Whether a timer is set now; then `AttemptMachine.timer` is asked.
-        event: The name and the detail of an event to be told.
-        question: What is to be called, of `ASK`.
+        do: What the runtime does.
+        row: The row to store. When it is stored, the runtime calls `AttemptMachine.stored`.
+        timer: Whether to set a timer now. When it fires, the runtime calls
+            `AttemptMachine.timer`.
+        event: The name and the detail of an event to emit.
+        option_calls: The functions to call, for `ASK`.
     """
 
     do: Do
     row: SuspensionRow | None = None
     timer: bool = False
     event: tuple[str, str] | None = None
-    question: Question | None = None
+    option_calls: OptionCalls | None = None
 
 
 NOTHING, CALL, OFFER = Decision(Do.NOTHING), Decision(Do.CALL), Decision(Do.OFFER)

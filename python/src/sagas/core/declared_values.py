@@ -1,4 +1,4 @@
-"""What a definition's functions return for an attempt: the end of a wait, the key of a limit."""
+"""Functions of a definition that return the end of a wait, the key of a limit or a tenant."""
 
 from __future__ import annotations
 
@@ -9,85 +9,87 @@ from collections.abc import Callable, Iterable, Mapping
 from typing import Any
 
 from sagas.core.model import Attempt
-from sagas.core.suspensions import Returned, Subject, tenant_of
+from sagas.core.suspensions import FunctionResult, FunctionOption, tenant_of
 from sagas.definition import serialization
 from sagas.definition.step import Until
 from sagas.definition.task import Task
 
 
 @dataclasses.dataclass(frozen=True, slots=True)
-class Question:
-    """Functions of a definition that have to be called before an attempt goes on.
+class OptionCalls:
+    """Functions of a definition that are called before an attempt continues.
 
     Attributes:
-        calls: What each is called for, and what calls it. A thread may do that.
+        calls: A callable for each option. A thread may call them.
     """
 
-    calls: Mapping[Subject, Callable[[], Any]]
+    calls: Mapping[FunctionOption, Callable[[], Any]]
 
-    def answers(self) -> dict[Subject, Returned]:
-        """Call them. What they raise is a part of the answers."""
+    def answers(self) -> dict[FunctionOption, FunctionResult]:
+        """Call the functions, and return their results and errors by option."""
         return {subject: _returned(call) for subject, call in self.calls.items()}
 
     @property
-    def words(self) -> str:
-        """What they are declared as."""
+    def option_names(self) -> str:
+        """The options with which the functions were declared, for messages."""
         return " and ".join(f"{subject.value}=" for subject in self.calls)
 
 
-def _returned(call: Callable[[], Any]) -> Returned:
+def _returned(call: Callable[[], Any]) -> FunctionResult:
     try:
-        return Returned(call())
+        return FunctionResult(call())
     except Exception as error:
-        return Returned(error=error)
-    except BaseException as error:  # nothing of a thread may end the program
-        return Returned(error=RuntimeError(f"{type(error).__name__}: {error}"))
+        return FunctionResult(error=error)
+    except BaseException as error:  # no exception of a thread may end the program
+        return FunctionResult(error=RuntimeError(f"{type(error).__name__}: {error}"))
 
 
-def of_until(attempt: Attempt) -> Question:
-    """Return what asks for the end of a wait.
+def until_call(attempt: Attempt) -> OptionCalls:
+    """Return the call that computes the end of a wait.
 
     Raises:
         CannotDecode: The codec failed.
     """
     until = attempt.declared.until
     assert callable(until)
-    return Question({Subject.UNTIL: functools.partial(until, attempt.task())})
+    return OptionCalls({FunctionOption.UNTIL: functools.partial(until, attempt.task())})
 
 
-def limit_subjects(attempt: Attempt) -> list[Subject]:
-    """Return what has to be asked before the limits of a step can count an attempt: the tenant of
-    its saga, and the key of the limits."""
-    found, instance, extras = list[Subject](), attempt.instance, attempt.extras
+def limit_subjects(attempt: Attempt) -> list[FunctionOption]:
+    """Return the options to evaluate before the limits of a step can count an attempt.
+
+    They are the tenant of its saga and the key of the limits.
+    """
+    options, instance, extras = list[FunctionOption](), attempt.instance, attempt.extras
     if instance.kind.fair_by is not None and instance.tenant is None:
-        found.append(Subject.TENANT)
+        options.append(FunctionOption.TENANT)
     is_keyed = not attempt.undo and attempt.declared.concurrency_by is not None
     if is_keyed and (extras is None or extras.limit_key is None):
-        found.append(Subject.LIMIT_KEY)
-    return found
+        options.append(FunctionOption.LIMIT_KEY)
+    return options
 
 
-def of_limits(attempt: Attempt, subjects: Iterable[Subject]) -> Question:
-    """Return what asks for these.
+def limit_calls(attempt: Attempt, subjects: Iterable[FunctionOption]) -> OptionCalls:
+    """Return the calls that compute these options.
 
     Raises:
         CannotDecode: The codec failed.
     """
-    calls: dict[Subject, Callable[[], Any]] = {}
+    calls: dict[FunctionOption, Callable[[], Any]] = {}
     instance, kind = attempt.instance, attempt.instance.kind
-    if Subject.TENANT in subjects:
+    if FunctionOption.TENANT in subjects:
         assert kind.fair_by
         text = kind.payloads.decode(instance.text)
-        calls[Subject.TENANT] = functools.partial(tenant_of, kind.fair_by, text, kind.name)
-    if Subject.LIMIT_KEY in subjects:
+        calls[FunctionOption.TENANT] = functools.partial(tenant_of, kind.fair_by, text, kind.name)
+    if FunctionOption.LIMIT_KEY in subjects:
         by = attempt.declared.concurrency_by
         assert by
-        calls[Subject.LIMIT_KEY] = functools.partial(_limit_key, by, attempt.task())
-    return Question(calls)
+        calls[FunctionOption.LIMIT_KEY] = functools.partial(_limit_key, by, attempt.task())
+    return OptionCalls(calls)
 
 
 def _limit_key(by: Callable[[Any], Any], task: Task[Any]) -> str:
-    """The key of a limit, as JSON. Raises `NotSerializable` where it is not JSON."""
+    """Return the key of a limit as JSON. Raises `NotSerializable` if it cannot be JSON."""
     return serialization.write(by(task.input), "key")
 
 
@@ -95,11 +97,11 @@ def due_time(until: Until | Any, now: float) -> float:
     """Return when a wait is over.
 
     Args:
-        until: What the definition says, or its function returned.
+        until: The value of the definition, or what its function returned.
         now: Wall time in seconds.
 
     Raises:
-        TypeError: It is no time.
+        TypeError: The value is not a time.
     """
     if isinstance(until, datetime.timedelta):
         return now + until.total_seconds()
@@ -107,6 +109,6 @@ def due_time(until: Until | Any, now: float) -> float:
         return until.timestamp()
     is_text, is_naive = isinstance(until, str), isinstance(until, datetime.datetime)
     remedy = ". Convert the text with datetime.datetime.fromisoformat" if is_text else ""
-    told = "a datetime without a time zone" if is_naive else type(until).__name__
+    description = "a datetime without a time zone" if is_naive else type(until).__name__
     rule = "it must be a timedelta or a datetime with a time zone"
-    raise TypeError(f"until returned {told}: {rule}{remedy}")
+    raise TypeError(f"until returned {description}: {rule}{remedy}")

@@ -10,13 +10,14 @@ from sagas.definition import tokens
 from sagas.definition.capacity import SHARD_CAPACITY
 
 
-class Settled(SagasError):
-    """Another message of this attempt had its effect first: what this one wrote is rolled back."""
+class AlreadyReported(SagasError):
+    """Another message of this attempt was reported first: this transaction is rolled back."""
 
 
-class Begun(NamedTuple):
-    """The texts of an attempt, whole: JSON. `shape`: the definition and what is kept of the
-    saga's shape, where its steps come from its input.
+class AttemptTexts(NamedTuple):
+    """The complete texts of an attempt, as JSON.
+
+    `shape`: the definition and the stored shape, if the saga's steps come from its input.
     """
 
     input: str
@@ -34,21 +35,24 @@ class Declared(NamedTuple):
 
 
 class Position(NamedTuple):
-    """Where a result stands that the order does not carry: the number of its step."""
+    """The step whose result the order does not contain: the worker fetches it."""
 
     step: int
 
 
-Carried = dict[str, Any]
+OrderMessage = dict[str, Any]
 
 
 @dataclasses.dataclass(frozen=True, slots=True)
 class Order:
-    """An attempt, as it is ordered elsewhere. Texts are JSON; None or a `Position` where they
-    are to be fetched.
+    """An attempt as a message to a worker. Texts are JSON; None or a `Position` if the worker
+    fetches them.
 
-    `log` and `number` name the saga; `lease`: a greater one each time that it is sent;
-    `declared`: where the step was declared, if the saga's steps come from its input.
+    Attributes:
+        log: The name of the saga's shard.
+        number: The saga's number in its shard.
+        lease: Greater each time that the message is sent.
+        declared: Where the step was declared, if the saga's steps come from its input.
     """
 
     saga: str
@@ -69,34 +73,39 @@ class Order:
 
     @property
     def task(self) -> str:
-        """The name of what is done, for workers."""
+        """The name of the step's action, under which workers register functions."""
         saga, version, step = self.declared or (self.saga, self.version, self.step)
         return f"{saga if version == 1 else f'{saga}@{version}'}.{step}.{self.kind}"
 
     @property
     def token(self) -> str:
-        """The token of the attempt."""
+        """The id of the attempt."""
         saga = tokens.saga_token(self.log, self.number)
         return tokens.attempt_id(tokens.idempotency_key(saga, self.step, self.kind), self.attempt)
 
-    def written(self) -> Carried:
-        """As a message carries it: JSON."""
+    def written(self) -> OrderMessage:
+        """Return the order as JSON values for a message."""
         return {field.name: getattr(self, field.name) for field in dataclasses.fields(self)}
 
     @classmethod
-    def read(cls, told: Carried) -> Order:
-        """What `written` wrote. Raises `KeyError` or `TypeError` where it is no order."""
-        results = {name: _of(value) for name, value in told["results"].items()}
-        declared = told.get("declared")
-        made: Carried = {"results": results, "result": _of(told["result"])}
-        made["declared"] = Declared(*declared) if declared else None
-        return cls(**told | made)
+    def read(cls, message: OrderMessage) -> Order:
+        """Return the order of a message.
+
+        Raises:
+            KeyError: A field is missing.
+            TypeError: A field is unknown or invalid.
+        """
+        results = {name: _of(value) for name, value in message["results"].items()}
+        declared = message.get("declared")
+        fields: OrderMessage = {"results": results, "result": _of(message["result"])}
+        fields["declared"] = Declared(*declared) if declared else None
+        return cls(**message | fields)
 
 
-def _of(told: Any) -> Any:
-    return Position(*told) if isinstance(told, list) else told
+def _of(value: Any) -> Any:
+    return Position(*value) if isinstance(value, list) else value
 
 
-def id_of(log: int, number: int) -> int:
-    """A saga's id."""
+def saga_id(log: int, number: int) -> int:
+    """Return the id of a saga from the number of its shard and its number there."""
     return log * SHARD_CAPACITY + number

@@ -1,7 +1,7 @@
-"""Reports that come before their step begins: stored with the saga, and used when it begins.
+"""Reports that arrive before their step starts: stored with the saga, and used at the start.
 
-They stand among the suspensions, as of attempt 0, and go away with the report of the attempt that
-takes them. Where no attempt does, they stay with the saga: the same report again is no error.
+They are stored as suspensions of attempt 0, and are deleted with the report of the attempt that
+uses them. If no attempt uses them, they stay with the saga, so the same report again succeeds.
 """
 
 from __future__ import annotations
@@ -11,9 +11,9 @@ from collections.abc import Iterable
 from typing import TYPE_CHECKING, NamedTuple
 
 from sagas.base.errors import CannotDecode
-from sagas.core.batch import HeldRow, Wanted
+from sagas.core.batch import StoredSuspension, RequestRef
 from sagas.core.model import Attempt, SagaInstance
-from sagas.core.outcomes import MOST_TEXT, SUCCEEDED, Outcome
+from sagas.core.outcomes import MAX_TEXT, SUCCEEDED, Outcome
 from sagas.core.states import Action, EarlyReason, OutcomeKind
 from sagas.definition.compiled import ActionKey
 
@@ -21,9 +21,9 @@ if TYPE_CHECKING:
     from sagas.core.effects import Effects
     from sagas.core.shard import ShardDriver
 
-ATTEMPT = 0
-"""The number of an attempt that no engine begins."""
-KINDS = {
+EARLY_ATTEMPT = 0
+"""The attempt number of early reports: the engine starts no attempt with this number."""
+EARLY_OUTCOMES = {
     EarlyReason.RESULT: OutcomeKind.SUCCEEDED,
     EarlyReason.ERROR: OutcomeKind.FAILED_PERMANENTLY,
     EarlyReason.UNDONE: OutcomeKind.SUCCEEDED,
@@ -34,22 +34,22 @@ NOT_STARTED = "it has not started. Report it after it starts"
 
 @dataclasses.dataclass(eq=False, slots=True)
 class EarlyReport:
-    """Somebody says how a step ended that has not begun.
+    """A report of a step that has not started.
 
     Attributes:
         saga: The saga, which the store has.
-        word: The step.
-        outcome: What is said of it.
-        request: The operator's command that it is of, which is answered in the commit.
+        action_key: The step.
+        outcome: The reported outcome.
+        request: The operator's command to answer in the commit, if any.
     """
 
     saga: SagaInstance
-    word: ActionKey
+    action_key: ActionKey
     outcome: Outcome
-    request: Wanted = None
+    request: RequestRef = None
 
     def keep(self) -> tuple[EarlyReason, str]:
-        """Let the saga know it from now on; return what is stored of it.
+        """Add the report to the saga, and return its reason and text as stored.
 
         Raises:
             NotSerializable: The codec failed.
@@ -58,26 +58,26 @@ class EarlyReport:
         if is_good:
             text = self.saga.kind.payloads.encode(text)
         reason = EarlyReason.RESULT if is_good else EarlyReason.ERROR
-        self.saga.rare.early[self.word] = (reason, text)
+        self.saga.rare.early_reports[self.action_key] = (reason, text)
         return reason, text
 
-    def row(self, now: float) -> HeldRow:
-        """As `keep`; return its row."""
+    def row(self, now: float) -> StoredSuspension:
+        """Add the report to the saga, and return its row."""
         reason, text = self.keep()
-        return (self.saga.id, *self.word, ATTEMPT, reason.value, 0, now, None, text)
+        return (self.saga.id, *self.action_key, EARLY_ATTEMPT, reason.value, 0, now, None, text)
 
 
 class DueReport(NamedTuple):
-    """A success that was reported of a step, whose needs are committed, and that has not begun."""
+    """A reported success of a step that has not started and whose needs are committed."""
 
     saga: SagaInstance
-    word: ActionKey
+    action_key: ActionKey
     outcome: Outcome
 
 
 @dataclasses.dataclass(eq=False, slots=True)
 class Refusal:
-    """A report is about to be refused, because of what was decided of its saga so far.
+    """A report that is refused because of the current state of its saga.
 
     Attributes:
         saga: The saga, which the store has.
@@ -86,10 +86,10 @@ class Refusal:
     saga: SagaInstance
 
 
-def refusal(saga: SagaInstance, step: int, kind: str) -> str | None:
-    """Why no report of a step is taken before it begins; None where one is.
+def refusal_reason(saga: SagaInstance, step: int, kind: str) -> str | None:
+    """Return why a report of a step is refused before it starts; None if it is accepted.
 
-    It is one that somebody reports, and it will begin as far as is known.
+    It is accepted for an approval or an external step that is expected to start.
     """
     declared = saga.kind.steps[step]
     if kind == Action.COMPENSATE or declared is None:
@@ -102,42 +102,46 @@ def refusal(saga: SagaInstance, step: int, kind: str) -> str | None:
 
 
 def stored(saga: SagaInstance, word: ActionKey) -> Outcome | None:
-    """Return the report that is stored for a step; its value is as the store has it."""
-    if not saga.has_early or word not in saga.rare.early:
+    """Return the report that is stored for a step, with its value as stored; None if none."""
+    if not saga.has_early or word not in saga.rare.early_reports:
         return None
-    reason, text = saga.rare.early[word]
-    return Outcome(KINDS[reason], text)
+    reason, text = saga.rare.early_reports[word]
+    return Outcome(EARLY_OUTCOMES[reason], text)
 
 
-def due(sagas: Iterable[SagaInstance], lot: Iterable[Attempt]) -> list[DueReport]:
-    """Return the reports that are committed before their sagas begin to recover: then they are
-    compensated as any other. What needs such a step is due behind it.
+def due_reports(sagas: Iterable[SagaInstance], attempts: Iterable[Attempt]) -> list[DueReport]:
+    """Return the reports to commit before their sagas start to recover.
+
+    Committed steps are then compensated like any others. A step that needs another one of these
+    comes after it.
 
     Args:
         sagas: The sagas that are about to recover, as far as is known.
-        lot: The attempts that are reported before that.
+        attempts: The attempts that are reported before that.
     """
-    found: list[DueReport] = []
+    reports: list[DueReport] = []
     for saga in dict.fromkeys(sagas):
         if not saga.has_early or saga.aborted or saga.draining or saga.answer is not None:
             continue
         done = {*saga.results}
         done |= {
-            one.step for one in lot if one.instance is saga and is_success(one) and not one.undo
+            attempt.step
+            for attempt in attempts
+            if attempt.instance is saga and is_success(attempt) and not attempt.undo
         }
-        left = [word for word in saga.rare.early if _may_begin(saga, word)]
+        left = [word for word in saga.rare.early_reports if _may_begin(saga, word)]
         while ready := [word for word in left if done >= {*saga.kind.below[word[0]]}]:
             for word in ready:
-                reason, text = saga.rare.early[word]
+                reason, text = saga.rare.early_reports[word]
                 if reason is EarlyReason.RESULT:
-                    found.append(DueReport(saga, word, Outcome(SUCCEEDED, text, encoded=True)))
+                    reports.append(DueReport(saga, word, Outcome(SUCCEEDED, text, encoded=True)))
                     done.add(word[0])
             left = [word for word in left if word not in ready]
-    return found
+    return reports
 
 
 def is_success(attempt: Attempt) -> bool:
-    """Whether an attempt that is finished has succeeded."""
+    """Whether a finished attempt has succeeded."""
     return attempt.outcome is not None and attempt.outcome.kind is SUCCEEDED
 
 
@@ -146,19 +150,20 @@ def _may_begin(saga: SagaInstance, word: ActionKey) -> bool:
 
 
 def unused(saga: SagaInstance) -> list[int]:
-    """Return the steps of a saga that is over whose success was reported, and not used. An approval
-    has nothing to be undone.
+    """Return the steps of an ended saga whose reported success was not used.
+
+    Approvals are left out: they have nothing to undo.
     """
-    return [step for step in _left(saga) if not _has_no_effect(saga, step)]
+    return [step for step in _unused_successes(saga) if not _has_no_effect(saga, step)]
 
 
-def without_effect(saga: SagaInstance) -> list[int]:
-    """As `unused`, the steps that have nothing to be undone."""
-    return [step for step in _left(saga) if _has_no_effect(saga, step)]
+def steps_without_effect(saga: SagaInstance) -> list[int]:
+    """Return the steps with an unused report that have nothing to undo."""
+    return [step for step in _unused_successes(saga) if _has_no_effect(saga, step)]
 
 
-def _left(saga: SagaInstance) -> list[int]:
-    early = saga.rare.early if saga.has_early else {}
+def _unused_successes(saga: SagaInstance) -> list[int]:
+    early = saga.rare.early_reports if saga.has_early else {}
     return sorted(step for (step, _), (reason, _) in early.items() if reason is EarlyReason.RESULT)
 
 
@@ -167,35 +172,37 @@ def _has_no_effect(saga: SagaInstance, step: int) -> bool:
     return declared is not None and declared.undo.implied
 
 
-def taken(attempt: Attempt) -> Outcome | None:
-    """Return how an attempt that begins is over, by what was reported before: its function is not
-    called, and nobody is asked. It counts also where its saga drains by now: the effect is there.
+def taken_outcome(attempt: Attempt) -> Outcome | None:
+    """Return the outcome that was reported before an attempt started.
+
+    Its function is not called, and no operator is asked. The report also counts if the saga drains
+    by now, because the effect exists.
 
     Returns:
-        None where nothing is stored for it; one of the kind `CANNOT_DECODE` where the codec cannot
+        None if no report is stored; an outcome of the kind `CANNOT_DECODE` if the codec cannot
         read it.
     """
-    found = None if attempt.undo else stored(attempt.instance, attempt.word)
-    if found is None:
+    report = None if attempt.undo else stored(attempt.instance, attempt.action_key)
+    if report is None:
         return None
     attempt.has_row = True
-    if found.kind is not SUCCEEDED:
-        return found
+    if report.kind is not SUCCEEDED:
+        return report
     try:
-        return found._replace(value=attempt.instance.kind.payloads.decode(found.value))
+        return report._replace(value=attempt.instance.kind.payloads.decode(report.value))
     except CannotDecode as error:
-        return Outcome(OutcomeKind.CANNOT_DECODE, str(error)[:MOST_TEXT])
+        return Outcome(OutcomeKind.CANNOT_DECODE, str(error)[:MAX_TEXT])
 
 
 def effects(driver: ShardDriver, report: EarlyReport | Refusal, now: float) -> Effects:
-    """Keep a report: the batch is its row. A refusal has none, and goes behind what was decided.
+    """Return effects that store a report. A refusal has no row, and waits for earlier commits.
 
     Raises:
         NotSerializable: The codec failed.
     """
-    found = driver.effects(now)
+    result = driver.effects(now)
     if isinstance(report, EarlyReport):
-        found.batch.more.held.append(report.row(now))
-        found.batch.answer(report.request, "true")
-    found.more.early.append(report)
-    return found
+        result.batch.rare_rows.held.append(report.row(now))
+        result.batch.answer(report.request, "true")
+    result.rare_effects.early.append(report)
+    return result

@@ -5,7 +5,7 @@ from __future__ import annotations
 import dataclasses
 from collections.abc import Sequence
 
-from sagas.core.batch import Batch, Wanted, Withdrawal
+from sagas.core.batch import Batch, RequestRef, Withdrawal
 from sagas.core.early_reports import DueReport, EarlyReport, Refusal
 from sagas.core.model import Attempt, SagaInstance
 from sagas.core.suspensions import SuspensionRow
@@ -13,41 +13,41 @@ from sagas.core.suspensions import SuspensionRow
 
 @dataclasses.dataclass(eq=False, slots=True)
 class Abort:
-    """Somebody wants a saga aborted.
+    """A request to abort a saga.
 
     Attributes:
         saga: The saga.
-        command: The operator's command that it is of, which is answered in the commit.
-        done: Whether the saga is aborted by it; None until that is known.
-        is_repeated: Whether another one has aborted the saga before.
+        command: The operator's command to answer in the commit, if any.
+        done: Whether this request aborted the saga; None until that is known.
+        is_repeated: Whether another request aborted the saga before.
     """
 
     saga: SagaInstance
-    command: Wanted = None
+    command: RequestRef = None
     done: bool | None = None
     is_repeated: bool = False
 
 
 @dataclasses.dataclass(eq=False, slots=True)
 class RareEffects:
-    """What most answers do not come to.
+    """Effects that most replies do not have.
 
-    Done at once:
-        displaced: The shard has no room for these: another one opens them.
+    The runtime applies at once:
+        displaced: Sagas that the full shard cannot open: another shard opens them.
 
-    Done once the batch is durable, in this order:
-        suspended: Attempts, each with the row of its suspension that is kept.
-        offered: These attempts are offered to external workers.
-        withdrawn: These are offered no more, where the withdrawal is done.
-        draining: A step of these sagas failed, so that they drain: what waits of them and was not
-            called is given up (`AttemptMachine.drain`).
-        overdue: These sagas are aborted, because their deadlines had passed as they were opened
-            or recovered. Of those that are opened, it is done once they are started.
-        taken: The first attempts of steps that were reported before they began, and are committed
-            before their sagas recover: each with its `event`.
-        early: These reports of steps that have not begun are stored, or refused.
-        aborted: These were answered, each with `done`.
-        planned: These sagas go by a plan that was adopted, their `answer`.
+    It applies after the batch is durable, in this order:
+        suspended: Attempts, each with the stored row of its suspension.
+        offered: Attempts that are now offered to external workers.
+        withdrawn: Attempts that are not offered any more, if their withdrawal is done.
+        draining: Sagas that drain because a step failed: their waiting attempts that were not
+            called are given up (`AttemptMachine.drain`).
+        overdue: Sagas that are aborted because their deadlines had passed when they were opened
+            or recovered. If they are opened now, this follows their start.
+        taken: The first attempts of steps that were reported early, committed before their sagas
+            recover, each with its `event`.
+        early: Early reports that are stored or refused.
+        aborted: Abort requests that were answered, each with `done`.
+        planned: Sagas that adopted a plan, which is their `answer`.
     """
 
     displaced: list[SagaInstance] = dataclasses.field(default_factory=list)
@@ -62,26 +62,26 @@ class RareEffects:
     planned: list[SagaInstance] = dataclasses.field(default_factory=list)
 
 
-NOTHING_RARE = RareEffects()
-"""Of effects that have nothing of it; nothing is put into this one."""
+NO_RARE_EFFECTS = RareEffects()
+"""The rare effects of most `Effects`. Nothing is added to this object."""
 
 
 class Effects:
-    """What an answer of the engine comes to.
+    """The effects of the engine's replies to one request.
 
-    Done at once:
-        unclaimed: So many tasks were asked for, and are not there.
+    The runtime applies at once:
+        unclaimed: The number of tasks that were requested but do not exist.
 
-    Done once the batch is durable, in this order:
-        reported: Their reports are kept, each with its `event`.
-        opened: These sagas are started.
-        ended: These sagas are over, with `phase` and `end`.
-        dispatch: These attempts begin.
+    It applies after the batch is durable, in this order:
+        reported: Attempts whose reports are stored, each with its `event`.
+        opened: Sagas that are started.
+        ended: Sagas that have ended, with `phase` and `end`.
+        dispatch: Attempts that start.
 
     Attributes:
-        batch: What is to be made durable. It is false if there is nothing.
-        is_written: Whether the batch is on its way to the store, or was (`ShardDriver.writes`).
-        rare: What else is done; `more` is what that is put into.
+        batch: The rows to store. It is false if there are none.
+        is_written: Whether the batch was passed to the store (`ShardDriver.begin_commit`).
+        rare: Further effects. Add them to `rare_effects`.
     """
 
     __slots__ = (
@@ -103,63 +103,66 @@ class Effects:
         self.ended: list[SagaInstance] = []
         self.dispatch: list[Attempt] = []
         self.is_written = False
-        self.rare = NOTHING_RARE
+        self.rare = NO_RARE_EFFECTS
 
     @property
-    def more(self) -> RareEffects:
-        """What most have nothing of, to be put into."""
-        if self.rare is NOTHING_RARE:
+    def rare_effects(self) -> RareEffects:
+        """The rare effects, created at the first use, to add to."""
+        if self.rare is NO_RARE_EFFECTS:
             self.rare = RareEffects()
         return self.rare
 
 
-class Question:
-    """What the engine was asked, and has not answered.
+class EngineRequest:
+    """A request to the engine that is not answered yet.
 
     Attributes:
-        lines: How many replies are to come.
-        reports: How these attempts ended.
-        early: To commit these reports, before the sagas recover.
-        goods: Where there are such: so many of `reports` are ahead of them, the others behind
-            the aborts.
-        aborts: To abort these sagas.
-        opens: To open these sagas.
-        overdue: To abort these of them at once, because their deadlines have passed.
-        defines: To know so many further definitions of the shard.
-        claims: For so many tasks; 0 if it was not asked for any.
-        odd: Those of `reports` whose sagas do not just go well.
-        plans: So many sagas are expected to be planned: each plan is a task, and takes no slot.
-        looks: How these sagas stand, by their numbers, behind all else: they are expected to be
-            over.
-        shows: How these sagas ended, by their numbers. It is asked behind the others' replies.
-        effects: What the replies came to so far.
+        reply_count: The number of expected replies.
+        reports: Attempts whose ends are reported.
+        early: Early reports to commit before their sagas recover.
+        success_count: If `early` is not empty: the number of `reports` that come before them. The
+            other reports follow the aborts.
+        aborts: Sagas to abort.
+        opens: Sagas to open.
+        overdue: Those of `opens` to abort at once, because their deadlines have passed.
+        definition_count: The number of further definitions that the engine learns.
+        claim_count: The number of requested tasks; 0 if none were requested.
+        deviating: Those of `reports` whose sagas have deviated from success.
+        expected_plans: The number of sagas that the engine is expected to plan. Each plan is a
+            task, and takes no slot.
+        expected_ends: The numbers of sagas that are expected to end. Their states are requested
+            after everything else.
+        shown_sagas: The numbers of ended sagas whose states a further request asks for.
+        effects: The effects of the replies so far.
     """
 
     __slots__ = (
-        "lines",
+        "reply_count",
         "reports",
-        "odd",
+        "deviating",
         "early",
-        "goods",
+        "success_count",
         "aborts",
         "opens",
         "overdue",
-        "defines",
-        "claims",
-        "plans",
-        "looks",
-        "shows",
+        "definition_count",
+        "claim_count",
+        "expected_plans",
+        "expected_ends",
+        "shown_sagas",
         "effects",
     )
 
     def __init__(self) -> None:
-        self.lines = self.defines = self.claims = self.plans = self.goods = 0
+        self.reply_count = (
+            self.definition_count
+        ) = self.claim_count = self.expected_plans = self.success_count = 0
         self.early: Sequence[DueReport] = ()
         self.reports: Sequence[Attempt] = ()
-        self.odd: Sequence[Attempt] = ()
+        self.deviating: Sequence[Attempt] = ()
         self.aborts: Sequence[Abort] = ()
         self.opens: Sequence[SagaInstance] = ()
         self.overdue: Sequence[SagaInstance] = ()
-        self.looks: Sequence[int] = ()
-        self.shows: Sequence[int] = ()
+        self.expected_ends: Sequence[int] = ()
+        self.shown_sagas: Sequence[int] = ()
         self.effects: Effects | None = None

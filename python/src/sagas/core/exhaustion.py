@@ -1,4 +1,4 @@
-"""What follows an attempt that failed: a pause, a failure, a person, or another call."""
+"""What follows a failed attempt: a pause, a failure, a wait for an operator, or another call."""
 
 from __future__ import annotations
 
@@ -6,29 +6,29 @@ import json
 
 from sagas.core.decisions import Decision, Do
 from sagas.core.model import Attempt
-from sagas.core.outcomes import MOST_TEXT, Outcome
+from sagas.core.outcomes import MAX_TEXT, Outcome
 from sagas.core.states import AttemptState, OutcomeKind, Suspension
 from sagas.core.suspensions import SuspensionRow
 
-LEAST_PAUSE = 0.05
+MIN_PAUSE = 0.05
 """Seconds between two calls of the same attempt."""
-YIELD, MOST_YIELD = 1.0, 60.0
-"""Seconds for which an attempt leaves its place to others whose wait for a saga was given up."""
-FAILED_BEFORE = frozenset({Suspension.RETRY, Suspension.EXHAUSTED})
+MIN_YIELD, MAX_YIELD = 1.0, 60.0
+"""Seconds for which an attempt whose wait for a saga was given up leaves its slot to others."""
+AFTER_FAILURE = frozenset({Suspension.RETRY, Suspension.EXHAUSTED})
 """Suspensions of an attempt whose last call had no effect."""
-COUNTS_FAILURES = FAILED_BEFORE | {Suspension.CHILD}
+COUNTS_FAILURES = AFTER_FAILURE | {Suspension.CHILD}
 """Suspensions whose row counts failures; others count unknown outcomes."""
-RETRIED = FAILED_BEFORE | {Suspension.UNKNOWN}
-"""Suspensions of an attempt that a person may have called again at once."""
+RETRYABLE = AFTER_FAILURE | {Suspension.UNKNOWN}
+"""Suspensions of an attempt that an operator may retry at once."""
 
 
-def go_on(attempt: Attempt, outcome: Outcome, now: float) -> Decision | None:
-    """Decide how an attempt goes on that failed, and that the engine would not make again.
+def after_failure(attempt: Attempt, outcome: Outcome, now: float) -> Decision | None:
+    """Decide how a failed attempt continues that the engine would not retry.
 
-    The same attempt is called again, or waits for a person: for the engine it is under way.
+    The same attempt is called again, or waits for an operator: for the engine it is under way.
 
     Returns:
-        None where the failure is reported: the engine makes another attempt, or the step fails.
+        None if the failure is reported: the engine makes another attempt, or the step fails.
     """
     manner, is_final = attempt.manner, outcome.kind is OutcomeKind.FAILED_PERMANENTLY
     tries = attempt.instance.kind.tries[attempt.kind][attempt.step]
@@ -36,50 +36,50 @@ def go_on(attempt: Attempt, outcome: Outcome, now: float) -> Decision | None:
         return None
     if attempt.instance.draining and not attempt.undo:
         return None
-    made = attempt.attempt + attempt.failures
-    repeats = manner.on_exhausted == "retry" or made < (manner.max_attempts or tries)
+    attempts_made = attempt.attempt + attempt.failures
+    repeats = manner.on_exhausted == "retry" or attempts_made < (manner.max_attempts or tries)
     if manner.on_exhausted == "fail" and (is_final or not repeats):
         return None
-    told = json.loads(outcome.value)
-    detail = str(told.get("error", ""))[:MOST_TEXT]
+    failure = json.loads(outcome.value)
+    detail = str(failure.get("error", ""))[:MAX_TEXT]
     attempt.rare.failures += 1
-    attempt.since, attempt.outcome = attempt.since or now, outcome
+    attempt.waiting_since, attempt.outcome = attempt.waiting_since or now, outcome
     if is_final or not repeats:
         attempt.suspend(Suspension.EXHAUSTED)
         row = SuspensionRow(Suspension.EXHAUSTED, None, detail)
         return Decision(Do.SUSPEND, row, event=("step_exhausted", detail))
-    pause = told.get("retry_after", manner.backoff.after(made))
-    attempt.rare.pause = max(LEAST_PAUSE, pause)
+    pause = failure.get("retry_after", manner.backoff.after(attempts_made))
+    attempt.rare.pause = max(MIN_PAUSE, pause)
     attempt.suspend(Suspension.RETRY, now + attempt.rare.pause)
     row = SuspensionRow(Suspension.RETRY, attempt.until, detail)
     return Decision(Do.SUSPEND, row, timer=True, event=("step_retrying", detail))
 
 
-def backoff(attempt: Attempt, now: float) -> float:
-    """Seconds until it is called; where the clock jumped back, no more than the pause."""
-    missed = attempt.instance.rare.missed_at.get(attempt.word)
-    if missed is None:
+def backoff_seconds(attempt: Attempt, now: float) -> float:
+    """Return the seconds until the call; if the clock was set back, at most the whole pause."""
+    failed_at = attempt.instance.rare.failed_at.get(attempt.action_key)
+    if failed_at is None:
         return 0.0
-    wanted = attempt.instance.rare.pauses.get(attempt.word)
-    if wanted is None:
-        wanted = attempt.manner.backoff.after(attempt.attempt - 1)
+    pause = attempt.instance.rare.retry_pauses.get(attempt.action_key)
+    if pause is None:
+        pause = attempt.manner.backoff.after(attempt.attempt - 1)
     else:
-        attempt.rare.pause = wanted
-    return min(wanted, missed + wanted - now)
+        attempt.rare.pause = pause
+    return min(pause, failed_at + pause - now)
 
 
-def yields(attempt: Attempt) -> float:
-    """Seconds for which it leaves its place to others behind a wait that was given up."""
+def yield_seconds(attempt: Attempt) -> float:
+    """Return the seconds for which it leaves its slot to others after its wait was given up."""
     rare = attempt.rare
     gave_way, rare.gave_way = rare.gave_way, False
-    return min(MOST_YIELD, YIELD * 2.0 ** min(rare.count - 1, 16)) if gave_way else 0.0
+    return min(MAX_YIELD, MIN_YIELD * 2.0 ** min(rare.count - 1, 16)) if gave_way else 0.0
 
 
 def retry(attempt: Attempt, now: float) -> Decision:
-    """Call one again at once, as a person wants: its number of attempts and its time begin anew.
+    """Call an attempt again at once for an operator, with new counts and a new time.
 
-    For the engine its number stays, so what was made before is taken off the failures. By its
-    `since`, the wait that the person answered is told from a later one.
+    The engine keeps the attempt's number, so the earlier attempts are subtracted from the failures.
+    A new `waiting_since` distinguishes the wait that the operator answered from a later one.
     """
     is_unknown = attempt.reason is Suspension.UNKNOWN
     reason = Suspension.UNKNOWN if is_unknown else Suspension.RETRY
@@ -89,12 +89,12 @@ def retry(attempt: Attempt, now: float) -> Decision:
     detail = attempt.outcome.value if attempt.outcome else ""
     if not is_unknown:
         detail = str(json.loads(detail or "{}").get("error", ""))
-    attempt.since = now
+    attempt.waiting_since = now
     attempt.suspend(reason, now)
     return Decision(Do.SUSPEND, SuspensionRow(reason, now, detail), timer=True)
 
 
 def may_retry(attempt: Attempt) -> bool:
-    """Whether a person may have it called again at once."""
-    is_suspended = attempt.state is AttemptState.SUSPENDED and not attempt.pending
-    return is_suspended and attempt.reason in RETRIED
+    """Whether an operator may retry the attempt at once."""
+    is_suspended = attempt.state is AttemptState.SUSPENDED and not attempt.pending_row
+    return is_suspended and attempt.reason in RETRYABLE

@@ -7,15 +7,17 @@ from collections import Counter
 from sagas.core.model import Attempt
 
 Tenant = str | None
-"""Whose saga it is, as its definition's `fair_by` says, as JSON; None where it says nothing."""
+"""The tenant of a saga, which the definition's `fair_by` returns, as JSON; None if it has none."""
 
 
 class FairQueue:
-    """The next one is of the tenant that has the fewest slots; of several such tenants, of the one
-    that was served longest ago. Attempts of one tenant go in the order in which they came.
+    """Attempts that wait for a slot, in turn among tenants.
+
+    The next attempt belongs to the tenant with the fewest slots; among several, to the one that
+    was served longest ago. Attempts of one tenant are served in the order of their arrival.
 
     Attributes:
-        running: How many slots each tenant has.
+        running: The number of slots that each tenant has.
     """
 
     def __init__(self) -> None:
@@ -30,23 +32,23 @@ class FairQueue:
         return attempt in self._waiting.get(attempt.instance.tenant, ())
 
     def push(self, attempt: Attempt) -> None:
-        """Let it wait."""
+        """Add an attempt to the queue of its tenant."""
         self._waiting.setdefault(attempt.instance.tenant, {})[attempt] = None
         self._count += 1
 
     def pop(self) -> Attempt:
-        """Take out the one whose turn it is."""
+        """Remove and return the next attempt."""
         tenant = min(self._waiting, key=self.running.__getitem__)
         waiting = self._waiting.pop(tenant)
         attempt = next(iter(waiting))
         del waiting[attempt]
         if waiting:
-            self._waiting[tenant] = waiting  # behind the others
+            self._waiting[tenant] = waiting  # after the other tenants
         self._count -= 1
         return attempt
 
     def discard(self, attempt: Attempt) -> None:
-        """Let it wait no more."""
+        """Remove an attempt, if it waits."""
         if attempt in self:
             waiting = self._waiting[attempt.instance.tenant]
             del waiting[attempt]
@@ -55,17 +57,17 @@ class FairQueue:
                 del self._waiting[attempt.instance.tenant]
 
     def begin(self, tenant: Tenant, count: int = 1) -> None:
-        """Count slots that a tenant has from now on."""
+        """Count slots that a tenant takes."""
         if count:
             self.running[tenant] += count
 
     def end(self, tenant: Tenant, count: int = 1) -> None:
-        """Count slots that a tenant gave back."""
+        """Count slots that a tenant releases."""
         self.running[tenant] -= count
         if not self.running[tenant]:
             del self.running[tenant]
 
     def clear(self) -> None:
-        """Nobody waits any more."""
+        """Remove all attempts."""
         self._waiting.clear()
         self._count = 0

@@ -1,9 +1,8 @@
-"""Merges what a database has of a shard with the records of programs into one record.
+"""Merges the database's rows of a shard with the records of programs into one record.
 
-`sagas audit --fleet` judges that record. `core.record_lines` has the lines of programs. The order
-of the lines of a program is the order in which things happened in it. Between programs there is no
-clock: what a program heard is placed as early as what the database has allows, and the more is
-allowed then.
+`sagas audit --fleet` verifies that record. `core.record_lines` has the lines of programs. The lines
+of one program are in the order of its events. Programs share no clock: a confirmation that a
+program received is placed as early as the database's rows allow, which is the most lenient order.
 """
 
 from __future__ import annotations
@@ -14,17 +13,22 @@ from collections import deque
 from collections.abc import Iterable, Mapping, Sequence
 from typing import NamedTuple
 
-from sagas.core.record_lines import Line, Note
+from sagas.core.record_lines import SessionName, RecordNote
 
-NOBODY = 999_999_999
-"""A session that never began, and more chunks than any shard has."""
-NONE = -1
-"""`last` of a takeover before which there was no chunk."""
+NO_SESSION = 999_999_999
+"""The number of a session that never started; also more chunks than any shard has."""
+NO_CHUNK = -1
+"""The `last` of a takeover before the first chunk."""
 
 
 class Chunk(NamedTuple):
-    """What one commit wrote to a shard: under which epoch as it claims, behind how many events,
-    up to how many, and the digest of the event log up to there.
+    """The chunk that one commit wrote to a shard.
+
+    Attributes:
+        epoch: The epoch that it claims.
+        first: The number of events before it.
+        end: The number of events after it.
+        digest: The digest of the event log up to its end.
     """
 
     epoch: int
@@ -34,8 +38,9 @@ class Chunk(NamedTuple):
 
 
 class Takeover(NamedTuple):
-    """A new epoch of a shard, as the database has it. `last`: `first` of the last chunk before,
-    `NONE` if there was none; None if it is not known.
+    """A new epoch of a shard in the database.
+
+    `last`: the `first` of the last chunk before it, `NO_CHUNK` if there was none; None if unknown.
     """
 
     epoch: int
@@ -46,157 +51,176 @@ class Takeover(NamedTuple):
 
 @dataclasses.dataclass
 class _Session:
-    """What a node believes of a shard from one takeover on, as far as it is placed: `known` and
-    `asked` count chunks, `digest` is the one of what it sent last.
+    """The state that a node has of a shard after a takeover, as far as its notes are placed.
+
+    `known` and `requested` count chunks; `digest` is that of the chunk that it sent last.
     """
 
     number: int
-    asked: int
-    notes: deque[Note]
+    requested: int
+    notes: deque[RecordNote]
     known: int = 0
     stage: str = "done"
     digest: int = 0
 
 
-class Telling(NamedTuple):
-    """Something that was acknowledged: how, and on how many chunks it rests."""
+class Acknowledgement(NamedTuple):
+    """An acknowledgement to a caller: its edge, and the number of chunks on which it rests."""
 
     edge: str
     chunks: int
 
 
 class Loss(NamedTuple):
-    """What a server lacked that took over: how many chunks it had, and what was acknowledged that
-    rests on more.
-    """
+    """The loss at a failover: the new server's chunks, and the acknowledgements beyond them."""
 
-    had: int
-    told: list[Telling]
+    chunk_count: int
+    acknowledgements: list[Acknowledgement]
 
 
 class ShardRecord:
-    """The record of one shard, as far as it is made.
+    """The record of one shard, while it is built.
 
     Attributes:
-        losses: What servers lacked that took over.
+        losses: The losses at failovers.
     """
 
-    def __init__(self, notes: Mapping[Line, Sequence[Note]], is_synchronous: bool) -> None:
-        self._left = {line: deque(of) for line, of in notes.items()}
+    def __init__(
+        self, notes: Mapping[SessionName, Sequence[RecordNote]], is_synchronous: bool
+    ) -> None:
+        self._unplaced = {line: deque(of) for line, of in notes.items()}
         self._synchronous, self._safe = is_synchronous, 0
         self._lines = [f"fleet 1 {'sync' if is_synchronous else 'async'}"]
         self._ends, self._digests = [0], [0]
         self._sessions: list[_Session] = []
-        self._of: dict[tuple[int, str], _Session] = {}  # by epoch and timeline
+        self._by_epoch: dict[tuple[int, str], _Session] = {}  # by epoch and timeline
         self._epoch = 0
-        self._tellings: list[Telling] = []
+        self._acknowledgements: list[Acknowledgement] = []
         self.losses: list[Loss] = []
 
     def text(self) -> str:
-        """The record, as `sagas audit --fleet` reads it."""
+        """Return the record as `sagas audit --fleet` reads it."""
         return "".join(f"{line}\n" for line in self._lines)
 
     @property
     def events(self) -> int:
-        """How many events it has."""
+        """The number of events of the record."""
         return len(self._lines) - 1
 
-    def make(
+    def build(
         self,
         takeovers: Sequence[Takeover],
         chunks: Sequence[Chunk],
         timeline: str,
         ends: Iterable[tuple[str, int]] = (),
     ) -> None:
-        """Make it.
+        """Build the record.
 
         Args:
-            takeovers: Those that the database has, in order.
-            chunks: Those that it has, in order.
-            timeline: The one that it is on now.
+            takeovers: The takeovers that the database has, in order.
+            chunks: The chunks that it has, in order.
+            timeline: Its current timeline.
             ends: The edges at which ends of sagas were acknowledged, each with the number of
-                events that the end rests on.
+                events on which the end rests.
         """
-        left, places = deque(chunks), deque(self._looked(takeovers, chunks))
-        times = {timeline, *(one.timeline for one in takeovers)}
-        times |= {line.timeline for line in self._left}
-        for time in sorted(time for time in times if time <= timeline):
-            while places and places[0].timeline == time:
-                one = places.popleft()
-                self._write_before(one, left, time)
-                self._begin(one.epoch, time, self._left.pop(Line(one.run, one.epoch, time), None))
-            if self._sessions:  # what is there was written before another server took over
-                self._write_before(places[0] if places else None, left, time)
-            if time != timeline and self._is_known(time):
-                self._move(time)
+        unplaced, pending = deque(chunks), deque(self._completed(takeovers, chunks))
+        timelines = {timeline, *(takeover.timeline for takeover in takeovers)}
+        timelines |= {line.timeline for line in self._unplaced}
+        for server_timeline in sorted(
+            server_timeline for server_timeline in timelines if server_timeline <= timeline
+        ):
+            while pending and pending[0].timeline == server_timeline:
+                takeover = pending.popleft()
+                self._write_before(takeover, unplaced, server_timeline)
+                self._begin(
+                    takeover.epoch,
+                    server_timeline,
+                    self._unplaced.pop(
+                        SessionName(takeover.run, takeover.epoch, server_timeline), None
+                    ),
+                )
+            if self._sessions:  # the remaining chunks were written before another server took over
+                self._write_before(pending[0] if pending else None, unplaced, server_timeline)
+            if server_timeline != timeline and self._is_known(server_timeline):
+                self._move(server_timeline)
         self._end(ends)
 
-    def _looked(self, takeovers: Sequence[Takeover], chunks: Sequence[Chunk]) -> list[Takeover]:
-        """The takeovers, and of each what was before it. Of one that did not look it is what its
-        node read; if that is not recorded, all that is older by its epoch, and before the next one.
+    def _completed(self, takeovers: Sequence[Takeover], chunks: Sequence[Chunk]) -> list[Takeover]:
+        """Return the takeovers, each with the last chunk before it.
+
+        If the takeover did not record it, it is the last chunk that the node read; if that is not
+        recorded either, the last chunk with an older epoch before the next takeover.
         """
-        found, bound = list[Takeover](), NOBODY
-        for one in reversed(takeovers):
-            last = one.last
+        completed, next_last = list[Takeover](), NO_SESSION
+        for takeover in reversed(takeovers):
+            last = takeover.last
             if last is None:
-                notes = self._left.get(Line(one.run, one.epoch, one.timeline), ())
-                read = next((note.number for note in notes if note.what == "took"), None)
-                last = NONE
+                notes = self._unplaced.get(
+                    SessionName(takeover.run, takeover.epoch, takeover.timeline), ()
+                )
+                events_read = next((note.number for note in notes if note.event == "took"), None)
+                last = NO_CHUNK
                 for chunk in chunks:
-                    is_before = chunk.epoch < one.epoch if read is None else chunk.end <= read
-                    if not is_before or chunk.first > bound:
+                    is_before = (
+                        chunk.epoch < takeover.epoch
+                        if events_read is None
+                        else chunk.end <= events_read
+                    )
+                    if not is_before or chunk.first > next_last:
                         break
                     last = chunk.first
-            bound = last
-            found.append(one._replace(last=last))
-        return found[::-1]
+            next_last = last
+            completed.append(takeover._replace(last=last))
+        return completed[::-1]
 
-    def _write_before(self, one: Takeover | None, left: deque[Chunk], timeline: str) -> None:
+    def _write_before(
+        self, takeover: Takeover | None, unplaced: deque[Chunk], timeline: str
+    ) -> None:
         """Place the chunks that the database has before a takeover; all, if there is none."""
-        last = NOBODY if one is None or one.last is None else one.last
-        while left and left[0].first <= last:
-            self._wrote(left.popleft(), timeline)
+        last = NO_SESSION if takeover is None or takeover.last is None else takeover.last
+        while unplaced and unplaced[0].first <= last:
+            self._add_chunk(unplaced.popleft(), timeline)
 
     def _is_known(self, timeline: str) -> bool:
-        """Whether anything is known of a server's time."""
-        return bool(self._sessions) or any(line.timeline == timeline for line in self._left)
+        """Whether any session has a timeline."""
+        return bool(self._sessions) or any(line.timeline == timeline for line in self._unplaced)
 
     def _end(self, ends: Iterable[tuple[str, int]]) -> None:
         for session in self._sessions:
             self._drain(session, forced=True)
-        for line, notes in self._left.items():
-            self._unknown(line, notes)
+        for line, notes in self._unplaced.items():
+            self._add_unknown(line, notes)
         for edge, events in ends:
-            self._seen(Telling(edge, self._chunks(events)))
+            self._add_end(Acknowledgement(edge, self._chunks(events)))
 
     # -- what the database has
 
-    def _begin(self, epoch: int, timeline: str, notes: deque[Note] | None) -> _Session:
-        """A session begins, which reads all chunks that exist, or what it read by its record, if it
-        has one.
-        """
+    def _begin(self, epoch: int, timeline: str, notes: deque[RecordNote] | None) -> _Session:
+        """Start a session, which reads all existing chunks, or those that its record names."""
         read, digest = len(self._ends) - 1, self._digests[-1]
-        if first := next((one for one in notes or () if one.what == "took"), None):
-            read, digest = self._chunks(first.number), first.digest
+        if start := next((note for note in notes or () if note.event == "took"), None):
+            read, digest = self._chunks(start.number), start.digest
         session = _Session(len(self._sessions), read, notes or deque())
         self._sessions.append(session)
-        self._of[epoch, timeline] = session
+        self._by_epoch[epoch, timeline] = session
         self._lines.append(f"took {epoch} {read} {digest}")
         self._epoch = epoch
         self._drain(session)
         return session
 
-    def _wrote(self, chunk: Chunk, timeline: str) -> None:
-        session = self._of.get((chunk.epoch, timeline))
+    def _add_chunk(self, chunk: Chunk, timeline: str) -> None:
+        session = self._by_epoch.get((chunk.epoch, timeline))
         if session is None:
-            self._lines.append(f"wrote {NOBODY} {len(self._ends) - 1} {chunk.digest}")
+            self._lines.append(f"wrote {NO_SESSION} {len(self._ends) - 1} {chunk.digest}")
             self._add(chunk.end, chunk.digest)
             return
         self._drain(session)
-        if session.stage != "sent" and not any(note.what == "sent" for note in session.notes):
-            if session.stage == "done" and not session.notes:  # it wrote on, so it had heard
-                self._heard(session)
-            self._sent(session, chunk.digest)
+        if session.stage != "sent" and not any(note.event == "sent" for note in session.notes):
+            if (
+                session.stage == "done" and not session.notes
+            ):  # it wrote again, so it had received the answer
+                self._add_heard(session)
+            self._add_sent(session, chunk.digest)
         self._write(session, chunk.end, chunk.digest)
         self._drain(session)
 
@@ -212,115 +236,128 @@ class ShardRecord:
     # -- what programs noted
 
     def _drain(self, session: _Session, forced: bool = False) -> None:
-        """Place what a session noted, as far as what the database has allows; all of it where
-        that is `forced`.
-        """
+        """Place the notes of a session as far as the database's rows allow; all if `forced`."""
         notes = session.notes
         while notes:
             note = notes[0]
-            if note.what in ("took", "heard"):
+            if note.event in ("took", "heard"):
                 if not forced and not self._is_answered(session, note):
                     return
-                self._heard(session)
-            elif note.what == "sent":
-                self._sent(session, note.digest)
-            elif note.what == "stale":
+                self._add_heard(session)
+            elif note.event == "sent":
+                self._add_sent(session, note.digest)
+            elif note.event == "stale":
                 self._lines.append(f"stale {session.number}")
                 session.stage = "refused"
-            elif note.what == "told":
-                self._tell(session, Telling(note.edge, self._chunks(note.number)))
+            elif note.event == "told":
+                self._acknowledge(session, Acknowledgement(note.edge, self._chunks(note.number)))
             notes.popleft()
 
-    def _is_answered(self, session: _Session, note: Note) -> bool:
-        """Whether the database has done what the server confirmed to a session."""
+    def _is_answered(self, session: _Session, note: RecordNote) -> bool:
+        """Whether the write that the server confirmed to a session is placed."""
         if session.stage != "done":
             return False
-        return note.what == "took" or self._chunks(note.number) == session.known + session.asked
+        return (
+            note.event == "took" or self._chunks(note.number) == session.known + session.requested
+        )
 
-    def _sent(self, session: _Session, digest: int) -> None:
+    def _add_sent(self, session: _Session, digest: int) -> None:
         self._lines.append(f"sent {session.number} {digest}")
-        session.asked, session.stage, session.digest = 1, "sent", digest
+        session.requested, session.stage, session.digest = 1, "sent", digest
 
-    def _heard(self, session: _Session) -> None:
-        known = session.known + session.asked
-        if self._synchronous and known > self._safe:  # as is claimed, since it was answered
+    def _add_heard(self, session: _Session) -> None:
+        known = session.known + session.requested
+        if self._synchronous and known > self._safe:  # a confirmed write is claimed to be safe
             self._safe = known
             self._lines.append(f"safe {known}")
         self._lines.append(f"heard {session.number}")
-        session.known, session.asked, session.stage = known, 0, "idle"
+        session.known, session.requested, session.stage = known, 0, "idle"
 
-    def _tell(self, session: _Session | None, telling: Telling) -> None:
-        self._lines.append(f"told {session.number if session else NOBODY} {telling.chunks}")
-        self._tellings.append(telling)
+    def _acknowledge(self, session: _Session | None, acknowledgement: Acknowledgement) -> None:
+        self._lines.append(
+            f"told {session.number if session else NO_SESSION} {acknowledgement.chunks}"
+        )
+        self._acknowledgements.append(acknowledgement)
 
-    def _unknown(self, line: Line, notes: Iterable[Note]) -> None:
-        """A session that the database does not have: no program may have an answer that it began,
-        or have acknowledged what rests on it.
+    def _add_unknown(self, line: SessionName, notes: Iterable[RecordNote]) -> None:
+        """Place a session that the database does not have.
+
+        No program may have a confirmation of it, or acknowledgements that rest on it.
         """
-        if _is_heard(line, notes):
-            self._lines.append(f"heard {NOBODY}")
+        if _was_confirmed(line, notes):
+            self._lines.append(f"heard {NO_SESSION}")
         for note in notes:
-            if note.what == "told":
-                self._tell(None, Telling(note.edge, self._chunks(note.number)))
+            if note.event == "told":
+                self._acknowledge(None, Acknowledgement(note.edge, self._chunks(note.number)))
 
     def _chunks(self, events: int) -> int:
-        """Return how many chunks hold these events; one more than all if they do not."""
+        """Return how many chunks contain these events; one more than all if none do."""
         return bisect.bisect_left(self._ends, events)
 
-    def _seen(self, telling: Telling) -> None:
-        """An end that was acknowledged: it is known to the first session that has it; or to the
-        one that wrote it, since the database has shown it as done.
+    def _add_end(self, acknowledgement: Acknowledgement) -> None:
+        """Place the acknowledgement of an end.
+
+        It belongs to the first session that has the end, or else to the session that wrote it,
+        since the database shows it.
         """
-        known = (one for one in self._sessions if one.known >= telling.chunks)
+        known = (
+            candidate for candidate in self._sessions if candidate.known >= acknowledgement.chunks
+        )
         session = next(known, None)
         if session is None:
-            last = [one for one in self._sessions if one.stage == "done"]
-            session = last[-1] if last else None
+            finished = [candidate for candidate in self._sessions if candidate.stage == "done"]
+            session = finished[-1] if finished else None
             if session:
-                self._heard(session)
-        self._tell(session, telling)
+                self._add_heard(session)
+        self._acknowledge(session, acknowledgement)
 
     # -- another server
 
     def _move(self, timeline: str) -> None:
-        """Another server takes over, which has what is placed so far. What programs heard of the
-        one before beyond that stands before it.
+        """Place a failover to a server that has the chunks that are placed so far.
+
+        Further confirmations of the server before it are placed before the failover.
         """
-        had, epoch = len(self._ends) - 1, self._epoch
+        chunk_count, epoch = len(self._ends) - 1, self._epoch
         for session in self._sessions:
             self._lose(session)
-        lines = [line for line in self._left if line.timeline == timeline]
+        lines = [line for line in self._unplaced if line.timeline == timeline]
         for line in sorted(lines, key=lambda line: line.epoch):
-            notes = self._left.pop(line)
-            if line.epoch <= self._epoch or not _is_heard(line, notes):
-                self._unknown(line, notes)
+            notes = self._unplaced.pop(line)
+            if line.epoch <= self._epoch or not _was_confirmed(line, notes):
+                self._add_unknown(line, notes)
                 continue
             for between in range(self._epoch + 1, line.epoch):  # no program noted them
                 self._begin(between, timeline, None)
             self._lose(self._begin(line.epoch, timeline, notes))
-        self._lines.append(f"moved {had} {epoch}")
-        if lost := [one for one in self._tellings if one.chunks > had]:
-            self.losses.append(Loss(had, lost))
-        self._tellings = []
+        self._lines.append(f"moved {chunk_count} {epoch}")
+        if lost := [
+            acknowledgement
+            for acknowledgement in self._acknowledgements
+            if acknowledgement.chunks > chunk_count
+        ]:
+            self.losses.append(Loss(chunk_count, lost))
+        self._acknowledgements = []
         self._epoch = epoch
-        del self._ends[had + 1 :], self._digests[had + 1 :]
+        del self._ends[chunk_count + 1 :], self._digests[chunk_count + 1 :]
 
     def _lose(self, session: _Session) -> None:
-        """Place what the server confirmed to a session, and the database does not have any more.
-        What the database has still, the session may have heard by then: an end that rests on it may
-        have been acknowledged.
+        """Place what the server confirmed to a session and the database does not have any more.
+
+        The session may have received the confirmation of the remaining chunks, so an end that rests
+        on them may have been acknowledged.
         """
         self._drain(session)
         while session.notes:
-            if session.notes[0].what == "heard" and session.stage == "sent":
+            if session.notes[0].event == "heard" and session.stage == "sent":
                 self._write(session, session.notes[0].number, session.digest)
                 self._drain(session)
             else:
                 self._drain(session, forced=True)
-        if session.stage == "done" and session.known + session.asked < len(self._ends):
-            self._heard(session)
+        if session.stage == "done" and session.known + session.requested < len(self._ends):
+            self._add_heard(session)
 
 
-def _is_heard(line: Line, notes: Iterable[Note]) -> bool:
-    """Whether a program knows that its takeover was done: of a birth, only by a commit of it."""
-    return any(note.what == ("heard" if line.epoch == 1 else "took") for note in notes)
+def _was_confirmed(line: SessionName, notes: Iterable[RecordNote]) -> bool:
+    """Whether a program had its takeover confirmed; for a new shard, by its first commit."""
+    return any(note.event == ("heard" if line.epoch == 1 else "took") for note in notes)

@@ -1,42 +1,45 @@
-"""The policy of group commit: write now, or hold for more.
+"""The policy of group commit: write now, or wait for more rows.
 
-Two commits that follow each other closely take the database twice the time of one, and this
-program as well. But a commit does not wait for fewer rows than it has: what is under way goes in
-two halves at least, one of which is written while the functions of the other are called.
+Two commits in quick succession take the database twice the time of one, and this program as well.
+But a commit does not wait for fewer rows than it has: the calls under way form at least two halves,
+and one half is written while the functions of the other half are called.
 """
 
 from __future__ import annotations
 
-MOST = 0.005
-"""Seconds that a commit waits, at most."""
-SHARE, FEW_SHARE = 0.5, 4.0
-"""Of the time that a commit takes: it waits for rows that come in less. A commit of few rows waits
-the longer time: each commit also costs this program a question to the engine and some turns of
-the loop, which are more than few rows.
+MAX_WAIT = 0.005
+"""The longest wait of a commit, in seconds."""
+WAIT_SHARE, SMALL_WAIT_SHARE = 0.5, 4.0
+"""Shares of the time that a commit takes: it waits for rows that arrive within that share. A commit
+of few rows uses the larger share, because each commit also costs this program a request to the
+engine and some turns of the loop.
 """
-FEW = 64
-"""Rows."""
-WHOLE = 8
-"""So many calls are not told of in two halves: a question to the engine and a commit cost more
-than they.
+SMALL_COMMIT = 64
+"""A commit of fewer rows is small."""
+MIN_SPLIT = 8
+"""Fewer calls are not reported in two halves: a request to the engine and a commit cost more than
+the calls.
 """
-FADE = 8
-"""How many of the last ones count, about."""
+AVERAGED = 8
+"""The approximate number of recent commits in the moving average."""
 
 
-def half(ready: int) -> int:
-    """Return how many of so many calls are told of at once, where nothing is written meanwhile:
-    from then on the two halves take turns.
+def first_half(ready: int) -> int:
+    """Return how many of the finished calls are reported at once if no commit is under way.
+
+    From then on the two halves take turns.
     """
-    return ready if ready < WHOLE else (ready + 1) // 2
+    return ready if ready < MIN_SPLIT else (ready + 1) // 2
 
 
 class GroupCommitPolicy:
-    """Decide whether a commit waits. It learns how soon a call of a function that waits for
-    nothing comes to a commit. Times are seconds of one clock that never goes back.
+    """Decide whether a commit waits for more rows.
+
+    It measures how soon a function call that waits for nothing reaches a commit. Times are seconds
+    of one monotonic clock.
 
     Attributes:
-        until: Until when the next commit waits; None if it does not.
+        until: When the wait of the next commit ends; None if it does not wait.
     """
 
     def __init__(self) -> None:
@@ -46,33 +49,32 @@ class GroupCommitPolicy:
         self._count = 0
 
     def committed(self, calls: int, now: float) -> None:
-        """A commit is over, and so many functions are about to be called."""
+        """Note the end of a commit, after which `calls` functions are called."""
         self._since, self._count = (now, calls) if calls else (None, 0)
 
-    def came(self, now: float) -> None:
-        """A batch came that is to be committed."""
+    def batch_arrived(self, now: float) -> None:
+        """Note that a batch arrived for the next commit."""
         if self._since is not None:
             took, self._since = now - self._since, None
-            self._each += (min(took / self._count, MOST) - self._each) / FADE
+            self._each += (min(took / self._count, MAX_WAIT) - self._each) / AVERAGED
 
     def is_soon(self, coming: int, rows: int, latency: float) -> bool:
-        """Return whether so many calls, more than the rows of a commit, come to it in less time
-        than is worth to wait.
+        """Return whether the calls under way reach the commit soon enough to wait for them.
 
         Args:
-            coming: How many calls are about to come to a commit.
-            rows: How many rows the commit has.
+            coming: The number of calls that are about to reach a commit.
+            rows: The number of rows that the commit has.
             latency: Seconds that a commit takes.
         """
-        share = FEW_SHARE if rows < FEW else SHARE
+        share = SMALL_WAIT_SHARE if rows < SMALL_COMMIT else WAIT_SHARE
         return rows < coming and 0 < coming * self._each < latency * share
 
-    def holds(self, coming: int, rows: int, latency: float, now: float) -> bool:
-        """Return whether a commit waits; then it is asked about again at `until`, at the latest.
+    def should_wait(self, coming: int, rows: int, latency: float, now: float) -> bool:
+        """Return whether a commit waits. The caller asks again at `until` at the latest.
 
         Args:
-            coming: How many calls are about to come to it.
-            rows: How many rows it has.
+            coming: The number of calls that are about to reach the commit.
+            rows: The number of rows that it has.
             latency: Seconds that a commit takes.
             now: The time.
         """
@@ -83,5 +85,5 @@ class GroupCommitPolicy:
             return False
         if not self.is_soon(coming, rows, latency):
             return False
-        self.until = now + min(2 * coming * self._each, MOST)
+        self.until = now + min(2 * coming * self._each, MAX_WAIT)
         return True

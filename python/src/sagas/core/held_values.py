@@ -1,4 +1,4 @@
-"""Values of open sagas, of which large ones are held only while a function may read them."""
+"""Values of open sagas: large values are held only while a function may read them."""
 
 from __future__ import annotations
 
@@ -11,12 +11,12 @@ from sagas.definition.payloads import ABSENT
 from sagas.definition.shape_values import ShapeValues
 from sagas.definition.start_options import StartOptions
 
-LARGE = 4096
-"""Characters of a stored value from which on it is not held all the time."""
+LARGE_VALUE = 4096
+"""Characters: a longer stored value is not held all the time."""
 
 
 class StoredValues(NamedTuple):
-    """What the store has of a saga: its input, what is kept of its shape, and results by step."""
+    """The stored values of a saga: its input, its shape and its results by step."""
 
     text: str
     shape: str | None
@@ -28,10 +28,10 @@ class HeldValues:
 
     Attributes:
         text: Its input, as JSON.
-        options: What its start said; of one that another program started its deadline and trace
-            context alone.
-        results: The results of the steps that stand. A compensation puts another dict here, so
-            that each attempt keeps the one that it began with.
+        options: The options of its start; if another program started it, only its deadline and
+            trace context.
+        results: The results of the committed steps. A compensation replaces the dict, so that
+            each attempt keeps the dict with which it started.
         is_large: Whether a large value is held.
         is_partial: Whether a value may not be held.
     """
@@ -44,11 +44,11 @@ class HeldValues:
     is_partial: bool
     _extras: SagaExtras | None
 
-    def take(self, text: str, options: StartOptions) -> None:
-        """Hold its input and its shape."""
+    def hold(self, text: str, options: StartOptions) -> None:
+        """Hold the input and the shape of the saga."""
         self.text, self.options = text, options
         shape = options.shape or ""
-        self.is_large = len(text) > LARGE or len(shape) > LARGE
+        self.is_large = len(text) > LARGE_VALUE or len(shape) > LARGE_VALUE
         self.is_partial = ABSENT in (text, shape)
 
     def put_result(self, step: int, value: str) -> None:
@@ -56,27 +56,27 @@ class HeldValues:
         self.results[step] = value
         if value == ABSENT:
             self.is_partial = True
-        elif len(value) > LARGE:
+        elif len(value) > LARGE_VALUE:
             self.is_large = True
 
-    def drop(self, results: Iterable[dict[int, str]]) -> None:
-        """Hold no large value any more. `results`: those of its attempts."""
-        if len(self.text) > LARGE:
+    def drop_large(self, results: Iterable[dict[int, str]]) -> None:
+        """Drop all large values. `results`: the dicts of its attempts."""
+        if len(self.text) > LARGE_VALUE:
             self.text = ABSENT
-        if self.options.shape is not None and len(self.options.shape) > LARGE:
+        if self.options.shape is not None and len(self.options.shape) > LARGE_VALUE:
             self.options = dataclasses.replace(self.options, shape=ABSENT)
             if self._extras is not None and (shape := self._extras.shape) is not None:
                 self._extras.numbering = ShapeValues.of_numbering(shape.numbering(()))
                 self._extras.shape = None
         for some in (self.results, *results):
             for step, value in some.items():
-                if len(value) > LARGE:
+                if len(value) > LARGE_VALUE:
                     some[step] = ABSENT
         self.is_large, self.is_partial = False, True
 
     def fill(self, stored: StoredValues, results: dict[int, str]) -> None:
-        """Hold what the store has. `results`: those of the attempt that is about to be called."""
-        self.take(stored.text, dataclasses.replace(self.options, shape=stored.shape))
+        """Hold the stored values. `results`: the dict of the attempt that is about to be called."""
+        self.hold(stored.text, dataclasses.replace(self.options, shape=stored.shape))
         for step, value in stored.results.items():
             if step in results:
                 results[step] = value
@@ -84,7 +84,7 @@ class HeldValues:
 
     @property
     def is_whole(self) -> bool:
-        """Whether all of it is held."""
+        """Whether all values are held."""
         return not self.is_partial or ABSENT not in (
             self.text,
             self.options.shape,

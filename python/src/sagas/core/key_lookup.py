@@ -1,34 +1,32 @@
 """The policy of key lookups: when a start may skip one.
 
-That saves a question to the database, and a node a trip to the server. A key that turns out to
-be taken costs its log a new child, which all its sagas wait for, so keys are looked for for a
-while where one came that was there.
+A skipped lookup saves a query, and over PostgreSQL a round trip. If the key turns out to be taken,
+the shard needs a new engine process, for which all its sagas wait. So after a start with a taken
+key the policy requires lookups for a while.
 """
 
 from __future__ import annotations
 
 AGAIN = 1000
-"""Starts of new keys in a row, behind one of a key that was there, until one begins without a
-look.
-"""
+"""After a start with a taken key: the number of starts with new keys until a lookup is skipped."""
 
 
-class Guessing:
-    """Counts the starts whose keys are looked for.
+class KeyLookupPolicy:
+    """Count the starts that look up their keys.
 
-    Over PostgreSQL a start without a look saves a round trip. Over a file it gains nothing:
+    Over PostgreSQL a start without a lookup saves a round trip. Over a file it gains nothing:
     measured on 2026-11-28, in instructions a saga of three steps, 0 % for 1 and for 256 at a time.
     """
 
     def __init__(self) -> None:
         self._looks = 0
 
-    def is_worth(self) -> bool:
-        """Whether the next key is new, as far as those before it tell."""
+    def may_skip_lookup(self) -> bool:
+        """Whether the next start may skip the lookup, because recent keys were new."""
         return not self._looks
 
-    def told(self, was_there: bool) -> None:
-        """What became of a start."""
+    def record_start(self, was_there: bool) -> None:
+        """Record whether the key of a start was taken."""
         if was_there:
             self._looks = AGAIN
         elif self._looks:

@@ -1,7 +1,7 @@
 """Signed leases of external workers.
 
-The key is a secret of the store, so that each node of a database can judge a lease that another
-node gave.
+The key is a secret of the store, so that each node of a database can verify a lease that another
+node issued.
 """
 
 from __future__ import annotations
@@ -11,13 +11,13 @@ import re
 
 from sagas.base.errors import InvalidLease
 
-SHAPE = re.compile(r"([1-9][0-9]{0,18})\.[0-9a-f]{32}", re.ASCII)
-SIGNED = 32
+LEASE_PATTERN = re.compile(r"([1-9][0-9]{0,18})\.[0-9a-f]{32}", re.ASCII)
+SIGNATURE_DIGITS = 32
 """Hex digits of the signature: 128 bits."""
 
 
 class Signer:
-    """Issues leases, and accepts no text that it did not issue.
+    """Issue leases, and verify that a lease was issued.
 
     The hash of the key is computed once, and copied for each lease: 2 us in place of 7 us for
     `hmac.digest`, with OpenSSL 3 (measured on 2026-11-28).
@@ -27,19 +27,22 @@ class Signer:
         self._keyed = hmac.new(secret, digestmod="sha256")
 
     def issue(self, token: str, number: int, holder: str) -> str:
-        """The lease of this number, for the attempt with this token, to this holder."""
-        told = f"{token}\n{number}\n{holder}".encode("utf-8", "surrogatepass")
+        """Return the lease with a number, for an attempt and its holder."""
+        signed_text = f"{token}\n{number}\n{holder}".encode("utf-8", "surrogatepass")
         signature = self._keyed.copy()
-        signature.update(told)
-        return f"{number}.{signature.hexdigest()[:SIGNED]}"
+        signature.update(signed_text)
+        return f"{number}.{signature.hexdigest()[:SIGNATURE_DIGITS]}"
 
     def number(self, token: str, lease: str, holder: str) -> int:
-        """A lease's number. Raises `InvalidLease` where it was not given for this attempt to this
-        holder."""
-        found = SHAPE.fullmatch(lease)
-        number = int(found[1]) if found else 0
-        good = self.issue(token, number, holder)
-        if found is None or not hmac.compare_digest(good.encode(), lease.encode()):
+        """Return the number of a lease.
+
+        Raises:
+            InvalidLease: The lease was not issued for this attempt to this holder.
+        """
+        match = LEASE_PATTERN.fullmatch(lease)
+        number = int(match[1]) if match else 0
+        expected = self.issue(token, number, holder)
+        if match is None or not hmac.compare_digest(expected.encode(), lease.encode()):
             raise InvalidLease(
                 "this lease was not issued to you for this task. Nothing was recorded. "
                 "Report the task with the attempt id and the lease of its claim"

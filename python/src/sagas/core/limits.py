@@ -10,76 +10,75 @@ from sagas.core.fairness import FairQueue, Tenant
 from sagas.core.model import SUSPENDED, Attempt
 from sagas.core.states import Action, Suspension
 
-MOST_AHEAD = 1 << 20
-"""So many tasks are claimed without a slot where tenants share the slots."""
+MAX_AHEAD = 1 << 20
+"""The number of tasks that may be claimed without a slot if tenants share the slots."""
 
 
-class Hungry(Protocol):
+class SlotUser(Protocol):
     """A shard that has more tasks than there are slots."""
 
     def poke(self) -> None:
-        """There are slots again."""
+        """Continue, because slots are free."""
 
 
 def _limit_of(attempt: Attempt) -> tuple[str, str, str]:
-    """The limit that counts it: its step's, or that of its key."""
+    """Return the name of the limit that counts an attempt: its step's, or that of its key."""
     key = attempt.extras.limit_key if attempt.extras else None
     return *attempt.limit_name, key or ""
 
 
 class Slots:
-    """A slot for each running function. An attempt over its step's limit waits apart, and holds
-    back nobody else.
+    """The slots of running functions.
+
+    An attempt over its step's limit waits in a separate queue, and does not block others.
 
     Attributes:
-        is_fair: Whether tenants share the slots. Then all tasks are claimed that there are, since
-            nobody else knows whose they are.
-        most: The store's concurrency.
-        running: How many slots are taken.
-        starved: The shards that have no more tasks taken for want of slots. While there are any,
-            `freed` is called when there may be slots.
+        is_fair: Whether tenants share the slots. Then all tasks are claimed, because the engine
+            does not know the tenants.
+        capacity: The store's concurrency.
+        running: The number of taken slots.
+        waiting_shards: The shards whose tasks wait for slots. If there are any, `freed` is called
+            when slots may be free.
     """
 
     def __init__(
         self, most: int, start: Callable[[Attempt], None], freed: Callable[[], None]
     ) -> None:
-        self.most, self._start, self._freed = most, start, freed
+        self.capacity, self._start, self._freed = most, start, freed
         self.is_fair = False
         self.running = self._reserved = 0
-        self.starved: dict[Hungry, None] = {}
+        self.waiting_shards: dict[SlotUser, None] = {}
         self._queued = FairQueue()
         self._limits: dict[tuple[str, str, str], tuple[set[Attempt], deque[Attempt]]] = {}
 
-    def free(self) -> int:
-        """How many tasks may be claimed: slots that nobody has, waits for or has reserved."""
+    def free_count(self) -> int:
+        """Return how many tasks may be claimed: slots that are not taken, awaited or reserved."""
         if self.is_fair:
-            return MOST_AHEAD
-        return self.most - self.running - self._reserved - len(self._queued)
+            return MAX_AHEAD
+        return self.capacity - self.running - self._reserved - len(self._queued)
 
     def reserve(self, count: int) -> None:
-        """Keep slots for tasks that are asked for and have not begun."""
+        """Reserve slots for requested tasks that have not started."""
         self._reserved += count
 
     def release(self, count: int) -> None:
-        """Give up reserved slots: their tasks begin now, or there were none."""
+        """Release reserved slots: their tasks start now, or do not exist."""
         self._reserved -= count
-        if count and self.starved:
+        if count and self.waiting_shards:
             self._freed()
 
-    def take(self, count: int = 1) -> int:
-        """Take slots for so many attempts that wait for nothing else, or as many as there are;
-        return how many.
-        """
-        left = self.most - self.running
-        if count > left:
-            count = max(0, left)
+    def take_slots(self, count: int = 1) -> int:
+        """Take up to `count` slots for attempts that wait for nothing else; return how many."""
+        available = self.capacity - self.running
+        if count > available:
+            count = max(0, available)
         self.running += count
         if self.is_fair:
             self._queued.begin(None, count)
         return count
 
     def enter(self, attempt: Attempt) -> None:
-        """Begin it, now or when its turn comes."""
+        """Start an attempt when its step's limit and a slot allow it."""
         step = attempt.instance.kind.steps[attempt.step]
         if step is not None and step.concurrency is not None and attempt.kind == Action.RUN:
             inside, queue = self._limits.setdefault(_limit_of(attempt), (set(), deque()))
@@ -88,12 +87,12 @@ class Slots:
                 queue.append(attempt)
                 return
             inside.add(attempt)
-        self.come(attempt)
+        self.request_slot(attempt)
 
-    def come(self, attempt: Attempt) -> None:
-        """As `enter`, of a step without a limit."""
+    def request_slot(self, attempt: Attempt) -> None:
+        """Start an attempt when a slot is free, without a limit of its step."""
         attempt.queue()
-        if self.running < self.most:
+        if self.running < self.capacity:
             self._begin(attempt)
         else:
             self._queued.push(attempt)
@@ -105,28 +104,28 @@ class Slots:
         self._start(attempt)
 
     def leave(self, attempt: Attempt) -> None:
-        """Give up its slot: its function ended, or is not called; whose turn it is begins."""
+        """Release the slot of an attempt that ended or is not called; start the next attempt."""
         if self._limits:
             self.cancel(attempt)
         self._left(attempt.instance.tenant if self.is_fair else None, 1)
 
-    def left(self, count: int) -> None:
-        """As `leave`, of so many whose steps have no limit, and whose sagas have no tenant."""
+    def leave_many(self, count: int) -> None:
+        """Release the slots of attempts without limits and tenants."""
         self._left(None, count)
 
     def _left(self, tenant: Tenant, count: int) -> None:
         self.running -= count
         if self.is_fair:
             self._queued.end(tenant, count)
-        while self._queued and self.running < self.most:
+        while self._queued and self.running < self.capacity:
             self._begin(self._queued.pop())
-        if self.starved:
+        if self.waiting_shards:
             self._freed()
 
     def cancel(self, attempt: Attempt) -> None:
-        """Let it wait no more; its place under its step's limit is for the next."""
+        """Remove a waiting attempt, and pass its place under its step's limit to the next."""
         self._queued.discard(attempt)
-        limit = self._limits.get(at := _limit_of(attempt))
+        limit = self._limits.get(key := _limit_of(attempt))
         if limit is None or attempt not in limit[0]:
             return
         inside, queue = limit
@@ -135,38 +134,38 @@ class Slots:
             following = queue.popleft()
             if following.state is SUSPENDED and following.reason is Suspension.STEP_LIMIT:
                 inside.add(following)
-                self.come(following)
+                self.request_slot(following)
                 return
         if not inside:
-            del self._limits[at]
+            del self._limits[key]
 
     def is_waiting(self, attempt: Attempt) -> bool:
-        """Whether it waits for a slot."""
+        """Whether an attempt waits for a slot."""
         return attempt in self._queued
 
     def clear(self) -> None:
-        """Let nothing begin any more that waits."""
+        """Remove all waiting attempts."""
         self._queued.clear()
         for _, queue in self._limits.values():
             queue.clear()
 
     # -- shards
 
-    def starve(self, shard: Hungry) -> None:
-        """A shard has more tasks than there are slots."""
-        self.starved[shard] = None
+    def add_waiting_shard(self, shard: SlotUser) -> None:
+        """Note that a shard waits for slots."""
+        self.waiting_shards[shard] = None
 
-    def is_starved(self, shard: Hungry) -> bool:
+    def is_shard_waiting(self, shard: SlotUser) -> bool:
         """Whether a shard waits for slots."""
-        return shard in self.starved
+        return shard in self.waiting_shards
 
-    def sate(self, shard: Hungry) -> None:
-        """A shard wants no slots any more."""
-        self.starved.pop(shard, None)
+    def remove_waiting_shard(self, shard: SlotUser) -> None:
+        """Note that a shard does not wait for slots any more."""
+        self.waiting_shards.pop(shard, None)
 
     def feed(self) -> None:
-        """Let the shards go on that wait for slots, if there are any."""
-        if self.free() > 0:
-            starved, self.starved = self.starved, {}
+        """Wake the shards that wait, if slots are free."""
+        if self.free_count() > 0:
+            starved, self.waiting_shards = self.waiting_shards, {}
             for shard in starved:
                 shard.poke()

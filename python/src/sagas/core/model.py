@@ -1,6 +1,6 @@
 """`Attempt`: the state of an attempt of an open saga.
 
-The runtime keeps what belongs to its event loop (futures, timers, tasks) beside them.
+The runtime keeps the objects of its event loop (futures, timers, tasks) separately.
 """
 
 from __future__ import annotations
@@ -12,7 +12,13 @@ from sagas.base.errors import CannotDecode
 from sagas.core.outcomes import Outcome
 from sagas.core.saga_instance import SagaInstance as SagaInstance
 from sagas.core.states import ATTEMPT_TRANSITIONS, Action, AttemptState, Check, Suspension, check
-from sagas.core.suspensions import AttemptExtras, Lease, Returned, Subject, SuspensionRow
+from sagas.core.suspensions import (
+    AttemptExtras,
+    Lease,
+    FunctionResult,
+    FunctionOption,
+    SuspensionRow,
+)
 from sagas.definition import tokens
 from sagas.definition.task_data import snapshot
 from sagas.definition.compiled import ActionKey
@@ -25,7 +31,7 @@ from sagas.definition.step import Manner, Step
 from sagas.definition.task import Task
 
 if TYPE_CHECKING:
-    from sagas.core.batch import Wanted
+    from sagas.core.batch import RequestRef
     from sagas.core.step_transactions import StepRecord
 
 CLAIMED, SUSPENDED, QUEUED = AttemptState.CLAIMED, AttemptState.SUSPENDED, AttemptState.QUEUED
@@ -33,10 +39,10 @@ RUNNING, FINISHED = AttemptState.RUNNING, AttemptState.FINISHED
 
 
 class AcknowledgedAttempt:
-    """What a program with a record has of an attempt. Without a record, it is never set.
+    """What a program with a record has of an attempt. Without a record it is not set.
 
     Attributes:
-        rest: What the acknowledgement that it began rests on. Once its report is decided and a
+        rest: What the acknowledgement of its start rests on. When its report is decided and a
             caller waits for it: what the acknowledgement of the report rests on.
     """
 
@@ -45,31 +51,31 @@ class AcknowledgedAttempt:
 
 
 class Attempt(AcknowledgedAttempt):
-    """One attempt of a step's action, or of its compensation, which its shard has as begun.
+    """One attempt of a step's action or compensation, which its shard's log has as started.
 
-    Its methods write its state, and `start_all` and `finish_all` that of many; nothing else does.
+    Only its methods, `start_all` and `finish_all` write its state.
 
     Attributes:
         instance: Its saga.
         step: The index of its step.
         kind: `run` or `undo`.
         attempt: Its number, from 1.
-        action: What is the same for all attempts of the action.
-        state: Where it stands.
-        reason: Why it is, or was last, suspended.
-        until: Until when it is suspended. None: until somebody reports it.
-        since: Since when it waits, or its outcome is unknown; else 0.
-        fresh: Whether it cannot have been called, by this program or an earlier one.
-        outcome: What it came to.
-        at: When it finished.
-        took: Seconds that its last call took.
-        event: The event of the saga that its report came to.
+        action: The step's compiled action, the same for all its attempts.
+        state: Its state.
+        reason: Why it is suspended, or was suspended last.
+        until: When its suspension ends; None: when a caller reports it.
+        waiting_since: When it started to wait, or its outcome became unknown; else 0.
+        is_uncalled: Whether no program can have called it.
+        outcome: Its outcome.
+        finished_at: When it finished.
+        call_seconds: Seconds that its last call took.
+        event: The event of the engine that its report led to.
         has_row: Whether the store has a row of its suspension.
-        pending: The row that is on its way to the store.
-        record: What became of the transaction that it is called in.
-        recorded: Whether its result is in the store, with what it wrote.
-        results: The results of the steps that stand as it begins.
-        extras: What only some attempts have.
+        pending_row: The row that is being stored.
+        record: The state of the transaction in which it is called.
+        is_recorded: Whether its transaction has stored its result.
+        results: The results of the committed steps when it starts.
+        extras: State that only some attempts have.
     """
 
     __slots__ = (
@@ -81,97 +87,96 @@ class Attempt(AcknowledgedAttempt):
         "state",
         "reason",
         "until",
-        "since",
-        "fresh",
+        "waiting_since",
+        "is_uncalled",
         "outcome",
-        "at",
-        "took",
+        "finished_at",
+        "call_seconds",
         "event",
         "has_row",
-        "pending",
+        "pending_row",
         "record",
-        "recorded",
+        "is_recorded",
         "results",
         "extras",
     )
 
     def __init__(
-        self, instance: SagaInstance, step: int, kind: str, attempt: int, fresh: bool
+        self, instance: SagaInstance, step: int, kind: str, attempt: int, is_uncalled: bool
     ) -> None:
         self.instance = instance
         self.step = step
         self.attempt = attempt
-        self.fresh = fresh
+        self.is_uncalled = is_uncalled
         action = self.action = instance.kind.actions[kind][step]
         self.kind = action.kind
         self.state = CLAIMED
         self.reason: Suspension | None = None
         self.until: float | None = None
         self.outcome: Outcome | None = None
-        self.at = self.since = 0.0
-        self.took: float | None = None
+        self.finished_at = self.waiting_since = 0.0
+        self.call_seconds: float | None = None
         self.event = ""
         self.has_row = False
-        self.pending: SuspensionRow | None = None
+        self.pending_row: SuspensionRow | None = None
         self.record: StepRecord | None = None
-        self.recorded = False
+        self.is_recorded = False
         self.results = instance.results
         self.extras: AttemptExtras | None = None
 
     # -- its state
 
-    def _to(self, state: AttemptState) -> None:
+    def _set_state(self, state: AttemptState) -> None:
         if Check.is_on:
             check(ATTEMPT_TRANSITIONS, self.state, state)
         self.state = state
 
     def suspend(self, reason: Suspension, until: float | None = None) -> None:
-        """Let it wait without a slot, until a time or until somebody reports it."""
-        self._to(SUSPENDED)
+        """Suspend it without a slot, until a time or until a caller reports it."""
+        self._set_state(SUSPENDED)
         self.reason, self.until = reason, until
 
     def queue(self) -> None:
         """Let it wait for a slot."""
-        self._to(QUEUED)
+        self._set_state(QUEUED)
 
     def start(self) -> None:
         """Call its function now, as far as is known."""
-        self._to(RUNNING)
-        self.fresh, self.took = False, None
+        self._set_state(RUNNING)
+        self.is_uncalled, self.call_seconds = False, None
 
     def claim(self) -> None:
-        """Put it back: its call did nothing, or its shard is recovered, which tells."""
-        self._to(CLAIMED)
+        """Return it to `CLAIMED`: its call did nothing, or its shard is being recovered."""
+        self._set_state(CLAIMED)
 
     def finish(self, outcome: Outcome, at: float) -> None:
-        """Set its outcome: it waits for nothing but its report."""
-        self._to(FINISHED)
-        self.outcome, self.at = outcome, at
+        """Set its outcome: only its report is left."""
+        self._set_state(FINISHED)
+        self.outcome, self.finished_at = outcome, at
 
     def forget(self) -> None:
-        """Finish one that the store does not have: nothing comes of it any more, and nobody waits
-        for its row.
-        """
-        self.pending = None
+        """Finish an attempt that the store does not have: it has no outcome and no row."""
+        self.pending_row = None
         if self.state is not FINISHED:
-            self._to(FINISHED)
+            self._set_state(FINISHED)
 
-    def pausing(self) -> Callable[[], bool]:
-        """Return what says, after a pause, whether nothing else became of it. Its row may have been
-        stored meanwhile.
+    def pause_guard(self) -> Callable[[], bool]:
+        """Return a callable that says after a pause whether its state is unchanged.
+
+        Its row may have been stored in the meantime.
         """
-        before, row = (self.state, self.reason, self.until), self.pending
+        before, row = (self.state, self.reason, self.until), self.pending_row
 
         def is_same() -> bool:
-            is_there = self.instance.busy.get(self.word) is self
-            is_row = self.pending is None or self.pending is row
+            is_there = self.instance.busy.get(self.action_key) is self
+            is_row = self.pending_row is None or self.pending_row is row
             return is_there and is_row and (self.state, self.reason, self.until) == before
 
         return is_same
 
     @property
     def rare(self) -> AttemptExtras:
-        """What only some attempts have, to be put into."""
+        """The extras, created at the first use, to write to."""
         if self.extras is None:
             self.extras = AttemptExtras()
         return self.extras
@@ -183,7 +188,7 @@ class Attempt(AcknowledgedAttempt):
 
     @property
     def failures(self) -> int:
-        """How often it failed, and was called again; below 0 behind a retry by a person."""
+        """How often it failed and was called again; below 0 after a retry by an operator."""
         return self.extras.failures if self.extras else 0
 
     @property
@@ -192,25 +197,25 @@ class Attempt(AcknowledgedAttempt):
         return self.extras.lease if self.extras else None
 
     @property
-    def request(self) -> Wanted:
+    def request(self) -> RequestRef:
         """The operator's command that finished it."""
         return self.extras.request if self.extras else None
 
-    def take_returned(self, subject: Subject) -> Returned | None:
-        """Take out what a function of its definition returned, which is used once."""
+    def take_returned(self, subject: FunctionOption) -> FunctionResult | None:
+        """Remove and return the result of a function of its definition, which is used once."""
         return self.extras.returned.pop(subject, None) if self.extras else None
 
     @property
-    def is_unkept(self) -> bool:
-        """Whether its report, if it is finished, is not known to be in the store."""
+    def is_report_unstored(self) -> bool:
+        """Whether its report may not be stored yet."""
         saga = self.instance
-        is_reported = saga.shard is not None and self in saga.shard.unkept()
-        return is_reported or saga.busy.get(self.word) is self
+        is_reported = saga.shard is not None and self in saga.shard.unstored_reports()
+        return is_reported or saga.busy.get(self.action_key) is self
 
     # -- what it is
 
     @property
-    def word(self) -> ActionKey:
+    def action_key(self) -> ActionKey:
         """The index of its step, and `run` or `undo`."""
         return self.action.word
 
@@ -220,7 +225,7 @@ class Attempt(AcknowledgedAttempt):
 
     @property
     def row(self) -> tuple[int, int, str, int]:
-        """What names it in the store."""
+        """Its primary key in the store: saga id, step, action and number."""
         return self.instance.id, self.step, self.kind, self.attempt
 
     @property
@@ -230,8 +235,9 @@ class Attempt(AcknowledgedAttempt):
 
     @property
     def index(self) -> int | str | None:
-        """The number of its item, or the item's key in a dict; None if it has none. It is also the
-        number if the stored items cannot be read.
+        """The number of its item, or the item's key in a dict; None if it has no item.
+
+        If the stored items cannot be read, it is the number.
         """
         layout = self.instance.kind.layout
         if layout is None:
@@ -244,8 +250,10 @@ class Attempt(AcknowledgedAttempt):
 
     @property
     def limit_name(self) -> tuple[str, str]:
-        """The saga and the step whose limits count it: over all items, and wherever the saga is
-        included. What undoes a step of a child is counted with that step.
+        """The saga and the step whose limits count it.
+
+        The limits cover all items, and all sagas that include the step's saga. An attempt that
+        undoes a step of a child counts with that step.
         """
         kind = self.instance.kind
         if kind.layout is None:
@@ -257,23 +265,23 @@ class Attempt(AcknowledgedAttempt):
     def declared(self) -> Step[Any]:
         """Its step, as the program declares it today."""
         step = self.instance.kind.steps[self.step]
-        assert step is not None  # the open of a store refuses definitions without it
+        assert step is not None  # opening a store refuses definitions without it
         return step
 
     @property
     def manner(self) -> Manner:
-        """How its function is called."""
+        """The options with which its function is called."""
         return self.declared.manner(self.kind)
 
     @property
     def is_wait(self) -> bool:
-        """Whether its function is called when a time has come."""
+        """Whether its function is called at a certain time."""
         step = self.instance.kind.steps[self.step]
         return step is not None and step.kind == "wait" and self.kind == Action.RUN
 
     @property
     def is_child(self) -> bool:
-        """Whether another saga does it."""
+        """Whether a child saga performs it."""
         step = self.instance.kind.steps[self.step]
         return step is not None and step.starts_child(self.kind)
 
@@ -284,25 +292,26 @@ class Attempt(AcknowledgedAttempt):
 
     @property
     def is_external(self) -> bool:
-        """Whether others do it: workers of a queue or over HTTP, or a person."""
+        """Whether others perform it: workers of a queue or over HTTP, or an operator."""
         return self.action.is_external
 
     @property
     def offered(self) -> int | None:
-        """The lease under which the commit that began it offered it, 0 where nobody has one yet;
-        None where that commit did not offer it.
+        """The lease under which the commit that started it offered it.
+
+        It is 0 if no worker has a lease yet, and None if that commit did not offer it.
         """
         return self.extras.offered if self.extras else None
 
     def idempotency_key(self) -> str:
-        """Name its effect: the same for all attempts."""
+        """Return the idempotency key of its effect, the same for all attempts."""
         return tokens.idempotency_key(self.saga_token, self.name, self.kind)
 
     def token(self) -> str:
-        """Name this attempt."""
+        """Return the id of this attempt."""
         return tokens.attempt_id(self.idempotency_key(), self.attempt)
 
-    # -- what its function's task is asked for (`TaskData`)
+    # -- the values of its function's task (`task.About`)
 
     @property
     def saga(self) -> str:
@@ -318,8 +327,10 @@ class Attempt(AcknowledgedAttempt):
 
     @property
     def saga_token(self) -> str:
-        """The shard's name and the saga's number. They are kept once the store has the saga: one
-        whose commit is refused is opened again, in another shard.
+        """The shard's name and the saga's number, as a token.
+
+        It is cached when the store has the saga: a saga whose commit is refused is opened again in
+        another shard.
         """
         instance = self.instance
         if instance.token is not None:
@@ -378,17 +389,18 @@ class Attempt(AcknowledgedAttempt):
 
     @property
     def control(self) -> Control:
-        """What its function hears and tells. One that is called again in a saga that drains is
-        cancelled from its beginning.
+        """The cancellation and the progress of its function.
+
+        If it is called again in a draining saga, it is cancelled from its start.
         """
         extras = self.rare
         if extras.control is None:
             extras.control = Control()
-            if self.instance.drains and not self.undo:
-                extras.control.cancelled.set(self.instance.why_draining)
+            if self.instance.may_cancel_work and not self.undo:
+                extras.control.cancelled.set(self.instance.drain_reason)
         return extras.control
 
-    def lacks(self) -> bool:
+    def lacks_values(self) -> bool:
         """Whether its function may read a value that is not held."""
         instance = self.instance
         if not instance.is_partial:
@@ -399,22 +411,22 @@ class Attempt(AcknowledgedAttempt):
         return ABSENT in (instance.text, instance.options.shape, *needed)
 
     def task(self) -> Task[Any]:
-        """What its function is handed, where that goes on elsewhere: as it is now."""
+        """Return its task with the current values, to use outside of this attempt."""
         return Task(snapshot(self))
 
 
 def start_all(attempts: Sequence[Attempt]) -> None:
-    """As `Attempt.start`, of many."""
+    """Start many attempts, as `Attempt.start`."""
     if Check.is_on:
         for attempt in attempts:
             check(ATTEMPT_TRANSITIONS, attempt.state, RUNNING)
     for attempt in attempts:
-        attempt.state, attempt.fresh, attempt.took = RUNNING, False, None
+        attempt.state, attempt.is_uncalled, attempt.call_seconds = RUNNING, False, None
 
 
 def finish_all(attempts: Sequence[Attempt], at: float) -> list[Attempt]:
-    """Finish those that run still and whose outcomes are set; return them."""
-    found = [attempt for attempt in attempts if attempt.state is RUNNING]
-    for attempt in found:
-        attempt.state, attempt.at = FINISHED, at
-    return found
+    """Finish and return the attempts that still run, whose outcomes are set."""
+    finished = [attempt for attempt in attempts if attempt.state is RUNNING]
+    for attempt in finished:
+        attempt.state, attempt.finished_at = FINISHED, at
+    return finished

@@ -2,22 +2,21 @@
 
 from __future__ import annotations
 
-from sagas.core.batch import Offer
+from sagas.core.batch import OfferRow
 from sagas.core.model import Attempt
 from sagas.core.states import Action
 from sagas.definition import report_undos
 
 
 def task_name(saga: str, step: str, action: str) -> str:
-    """Name a step's action, as workers ask for it."""
+    """Return the name of a step's action, under which workers claim it."""
     return f"{saga}/{step}/{action}"
 
 
-def task_of(attempt: Attempt) -> str:
-    """Return the name under which workers ask for an attempt.
+def offered_task_name(attempt: Attempt) -> str:
+    """Return the name under which workers claim an attempt.
 
-    A step of a saga that undoes a child is the compensation of the child's step, for the worker of
-    that.
+    A step of a saga that undoes a child has the name of the compensation of the child's step.
     """
     saga = attempt.instance.kind.saga
     if saga is not None and saga.undoes is not None and saga.undoes_step is not None:
@@ -29,23 +28,23 @@ def task_of(attempt: Attempt) -> str:
     return task_name(attempt.saga, attempt.declared_name, attempt.kind)
 
 
-def offer(attempt: Attempt, shard: int, now: float) -> Offer:
+def offer_row(attempt: Attempt, shard: int, now: float) -> OfferRow:
     """Return the row that offers an attempt.
 
-    One of a queue is offered under a lease at once: a message goes out with it, and no worker
-    claims it.
+    An attempt of a queue gets a lease at once: it is sent as a message with the lease, and no
+    worker claims it.
     """
     instance = attempt.instance
-    why = instance.why_draining if instance.draining and not attempt.undo else None
+    why = instance.drain_reason if instance.draining and not attempt.undo else None
     if attempt.is_remote:
         return (attempt.token(), shard, *attempt.row, "", None, int(now * 1000), now, why)
     is_action = attempt.kind == Action.RUN and instance.kind.undoes is None
     bound = attempt.declared.concurrency if is_action else None
-    return (attempt.token(), shard, *attempt.row, task_of(attempt), bound, None, now, why)
+    return (attempt.token(), shard, *attempt.row, offered_task_name(attempt), bound, None, now, why)
 
 
-def first_offer(attempt: Attempt, shard: int, now: float) -> Offer:
-    """Offer an attempt in the commit that begins it."""
-    row = offer(attempt, shard, now)
+def first_offer_row(attempt: Attempt, shard: int, now: float) -> OfferRow:
+    """Return the row that offers an attempt in the commit that starts it."""
+    row = offer_row(attempt, shard, now)
     attempt.rare.offered = row[8] or 0
     return row

@@ -20,29 +20,29 @@ from sagas.definition.payloads import Payloads
 from sagas.definition.step import Manner, Unknowns
 from sagas.definition.task import Task
 
-MOST_TEXT = 4000
-"""Characters of what was raised that are kept."""
+MAX_TEXT = 4000
+"""The characters of an error text that are stored."""
 SUCCEEDED, FAILED = OutcomeKind.SUCCEEDED, OutcomeKind.FAILED
 PERMANENT, UNKNOWN = OutcomeKind.FAILED_PERMANENTLY, OutcomeKind.UNKNOWN
 CANNOT_DECODE, ANSWERED = OutcomeKind.CANNOT_DECODE, OutcomeKind.ANSWERED
 UNREADABLE = "unreadable"
-"""In a report: the task could not be handed out. No worker's report has it."""
-PASSES = "passes"
-"""Its value there: the values of the task may be read later."""
-WORST = (UNKNOWN, CANNOT_DECODE, PERMANENT, FAILED)
-"""Of a group of exceptions, the first of these that any of them is."""
+"""The key of a report whose task could not be given to a worker. No worker's report has it."""
+TEMPORARY = "passes"
+"""The value of that key if the task's values may be readable later."""
+PRECEDENCE = (UNKNOWN, CANNOT_DECODE, PERMANENT, FAILED)
+"""The kind of a group of exceptions: the first of these that any member has."""
 
 
 class Outcome(NamedTuple):
-    """What a call came to.
+    """The outcome of a call.
 
     Attributes:
         kind: The kind of outcome.
-        value: JSON: the result, or what was raised. A plain text where the outcome is unknown or
-            could not be decoded.
+        value: JSON of the result or of the error. A plain text if the outcome is unknown or the
+            values could not be decoded.
         called: Whether the function was called; else the attempt was given up.
-        error: What the function raised here, for the log's traceback. None for a `Fail`.
-        encoded: Whether the value is as it is stored.
+        error: The exception that the function raised, for the log's traceback. None for a `Fail`.
+        encoded: Whether the codec has encoded the value already.
     """
 
     kind: OutcomeKind
@@ -56,11 +56,11 @@ _outcome = cast(
     "Callable[[tuple[OutcomeKind, str, bool, None, bool]], Outcome]",
     functools.partial(tuple.__new__, Outcome),
 )
-"""As `Outcome`, for what is made all the time."""
+"""Make an `Outcome` from a tuple, faster than its constructor."""
 
 
 class Unawaited(Exception):
-    """A function returned an awaitable, so it is not over: an `await` was forgotten, say."""
+    """A function returned an awaitable: for example, an `await` was forgotten."""
 
     def __init__(self, value: Any) -> None:
         super().__init__(value)
@@ -70,11 +70,10 @@ class Unawaited(Exception):
 def succeeded(value: Any, task: Task[Any] | None = None) -> Outcome:
     """Return the outcome of a function that returned `value`.
 
-    A result that is not JSON is kept as `{"unstorable": ..}`: the effect is there, and must not
-    be lost.
+    A result that is not JSON is stored as `{"unstorable": ...}`, because its effect exists.
 
     Raises:
-        Unawaited: The result is awaitable. What it comes to is the result.
+        Unawaited: The result is awaitable. Await it to get the result.
     """
     try:
         return _outcome((SUCCEEDED, serialization.write_value(value), True, None, False))
@@ -83,18 +82,18 @@ def succeeded(value: Any, task: Task[Any] | None = None) -> Outcome:
             return Outcome(ANSWERED, value.written())
         if inspect.isawaitable(value):
             raise Unawaited(value) from None
-        whose = f" key={quoted(task.key)} saga={task.saga} step={task.step}" if task else ""
-        logger.warning("result_unstorable%s detail=%s", whose, quoted(error))
-        return Outcome(SUCCEEDED, json.dumps({"unstorable": str(error)[:MOST_TEXT]}))
+        subject = f" key={quoted(task.key)} saga={task.saga} step={task.step}" if task else ""
+        logger.warning("result_unstorable%s detail=%s", subject, quoted(error))
+        return Outcome(SUCCEEDED, json.dumps({"unstorable": str(error)[:MAX_TEXT]}))
 
 
-def stored(payloads: Payloads, text: str) -> str:
-    """Return a result as it is stored. Where its codec fails, that is kept: the effect is there."""
+def encode_result(payloads: Payloads, text: str) -> str:
+    """Return a result as stored. If its codec fails, the error is stored: the effect exists."""
     try:
         return payloads.encode(text)
     except NotSerializable as error:
         logger.warning("result_unstorable detail=%s", quoted(error))
-        return json.dumps({"unstorable": str(error)[:MOST_TEXT]})
+        return json.dumps({"unstorable": str(error)[:MAX_TEXT]})
 
 
 def failure(
@@ -106,61 +105,62 @@ def failure(
         text: Why it failed.
         final: Whether no further attempt is made.
         called: Whether the function was called; else the attempt was given up.
-        retry_after: Seconds until the next attempt, in place of the step's back-off.
+        retry_after: Seconds until the next attempt, in place of the step's backoff.
     """
-    told: dict[str, Any] = {"error": text[:MOST_TEXT]}
+    detail: dict[str, Any] = {"error": text[:MAX_TEXT]}
     if final:
-        told["final"] = True
+        detail["final"] = True
     if not called:
-        told["called"] = False
+        detail["called"] = False
     if retry_after is not None:
-        told["retry_after"] = retry_after
-    return Outcome(PERMANENT if final else FAILED, serialization.write(told), called)
+        detail["retry_after"] = retry_after
+    return Outcome(PERMANENT if final else FAILED, serialization.write(detail), called)
 
 
-def not_read(error: BlobUnavailable) -> Outcome:
-    """Return the outcome of an attempt whose values the blob store does not give now."""
-    return _told(CANNOT_DECODE, str(error))._replace(error=error)
+def values_unavailable(error: BlobUnavailable) -> Outcome:
+    """Return the outcome of an attempt whose values the blob store cannot return now."""
+    return _text_outcome(CANNOT_DECODE, str(error))._replace(error=error)
 
 
 def unreadable(text: str, passes: bool = False) -> Outcome:
-    """Return what is reported of a task that cannot be handed out, since what is stored for it
-    cannot be read: nothing was called, and nothing has failed. `passes`: it can be read later.
+    """Return the report of a task whose stored values cannot be read.
+
+    No function was called, and nothing has failed. `passes`: the values may be readable later.
     """
-    report = {"error": text[:MOST_TEXT], "called": False, UNREADABLE: PASSES if passes else True}
+    report = {"error": text[:MAX_TEXT], "called": False, UNREADABLE: TEMPORARY if passes else True}
     return Outcome(FAILED, serialization.write(report), called=False)
 
 
-def delivered(kind: OutcomeKind, value: str) -> Outcome:
-    """Return the outcome of a report, as it is stored for the node that executes the saga."""
+def read_report(kind: OutcomeKind, value: str) -> Outcome:
+    """Return the outcome of a stored report, for the node that executes the saga."""
     if kind is FAILED and UNREADABLE in value and (report := json.loads(value)).get(UNREADABLE):
-        if report[UNREADABLE] == PASSES:
-            return not_read(BlobUnavailable(str(report["error"])))
-        return _told(CANNOT_DECODE, str(report["error"]))
+        if report[UNREADABLE] == TEMPORARY:
+            return values_unavailable(BlobUnavailable(str(report["error"])))
+        return _text_outcome(CANNOT_DECODE, str(report["error"]))
     return Outcome(kind, value)
 
 
 def parked(text: str) -> Outcome:
-    """Return the outcome of an attempt that this program cannot make, and another one may."""
-    return _told(CANNOT_DECODE, text)
+    """Return the outcome of an attempt that only another program can make."""
+    return _text_outcome(CANNOT_DECODE, text)
 
 
 def unknown(text: str) -> Outcome:
-    """Return the outcome of a call that may have had its effect."""
-    return _told(UNKNOWN, text)
+    """Return the outcome of a call whose effect may have happened."""
+    return _text_outcome(UNKNOWN, text)
 
 
-def _told(kind: OutcomeKind, text: str) -> Outcome:
+def _text_outcome(kind: OutcomeKind, text: str) -> Outcome:
     """Return an outcome with a text that every database can keep."""
-    return Outcome(kind, serialization.clean(text[:MOST_TEXT])[:MOST_TEXT])
+    return Outcome(kind, serialization.clean(text[:MAX_TEXT])[:MAX_TEXT])
 
 
 def raised(error: BaseException, manner: Manner) -> Outcome:
     """Return the outcome of a function that raised `error`."""
     kind = classify(error, manner.unknown)
-    text = str(error) if isinstance(error, CannotDecode) else described(error)
+    text = str(error) if isinstance(error, CannotDecode) else describe_error(error)
     if kind is UNKNOWN or kind is CANNOT_DECODE:
-        return _told(kind, text)
+        return _text_outcome(kind, text)
     if kind is PERMANENT:
         return failure(text, final=True)
     after = error.seconds if isinstance(error, RetryAfter) else None
@@ -168,8 +168,10 @@ def raised(error: BaseException, manner: Manner) -> Outcome:
 
 
 def classify(error: BaseException, unknown: Unknowns) -> OutcomeKind:
-    """Return the outcome that an exception is; of a group, as `asyncio.TaskGroup` raises one, the
-    first of `WORST` that any of it is.
+    """Return the kind of outcome of an exception.
+
+    For a group, as `asyncio.TaskGroup` raises it, this is the first kind of `PRECEDENCE` that any
+    member has.
     """
     if isinstance(error, CannotDecode):
         return CANNOT_DECODE
@@ -178,22 +180,22 @@ def classify(error: BaseException, unknown: Unknowns) -> OutcomeKind:
     if isinstance(error, (Unknown, *unknown)):
         return UNKNOWN
     if isinstance(error, BaseExceptionGroup):
-        kinds = {classify(one, unknown) for one in error.exceptions}
-        return next(kind for kind in WORST if kind in kinds)
-    return FAILED if isinstance(error, Exception) else UNKNOWN  # sys.exit() in the middle, say
+        kinds = {classify(member, unknown) for member in error.exceptions}
+        return next(kind for kind in PRECEDENCE if kind in kinds)
+    return FAILED if isinstance(error, Exception) else UNKNOWN  # for example, sys.exit()
 
 
-def described(error: BaseException) -> str:
-    """Return an exception as a line; of a group each one."""
+def describe_error(error: BaseException) -> str:
+    """Return an exception as a line; for a group, all its members."""
     if isinstance(error, BaseExceptionGroup):
-        return "; ".join(described(one) for one in error.exceptions)
+        return "; ".join(describe_error(member) for member in error.exceptions)
     if isinstance(error, SyntaxError) or getattr(error, "__notes__", None):
         return "".join(traceback.format_exception_only(type(error), error)).strip()
     return _line_of(error)
 
 
 def _line_of(error: BaseException) -> str:
-    """As `traceback.format_exception_only` of one without notes, in a tenth of its time."""
+    """Return the line of `traceback.format_exception_only`, in a tenth of its time."""
     kind = type(error)
     name = kind.__qualname__
     if kind.__module__ not in ("__main__", "builtins"):
@@ -205,8 +207,8 @@ def _line_of(error: BaseException) -> str:
     return f"{name}: {text}".strip() if text else name
 
 
-def fault(outcome: Outcome) -> str:
-    """Return why an attempt did not succeed, for people; the empty text where it did."""
+def error_text(outcome: Outcome) -> str:
+    """Return why an attempt did not succeed, for people; empty if it did."""
     if outcome.kind in (SUCCEEDED, ANSWERED):
         return ""
     if outcome.kind in (UNKNOWN, CANNOT_DECODE):
@@ -214,9 +216,10 @@ def fault(outcome: Outcome) -> str:
     return str(serialization.read(outcome.value).get("error"))
 
 
-def doubt(error: BaseException | None, manner: Manner) -> str:
-    """Return what the log adds to a failure whose cause leaves open what was done, as clients raise
-    their own exceptions from a timeout; else the empty text.
+def unknown_hint(error: BaseException | None, manner: Manner) -> str:
+    """Return what the log adds to a failure whose cause has an unknown outcome; else empty.
+
+    Clients often raise their own exceptions from a timeout.
     """
     seen, cause = set[int](), error
     while cause is not None and id(cause) not in seen:
@@ -231,20 +234,20 @@ def doubt(error: BaseException | None, manner: Manner) -> str:
     return ""
 
 
-def decided(outcome: Outcome) -> Outcome:
-    """Return how an approval ended whose function decided it."""
-    told = json.loads(outcome.value)
-    if "rejected" in told:
-        return failure(told["rejected"], final=True)
-    value = json.dumps(told["approved"], separators=(",", ":"), sort_keys=True)
+def approval_outcome(outcome: Outcome) -> Outcome:
+    """Return the outcome of an approval that its function decided."""
+    answer = json.loads(outcome.value)
+    if "rejected" in answer:
+        return failure(answer["rejected"], final=True)
+    value = json.dumps(answer["approved"], separators=(",", ":"), sort_keys=True)
     return Outcome(SUCCEEDED, value)
 
 
-def reported(result: Any, failed: str | None, final: bool = True) -> Outcome:
-    """Return what somebody reports of an attempt.
+def reported_outcome(result: Any, failed: str | None, final: bool = True) -> Outcome:
+    """Return the outcome that a caller reports for an attempt.
 
     Args:
-        result: The result, where it succeeded.
+        result: The result, if it succeeded.
         failed: Why it failed, else None.
         final: Whether a failure is permanent.
 

@@ -1,4 +1,4 @@
-"""What an open saga waits for, in words."""
+"""What an open saga waits for, as texts."""
 
 from __future__ import annotations
 
@@ -10,20 +10,20 @@ from sagas.core.batch import SagaRow
 from sagas.core.model import QUEUED, RUNNING, SUSPENDED, SagaInstance
 from sagas.core.states import WAITS_FOR, Action, Suspension
 
-MOST = 5
-"""So many waits are named."""
-NOT_BEGUN = "no node has started it yet (run `sagas store URL nodes`)"
-"""Of a client's start that no log has yet."""
+MAX_WAITS = 5
+"""The number of waits that a message names."""
+NO_NODE_YET = "no node has started it yet (run `sagas store URL nodes`)"
+"""The text for a client's start that no shard has yet."""
 
 
 def check_refused(row: SagaRow) -> None:
-    """Raise `InvalidInput` where a node has refused a client's start."""
+    """Raise `InvalidInput` if a node has refused a client's start."""
     if row.id < 0 and row.note is not None:
         raise InvalidInput(row.note)
 
 
-def left_by(saga: str, version: int, nodes: Sequence[str]) -> str:
-    """Return what is said of a saga that these nodes leave, since they have another definition."""
+def missing_definition(saga: str, version: int, nodes: Sequence[str]) -> str:
+    """Return the text for a start that these nodes skip, because their definition differs."""
     named = f"{saga!r} (version {version})"
     has = f"node{'s' if len(nodes) > 1 else ''} {', '.join(nodes)}"
     return (
@@ -33,52 +33,54 @@ def left_by(saga: str, version: int, nodes: Sequence[str]) -> str:
     )
 
 
-def _said(name: str, undo: bool, reason: str, until: float | None) -> str:
-    """A step whose attempt is suspended, and why."""
-    told = f"waits for {WAITS_FOR.get(reason, reason)}"
+def _wait_text(name: str, undo: bool, reason: str, until: float | None) -> str:
+    """Return a text that names a suspended step and its reason."""
+    text = f"waits for {WAITS_FOR.get(reason, reason)}"
     if reason == Suspension.UNKNOWN and until is None:
         how = f"complete or fail{' with undo=True' if undo else ''}"
-        told = f"has an unknown outcome and waits for a person ({how})"
+        text = f"has an unknown outcome and waits for a person ({how})"
     elif reason == Suspension.EXHAUSTED:
-        told += f" (retry, complete or fail{' with undo=True' if undo else ''})"
+        text += f" (retry, complete or fail{' with undo=True' if undo else ''})"
     elif reason == Suspension.CANNOT_DECODE:
-        told += " (see attention)"
-    return f"{_of(undo)}{name} {told}"
+        text += " (see attention)"
+    return f"{_of(undo)}{name} {text}"
 
 
 def _of(undo: bool) -> str:
     return "the compensation of " if undo else ""
 
 
-def of_live(instance: SagaInstance | None) -> list[str]:
-    """Return what a saga waits for that is driven here."""
-    found = []
+def live_waits(instance: SagaInstance | None) -> list[str]:
+    """Return what a saga waits for that this program executes."""
+    waits = []
     for attempt in instance.busy.values() if instance else ():
         if attempt.state is SUSPENDED:
             reason = str(attempt.reason)
-            found.append(_said(attempt.name, attempt.undo, reason, attempt.until))
+            waits.append(_wait_text(attempt.name, attempt.undo, reason, attempt.until))
         elif attempt.state is RUNNING:
-            found.append(f"{_of(attempt.undo)}{attempt.name} runs")
-        elif attempt.extras and attempt.extras.asked:
-            found.append(f"{_of(attempt.undo)}{attempt.name} waits for {attempt.extras.asked}")
+            waits.append(f"{_of(attempt.undo)}{attempt.name} runs")
+        elif attempt.extras and attempt.extras.called_options:
+            waits.append(
+                f"{_of(attempt.undo)}{attempt.name} waits for {attempt.extras.called_options}"
+            )
         elif attempt.state is QUEUED:
-            found.append(f"{_of(attempt.undo)}{attempt.name} waits for {WAITS_FOR['slot']}")
-    return found
+            waits.append(f"{_of(attempt.undo)}{attempt.name} waits for {WAITS_FOR['slot']}")
+    return waits
 
 
-def of_rows(names: Sequence[str], rows: Iterable[tuple[Any, ...]]) -> list[str]:
-    """Return the same by rows of the store: step, kind, reason, until. A wait until 0 is over."""
+def stored_waits(names: Sequence[str], rows: Iterable[tuple[Any, ...]]) -> list[str]:
+    """Return what a saga waits for, from rows (step, kind, reason, until). Until 0 is over."""
     return [
-        _said(names[step], kind == Action.COMPENSATE, reason, until)
+        _wait_text(names[step], kind == Action.COMPENSATE, reason, until)
         for step, kind, reason, until in rows
         if (reason, until) != (Suspension.TIMER, 0.0)
     ]
 
 
-def still_open(key: str, timeout: float, waits: Sequence[str]) -> TimeoutError:
-    """Return what is raised for a saga that is not over in time."""
-    more = f" and {len(waits) - MOST} more" if len(waits) > MOST else ""
+def timeout_error(key: str, timeout: float, waits: Sequence[str]) -> TimeoutError:
+    """Return the error for a saga that has not ended in time."""
+    more = f" and {len(waits) - MAX_WAITS} more" if len(waits) > MAX_WAITS else ""
     return TimeoutError(
         f"{key!r} is still open after {timeout:g} "
-        f"s{': ' if waits else ''}{', '.join(waits[:MOST])}{more}"
+        f"s{': ' if waits else ''}{', '.join(waits[:MAX_WAITS])}{more}"
     )

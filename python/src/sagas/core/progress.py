@@ -1,19 +1,20 @@
-"""Active attempts as the driving node knows them."""
+"""Active attempts as the executing node knows them."""
 
 from __future__ import annotations
 
-from sagas.core.exhaustion import RETRIED
+from sagas.core.exhaustion import RETRYABLE
 from sagas.core.model import FINISHED, RUNNING, SUSPENDED, Attempt, SagaInstance
 from sagas.core.results import ActiveAttempt
 from sagas.core.states import WAITS_FOR, Suspension
 
-TIMED = RETRIED | {Suspension.BACKOFF, Suspension.TIMER, Suspension.APPROVAL}
+TIMED = RETRYABLE | {Suspension.BACKOFF, Suspension.TIMER, Suspension.APPROVAL}
 """Suspensions until a time."""
 
 
 def active_attempts(instance: SagaInstance | None, now: float) -> list[ActiveAttempt]:
-    """Return the attempts of a saga that have begun and whose outcomes are not known; none of one
-    that is not driven here.
+    """Return the started attempts of a saga whose outcomes are not known.
+
+    The list is empty if this program does not execute the saga.
     """
     if instance is None or not instance.committed:
         return []
@@ -27,14 +28,16 @@ def _active(attempt: Attempt, now: float) -> ActiveAttempt:
         until = attempt.until
     elif waits == Suspension.EXTERNAL and attempt.lease:
         until = attempt.lease.until
-    told = attempt.extras.control.progress if attempt.extras and attempt.extras.control else None
+    reported = (
+        attempt.extras.control.progress if attempt.extras and attempt.extras.control else None
+    )
     return ActiveAttempt(
-        attempt.name, attempt.undo, attempt.attempt, waits, until, *(told or (None, None))
+        attempt.name, attempt.undo, attempt.attempt, waits, until, *(reported or (None, None))
     )
 
 
 def waits_for(attempt: Attempt, now: float) -> str:
-    """Return for what an attempt waits, a key of `WAITS_FOR`; empty if its function is called."""
+    """Return what an attempt waits for, a key of `WAITS_FOR`; empty if its function runs."""
     if attempt.state is RUNNING:
         return "ordered" if attempt.is_remote else ""
     if attempt.state is not SUSPENDED:
@@ -48,8 +51,8 @@ def waits_for(attempt: Attempt, now: float) -> str:
     return "concurrency" if attempt.reason is Suspension.STEP_LIMIT else str(attempt.reason)
 
 
-def described(attempt: Attempt, now: float) -> str:
-    """Return in words what an attempt does that has begun."""
+def describe_attempt(attempt: Attempt, now: float) -> str:
+    """Return a text that says what a started attempt does."""
     if attempt.state is FINISHED:
         return "it has ended"
     waits = waits_for(attempt, now)

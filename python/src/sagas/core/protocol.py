@@ -1,7 +1,7 @@
 """Requests to the engine and its replies (docs/FORMATS.md).
 
-A reply that tells of an event is read without a parser: its keys are in order, and the event is
-flat. Measured on 2026-11-28 against `json`, in instructions a saga of three steps over SQLite: 7 %
+A reply with an event is read without a parser: its keys are in order, and the event is flat.
+Measured on 2026-11-28 against `json`, in instructions a saga of three steps over SQLite: 7 %
 less for one saga at a time, 11 % less for 16.
 """
 
@@ -11,12 +11,12 @@ import json
 
 from sagas.definition.capacity import HEADER as HEADER
 
-MOST_REQUEST = 65_536
-"""Bytes."""
+MAX_REQUEST = 65_536
+"""The maximum length of a request, in bytes."""
 NEXT = '{"do":"next"}'
 BUSY = '{"do":"busy"}'
 REPLY = "{"
-"""What each reply begins with. A line of the log begins with a plus, which sorts before it."""
+"""The first character of each reply. Lines of the log begin with a plus, which sorts before it."""
 EVENT = '{"event":{'
 COMMIT = '{"event":{"event":"commit",'
 GOING = '"phase":"going"}'
@@ -35,26 +35,27 @@ STATES = ',"states":['
 PLANNED = '"kind":"plan"'
 
 
-def open_line(place: int, number: int) -> str:
-    """Opens the saga of this number, with the definition at this place."""
-    return f'{{"def":{place},"do":"open","saga":{number}}}'
+def open_line(definition_index: int, number: int) -> str:
+    """Return the request that opens a saga with the definition of this index."""
+    return f'{{"def":{definition_index},"do":"open","saga":{number}}}'
 
 
 def define_line(text: str) -> str | None:
-    """Gives the shard a further definition; None where it is longer than a request may be."""
+    """Return the request that adds a definition; None if it exceeds `MAX_REQUEST`."""
     line = f'{{"definition":{json.dumps(text)},"do":"define"}}'
-    return line if len(line) <= MOST_REQUEST else None
+    return line if len(line) <= MAX_REQUEST else None
 
 
-def is_defined(reply: str, place: int) -> bool:
-    """Whether a definition has this place now. A program that does not know the request, or has no
-    room, says otherwise.
+def is_defined(reply: str, definition_index: int) -> bool:
+    """Whether the engine added a definition with this index.
+
+    An engine that does not know the request, or has no capacity, replies otherwise.
     """
-    return reply == f'{{"def":{place}}}'
+    return reply == f'{{"def":{definition_index}}}'
 
 
 def report_line(saga: int, step: int, task: str, attempt: int, ok: bool) -> str:
-    """How this attempt of `run` or `undo` ended."""
+    """Return the request that reports how an attempt of `run` or `undo` ended."""
     outcome = "ok" if ok else "fail"
     return (
         f'{{"attempt":{attempt},"do":"report","outcome":"{outcome}","saga":{saga},'
@@ -63,7 +64,7 @@ def report_line(saga: int, step: int, task: str, attempt: int, ok: bool) -> str:
 
 
 def take_lines(saga: int, step: int) -> tuple[str, str]:
-    """Takes the task of a step, and reports it as done."""
+    """Return the requests that take the task of a step and report its success."""
     report = f'{{"do":"report","outcome":"ok","saga":{saga},"step":{step}}}'
     return f'{{"do":"take","saga":{saga},"step":{step}}}', report
 
@@ -76,15 +77,13 @@ def show_line(saga: int) -> str:
     return f'{{"do":"show","saga":{saga}}}'
 
 
-def next_line(most: int) -> str:
-    """Takes so many tasks."""
-    return f'{{"do":"next","most":{most}}}'
+def next_line(count: int) -> str:
+    """Return the request that takes up to `count` tasks."""
+    return f'{{"do":"next","most":{count}}}'
 
 
 def event_and_phase(reply: str) -> tuple[str, str] | None:
-    """The word of the event that a report came to, and that of the saga's phase after it; None
-    where it came to none.
-    """
+    """Return the event of a reply to a report, and the saga's phase after it; None if none."""
     if reply.startswith(COMMIT):  # most do
         if reply.endswith(GOING):
             return "commit", "going"
@@ -97,30 +96,31 @@ def event_and_phase(reply: str) -> tuple[str, str] | None:
 
 
 def tasks_in(reply: str) -> list[tuple[int, int, str, int]] | None:
-    """Of the tasks of a reply to `next`, where there is no plan among them: saga, step, `run` or
-    `undo`, attempt.
+    """Return the tasks of a reply to `next`: saga, step, `run` or `undo`, attempt.
+
+    It is None if the reply has no tasks, or has a plan.
     """
-    _, there, told = reply.partition(TASKS)
-    if not there or PLAN in told:
+    _, separator, tasks_text = reply.partition(TASKS)
+    if not separator or PLAN in tasks_text:
         return None
-    found = []
-    for task in told[:-3].split("},{"):
-        attempt, _, saga, step, word = task.split(
+    tasks = []
+    for task in tasks_text[:-3].split("},{"):
+        attempt, _, saga, step, task_kind = task.split(
             ","
         )  # a step's name has letters, digits, _ and - alone
-        found.append(
+        tasks.append(
             (
                 int(saga[7:]),
                 int(step[7:]),
-                "undo" if word == UNDO else "run",
+                "undo" if task_kind == UNDO else "run",
                 1 if attempt == FIRST else int(attempt[10:]),
             )
         )
-    return found
+    return tasks
 
 
-def standing(reply: str) -> tuple[str, str]:
-    """Of a reply to `show`: the saga's phase, and how it stands, as the store keeps that."""
+def phase_and_end(reply: str) -> tuple[str, str]:
+    """Return the saga's phase and its state as stored, from a reply to `show`."""
     head, _, rest = reply.rpartition(NAME)  # a quote in a text is not plain
     _, _, rest = rest.partition(PHASE)
     phase, _, rest = rest.partition('"')
@@ -130,5 +130,5 @@ def standing(reply: str) -> tuple[str, str]:
 
 
 def number_in(reply: str) -> int:
-    """The number of the saga that was opened."""
+    """Return the number of the opened saga, from a reply to `open`."""
     return int(reply[reply.index('"saga":') + 7 : reply.index("}")])

@@ -2,11 +2,11 @@
 
 A record of a program has a line for each event, with single spaces between its fields:
 
-    sagas-record 1 RUN                                 a program begins; RUN is a word of its own
-    took RUN SHARD EPOCH TIMELINE EVENTS DIGEST        it has taken a shard up, and read EVENTS
+    sagas-record 1 RUN                                 a program starts; RUN is its unique name
+    took RUN SHARD EPOCH TIMELINE EVENTS DIGEST        it has taken over a shard, and read EVENTS
     sent RUN SHARD EPOCH TIMELINE FIRST DIGEST         it sends a commit that follows FIRST events
     heard RUN SHARD EPOCH TIMELINE EVENTS              the server answered: there are EVENTS now
-    stale RUN SHARD EPOCH TIMELINE                     it answered that the shard is another's
+    stale RUN SHARD EPOCH TIMELINE                     it answered that another node has the shard
     failed RUN SHARD EPOCH TIMELINE                    it answered that it wrote nothing
     closed RUN SHARD EPOCH TIMELINE                    the shard is closed: it may be deleted
     told RUN SHARD EPOCH TIMELINE EVENTS EDGE          it acknowledges what rests on EVENTS
@@ -32,25 +32,25 @@ FIELDS = {
     "told": 7,
     "seen": 4,
 }
-"""How many words a line has."""
+"""The number of fields of each line."""
 SEEN = "seen"
 
 
-class BadLine(Exception):
-    """A line of a record is none."""
+class InvalidLine(Exception):
+    """A line of a record is invalid."""
 
 
-class Note(NamedTuple):
-    """An event of a program's record about one shard, with its number, and its digest or edge."""
+class RecordNote(NamedTuple):
+    """An event of a program's record about one shard, with its number and its digest or edge."""
 
-    what: str
+    event: str
     number: int = 0
     digest: int = 0
     edge: str = ""
 
 
-class Line(NamedTuple):
-    """What names a session: the program, the epoch and the timeline."""
+class SessionName(NamedTuple):
+    """The name of a session: the program, the epoch and the timeline."""
 
     run: str
     epoch: int
@@ -59,37 +59,40 @@ class Line(NamedTuple):
 
 @dataclasses.dataclass
 class Records:
-    """The records of programs: the notes of each session, by shard, and the edges at which the end
-    of each saga was acknowledged.
+    """The records of programs.
+
+    Attributes:
+        notes: The notes of each session, by shard.
+        seen: The edges at which the end of each saga was acknowledged, by saga.
     """
 
-    notes: dict[int, dict[Line, list[Note]]] = dataclasses.field(default_factory=dict)
+    notes: dict[int, dict[SessionName, list[RecordNote]]] = dataclasses.field(default_factory=dict)
     seen: dict[int, set[str]] = dataclasses.field(default_factory=dict)
 
     def add(self, line: str) -> None:
         """Add a line.
 
         Raises:
-            BadLine: It is none.
+            InvalidLine: The line is invalid.
         """
-        what, *words = line.split(" ")
-        if what == "sagas-record":
-            if words[:1] != ["1"]:
-                raise BadLine("its format is not 1")
+        event, *fields = line.split(" ")
+        if event == "sagas-record":
+            if fields[:1] != ["1"]:
+                raise InvalidLine("its format is not 1")
             return
-        if FIELDS.get(what) != 1 + len(words):
-            raise BadLine("it is no event")
-        if what == SEEN:
-            self.seen.setdefault(_number(words[1]), set()).add(words[2])
+        if FIELDS.get(event) != 1 + len(fields):
+            raise InvalidLine("it is no event")
+        if event == SEEN:
+            self.seen.setdefault(_number(fields[1]), set()).add(fields[2])
             return
-        run, shard, epoch, timeline, *rest = words
-        at = Line(run, _number(epoch), timeline)
-        if what == "told":
-            note = Note(what, _number(rest[0]), edge=rest[1])
+        run, shard, epoch, timeline, *rest = fields
+        session = SessionName(run, _number(epoch), timeline)
+        if event == "told":
+            note = RecordNote(event, _number(rest[0]), edge=rest[1])
         else:
             numbers = [*map(_number, rest), 0, 0]
-            note = Note(what, numbers[0], numbers[1])
-        self._put(_number(shard), at, note)
+            note = RecordNote(event, numbers[0], numbers[1])
+        self._put(_number(shard), session, note)
 
     def shards(self) -> Iterable[int]:
         """Return the shards that have a note."""
@@ -98,25 +101,28 @@ class Records:
     def is_closed(self, shard: int) -> bool:
         """Whether a shard was closed."""
         notes = self.notes.get(shard, {}).values()
-        return any(note.what == "closed" for of in notes for note in of)
+        return any(note.event == "closed" for of in notes for note in of)
 
     def ends(self, first: int, end: int) -> list[tuple[int, str]]:
         """Return the sagas from `first` to before `end` with acknowledged ends, and the edges."""
-        found = ((id, edge) for id, edges in self.seen.items() for edge in sorted(edges))
-        return sorted((id, edge) for id, edge in found if first <= id < end)
+        pairs = ((id, edge) for id, edges in self.seen.items() for edge in sorted(edges))
+        return sorted((id, edge) for id, edge in pairs if first <= id < end)
 
-    def _put(self, shard: int, at: Line, note: Note) -> None:
-        notes = self.notes.setdefault(shard, {}).setdefault(at, [])
-        if note.what != "failed":
+    def _put(self, shard: int, session: SessionName, note: RecordNote) -> None:
+        notes = self.notes.setdefault(shard, {}).setdefault(session, [])
+        if note.event != "failed":
             notes.append(note)
             return
-        # what was sent was not written; meanwhile something may have been acknowledged
-        last = next((at for at in reversed(range(len(notes))) if notes[at].what != "told"), None)
-        if last is not None and notes[last].what == "sent":
+        # the sent commit was not written; an acknowledgement may have followed it
+        last = next(
+            (session for session in reversed(range(len(notes))) if notes[session].event != "told"),
+            None,
+        )
+        if last is not None and notes[last].event == "sent":
             del notes[last]
 
 
-def _number(word: str) -> int:
-    if not (word.isascii() and word.isdigit()):
-        raise BadLine(f"{word[:20]!r} is not a number")
-    return int(word)
+def _number(text: str) -> int:
+    if not (text.isascii() and text.isdigit()):
+        raise InvalidLine(f"{text[:20]!r} is not a number")
+    return int(text)

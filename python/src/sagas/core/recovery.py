@@ -1,12 +1,12 @@
 """Recovery of a shard from the rows of the store.
 
-That is so when a program takes a shard up, when its engine died, and when a commit was refused
-or its answer was lost. What was on its way is there by then, or never will be. The rows of the
-store and the engine's own answers tell what is so; of what this program knew only the attempts
-that run stay.
+A shard is recovered when a program takes it over, when its engine process died, and when a commit
+was refused or its answer was lost. By then each earlier commit is stored, or never will be. The
+rows of the store and the replies of the engine define the state. Of this program's own state, only
+the attempts that run are kept.
 
-A finished attempt stays finished: it is reported again, unless the store shows that its result is
-not there any more. Then a new attempt takes its place, as of an earlier program.
+A finished attempt stays finished: it is reported again, unless the store does not have its result
+any more. Then a new attempt replaces it, as if an earlier program had started it.
 """
 
 from __future__ import annotations
@@ -19,42 +19,42 @@ from typing import Any
 
 from sagas.core import protocol
 from sagas.core.attempts import PARKED
-from sagas.core.batch import HeldRow, Loaded, OpenRow
-from sagas.core.early_reports import ATTEMPT
+from sagas.core.batch import StoredSuspension, LoadedShard, OpenSagaRow
+from sagas.core.early_reports import EARLY_ATTEMPT
 from sagas.core.effects import Abort, Effects
-from sagas.core.exhaustion import FAILED_BEFORE
+from sagas.core.exhaustion import AFTER_FAILURE
 from sagas.core.model import FINISHED, RUNNING, Attempt, SagaInstance
 from sagas.core.outcomes import SUCCEEDED, Outcome, failure
-from sagas.core.replies import Reading
+from sagas.core.replies import ReplyReader
 from sagas.core.shard import ShardDriver
 from sagas.core.states import EarlyReason, EnginePhase, OutcomeKind, Suspension
 from sagas.definition.capacity import SHARD_CAPACITY
 from sagas.definition.start_options import StartOptions
 
-ODD = re.compile(
+DEVIATION_EVENTS = re.compile(
     r'"event":"(?:missed|fail|start_undo|undone|undo_missed|undo_fail|abort|adopt)","saga":(\d+)'
 )
-"""The events by which a saga does not just go well."""
-Old = dict[tuple[int, int, str, int], Attempt]
-"""What was under way here: saga, step, action and number of each attempt."""
+"""The events by which a saga deviates from success."""
+AttemptsUnderWay = dict[tuple[int, int, str, int], Attempt]
+"""The attempts of this program, by saga, step, action and number."""
 
 
 @dataclasses.dataclass(eq=False, slots=True)
 class Recovery:
-    """What is to be done with what was found.
+    """The result of a recovery, which the runtime carries out.
 
     Attributes:
-        effects: The ends of sagas that the store lacks; its batch is committed as any other.
-        restored: The open sagas, each of which is there.
-        replaced: Sagas that this program was to open elsewhere under a key that one of the shard
-            has, each with that one.
-        gone: Sagas that are not open any more: their ends were written, and the answer was lost;
-            or another server took over, which may not have them.
-        resumed: The attempts that go on (`AttemptMachine.resume`).
-        forgotten: Attempts that the store does not have as begun: they had not begun, or their
-            reports are there.
-        aborted: Aborts that are answered, each with `done`.
-        draining: These sagas drain (`AttemptMachine.drain`), once the attempts go on.
+        effects: The ends of sagas that the store does not have; its batch is committed as usual.
+        restored: The open sagas.
+        replaced: Sagas that this program wanted to open elsewhere, each with the saga of this
+            shard that has its key.
+        gone: Sagas that are not open any more: their ends were stored and the answer was lost, or
+            another server took over that may not have them.
+        resumed: The attempts that continue (`AttemptMachine.resume`).
+        forgotten: Attempts that the store does not have as under way: they never started, or
+            their reports are stored.
+        aborted: Abort requests that are answered, each with `done`.
+        draining: Sagas that drain (`AttemptMachine.drain`) after their attempts continue.
     """
 
     effects: Effects
@@ -67,66 +67,69 @@ class Recovery:
     draining: list[SagaInstance] = dataclasses.field(default_factory=list)
 
 
-def damage_of(rows: Loaded, driver: ShardDriver) -> str | None:
-    """Return what is wrong with a shard's rows, before an engine is asked."""
+def damage_of(rows: LoadedShard, driver: ShardDriver) -> str | None:
+    """Return what is wrong with a shard's rows, before an engine reads them; None if nothing."""
     count = len(driver.identity.definitions.kinds)
-    if lacking := [key for _, key, place, *_ in rows.open if place >= count]:
-        return f"the definition of its saga {lacking[0]!r} cannot be read"
+    if undefined := [
+        key for _, key, definition_index, *_ in rows.open if definition_index >= count
+    ]:
+        return f"the definition of its saga {undefined[0]!r} cannot be read"
     return rows.damage
 
 
-def overdue(rows: Loaded, now: float) -> list[int]:
+def overdue(rows: LoadedShard, now: float) -> list[int]:
     """Return the numbers of the open sagas whose deadlines have passed."""
-    late = (row[0] for row in rows.open if row[4] is not None and row[4] <= now)
-    return [id % SHARD_CAPACITY for id in late]
+    overdue_ids = (row[0] for row in rows.open if row[4] is not None and row[4] <= now)
+    return [id % SHARD_CAPACITY for id in overdue_ids]
 
 
-def requests(rows: Loaded, overdue: Sequence[int] = ()) -> list[str]:
-    """Return what an engine is asked that was started on a shard's event log. `overdue`: the
-    numbers of the sagas that are aborted before anything goes on.
+def requests(rows: LoadedShard, overdue: Sequence[int] = ()) -> list[str]:
+    """Return the requests to an engine that was started on a shard's event log.
+
+    `overdue`: the numbers of the sagas to abort first.
     """
     aborts = map(protocol.abort_line, overdue)
-    return [*aborts, protocol.BUSY, *map(protocol.show_line, _odd(rows, overdue))]
+    return [*aborts, protocol.BUSY, *map(protocol.show_line, _deviating(rows, overdue))]
 
 
-def _odd(rows: Loaded, overdue: Sequence[int]) -> list[int]:
-    """The open sagas of which something failed, or that were aborted."""
-    odd = {int(number) for number in ODD.findall(rows.text)}.union(overdue)
+def _deviating(rows: LoadedShard, overdue: Sequence[int]) -> list[int]:
+    """Return the open sagas that have deviated from success: a failure, a retry or an abort."""
+    odd = {int(number) for number in DEVIATION_EVENTS.findall(rows.text)}.union(overdue)
     return [id % SHARD_CAPACITY for id, *_ in rows.open if id % SHARD_CAPACITY in odd]
 
 
-def unopened(
-    driver: ShardDriver, rows: Loaded | None, known: Mapping[str, SagaInstance]
+def take_unopened(
+    driver: ShardDriver, rows: LoadedShard | None, known: Mapping[str, SagaInstance]
 ) -> tuple[list[SagaInstance], list[SagaInstance]]:
-    """Take out the sagas that were to be opened in a shard, and are not there.
+    """Remove the sagas that a shard should open and that the store does not have.
 
     Args:
-        driver: What the program knew of the shard.
-        rows: What the store has of it; None if it cannot be read.
+        driver: The shard as this program knew it.
+        rows: The stored rows of the shard; None if they cannot be read.
         known: The program's sagas by key.
 
     Returns:
-        Those that the engine was asked to open, and those that it was not. They are opened again,
-        or refused. A saga of a key that is another one's by now is in neither.
+        The sagas that the engine was requested to open, and the others. They are opened again, or
+        refused. A saga whose key has another saga by now is in neither list.
     """
-    there = {key for _, key, *_ in rows.open} if rows else set()
-    asked = [
+    stored_keys = {key for _, key, *_ in rows.open} if rows else set()
+    sent = [
         saga
-        for saga in driver.sent
-        if not saga.committed and saga.key not in there and known.get(saga.key) is saga
+        for saga in driver.opens_sent
+        if not saga.committed and saga.key not in stored_keys and known.get(saga.key) is saga
     ]
-    for saga in asked:
-        for attempt in saga.busy.values():  # it never began: the saga was not there
+    for saga in sent:
+        for attempt in saga.busy.values():  # it never started: the store did not have the saga
             attempt.forget()
         saga.forget()
         saga.number, saga.shard = -1, None
     new = [*driver.opens]
-    driver.close_opens()
-    return asked, new
+    driver.clear_opens()
+    return sent, new
 
 
 def recover(
-    rows: Loaded,
+    rows: LoadedShard,
     replies: Sequence[str],
     now: float,
     previous: ShardDriver,
@@ -135,204 +138,222 @@ def recover(
     overdue: Sequence[int] = (),
     log_text: str = "",
 ) -> Recovery:
-    """Make a shard's driver what the store has, and go on with what was begun.
+    """Set a shard's driver to the state of the store, and continue the started attempts.
 
     Args:
         rows: The shard's rows.
         replies: The engine's replies to `requests(rows, overdue)`.
         now: Wall time in seconds.
-        previous: What the program knew of the shard. It is `LOADING`, and `ACTIVE` from now on.
+        previous: The driver as this program knew it. It is `LOADING`, and becomes `ACTIVE`.
         known: The program's sagas by key.
-        is_shared: Whether other nodes have shards in the store: then a key that the program was
-            to open elsewhere may be another saga's.
-        overdue: The numbers of the sagas that the engine was asked to abort.
+        is_shared: Whether other nodes have shards in the store: then a key that the program
+            wanted to open elsewhere may belong to another saga.
+        overdue: The numbers of the sagas that the engine was requested to abort.
         log_text: The event log's new lines, which are the aborts.
 
     Returns:
-        What is to be done, in this order: `replaced`, `gone`, `restored`, `forgotten` and
+        The recovery, to carry out in this order: `replaced`, `gone`, `restored`, `forgotten` and
         `aborted`; the commit of `effects`; `resumed`; `draining`.
     """
-    driver, before, old = previous, previous.sagas, _under_way(previous)
-    epoch, line = previous.known
-    aborts = driver.aborting + driver.aborts
+    driver, previous_sagas, under_way = previous, previous.sagas, _under_way(previous)
+    epoch, timeline = previous.fence
+    aborts = driver.aborts_sent + driver.aborts
     driver.restart(rows)
-    found = Recovery(driver.effects(now))
+    recovery = Recovery(driver.effects(now))
     for row in rows.open:
-        _restore(found, driver, row, known, is_shared)
-    found.gone = [
+        _restore(recovery, driver, row, known, is_shared)
+    recovery.gone = [
         saga
-        for saga in before.values()
+        for saga in previous_sagas.values()
         if saga.committed and saga.number not in driver.sagas and known.get(saga.key) is saga
     ]
-    _put_rows(driver, rows)
-    left = iter(replies)
-    _put_aborts(found.effects, driver, overdue, left, log_text)
-    busy = json.loads(next(left))["busy"]
-    for number, reply in zip(_odd(rows, overdue), left, strict=True):
-        _show(found.effects, driver, number, reply)
-    is_ours = rows.epoch <= epoch + 1 and rows.line == line
-    _resume(found, driver, rows, old, busy, is_ours)
+    _apply_rows(driver, rows)
+    unread = iter(replies)
+    _apply_aborts(recovery.effects, driver, overdue, unread, log_text)
+    busy = json.loads(next(unread))["busy"]
+    for number, reply in zip(_deviating(rows, overdue), unread, strict=True):
+        _apply_shown(recovery.effects, driver, number, reply)
+    is_ours = rows.epoch <= epoch + 1 and rows.timeline == timeline
+    _resume(recovery, driver, rows, under_way, busy, is_ours)
     for abort in aborts:
-        _abort_again(found, driver, abort)
-    late = found.effects.rare.overdue  # they drain once their aborts are durable
-    found.draining = [one for one in driver.sagas.values() if one.draining and one not in late]
-    return found
+        _abort_again(recovery, driver, abort)
+    late = recovery.effects.rare.overdue  # they drain once their aborts are durable
+    recovery.draining = [
+        saga for saga in driver.sagas.values() if saga.draining and saga not in late
+    ]
+    return recovery
 
 
-def _put_aborts(
+def _apply_aborts(
     effects: Effects,
     driver: ShardDriver,
     overdue: Sequence[int],
     replies: Iterator[str],
     log_text: str,
 ) -> None:
-    """The sagas whose deadlines had passed are aborted, before an attempt of theirs goes on."""
+    """Apply the aborts of sagas whose deadlines have passed, before their attempts continue."""
     if overdue:
         effects.batch.text = log_text
-        driver.events += effects.batch.counted()
-        Reading(driver, effects).overdue([driver.sagas[one] for one in overdue], replies)
+        driver.events += effects.batch.count_lines()
+        ReplyReader(driver, effects).overdue([driver.sagas[number] for number in overdue], replies)
         for saga in effects.rare.overdue:
-            saga.rare.drains = True  # the store has its deadline, so what is called hears of it
+            saga.rare.may_cancel_work = (
+                True  # the store has its deadline, so running functions are cancelled
+            )
 
 
-def _under_way(driver: ShardDriver) -> Old:
-    attempts = [one for saga in driver.sagas.values() for one in saga.busy.values()]
-    attempts += driver.unkept()
-    return {(one.instance.number, one.step, one.kind, one.attempt): one for one in attempts}
+def _under_way(driver: ShardDriver) -> AttemptsUnderWay:
+    attempts = [attempt for saga in driver.sagas.values() for attempt in saga.busy.values()]
+    attempts += driver.unstored_reports()
+    return {
+        (attempt.instance.number, attempt.step, attempt.kind, attempt.attempt): attempt
+        for attempt in attempts
+    }
 
 
 def _restore(
-    found: Recovery,
+    recovery: Recovery,
     driver: ShardDriver,
-    row: OpenRow,
+    row: OpenSagaRow,
     known: Mapping[str, SagaInstance],
     is_shared: bool,
 ) -> None:
-    """Take an open saga of the store; the one that this program has, if it is the same."""
-    id, key, place, text, deadline, traceparent, shape = row
+    """Restore an open saga of the store, with this program's object if it is the same saga."""
+    id, key, definition_index, text, deadline, traceparent, shape = row
     saga = known.get(key)
     if saga is not None and (saga.shard is driver or not is_shared):
         saga.forget()
     else:
         options = StartOptions(deadline=deadline, shape=shape, traceparent=traceparent)
-        kind = driver.identity.definitions.kinds[place]
-        other, saga = saga, SagaInstance(key, text, kind, place, options)
+        kind = driver.identity.definitions.kinds[definition_index]
+        other, saga = saga, SagaInstance(key, text, kind, definition_index, options)
         if other is not None:
-            found.replaced.append((other, saga))
+            recovery.replaced.append((other, saga))
     saga.number, saga.shard, saga.committed = id % SHARD_CAPACITY, driver, True
     driver.sagas[saga.number] = saga
-    found.restored.append(saga)
+    recovery.restored.append(saga)
 
 
-def _put_rows(driver: ShardDriver, rows: Loaded) -> None:
-    """Put into the sagas what the store has of their steps."""
+def _apply_rows(driver: ShardDriver, rows: LoadedShard) -> None:
+    """Apply the stored results and suspensions to the sagas."""
     for id, step, kind, _, outcome, value, at in rows.results:
-        _put_result(driver.sagas[id % SHARD_CAPACITY], step, kind, outcome, value or "null", at)
+        _apply_result(driver.sagas[id % SHARD_CAPACITY], step, kind, outcome, value or "null", at)
     for id, step, kind, number, why, _, _, until, text in rows.held:
-        if number == ATTEMPT:
-            early = driver.sagas[id % SHARD_CAPACITY].rare.early
+        if number == EARLY_ATTEMPT:
+            early = driver.sagas[id % SHARD_CAPACITY].rare.early_reports
             early[step, kind] = (EarlyReason(why), text or "")
             continue
         reason = Suspension(why)
         if reason is Suspension.CANNOT_DECODE and until is None:
-            continue  # it may be a wait that could not say until when
+            continue  # it may be a wait whose end could not be computed
         is_called = reason in PARKED  # its time was over
         if is_called or (reason is Suspension.TIMER and until is not None):
-            due = driver.sagas[id % SHARD_CAPACITY].rare.due
+            due = driver.sagas[id % SHARD_CAPACITY].rare.wait_ends
             time = 0.0 if is_called or until is None else until
             due[step, kind] = min(time, due.get((step, kind), time))
 
 
-def _put_result(
+def _apply_result(
     saga: SagaInstance, step: int, kind: str, outcome: str, value: str, at: float
 ) -> None:
     if outcome == "commit":
         saga.put_result(step, value)
     elif outcome == "undone":
         saga.results.pop(step, None)
-        saga.odd = True
+        saga.has_deviated = True
     elif outcome != "ok":
-        saga.odd = True
-        told = json.loads(value)
-        called = told.get("called", True)
-        saga.raised(step, value, called)
-        if called:
-            saga.missed((step, kind), at, told)
-        if told.get("final"):
+        saga.has_deviated = True
+        detail = json.loads(value)
+        was_called = detail.get("called", True)
+        saga.note_error(step, value, was_called)
+        if was_called:
+            saga.note_failure((step, kind), at, detail)
+        if detail.get("final"):
             saga.rare.final.add((step, kind))
 
 
-def _show(effects: Effects, driver: ShardDriver, number: int, reply: str) -> None:
-    saga, told = driver.sagas[number], json.loads(reply)
-    saga.odd, saga.aborted, saga.answer = True, told["aborted"], told.get("answer")
-    saga.draining = told["phase"] in (EnginePhase.DRAINING, EnginePhase.PLANNING)
-    Reading(driver, effects).shown(number, reply)
+def _apply_shown(effects: Effects, driver: ShardDriver, number: int, reply: str) -> None:
+    saga, state = driver.sagas[number], json.loads(reply)
+    saga.has_deviated, saga.aborted, saga.answer = True, state["aborted"], state.get("answer")
+    saga.draining = state["phase"] in (EnginePhase.DRAINING, EnginePhase.PLANNING)
+    ReplyReader(driver, effects).shown(number, reply)
 
 
 def _resume(
-    found: Recovery,
+    recovery: Recovery,
     driver: ShardDriver,
-    rows: Loaded,
-    old: Old,
+    rows: LoadedShard,
+    old: AttemptsUnderWay,
     busy: list[dict[str, Any]],
     is_ours: bool,
 ) -> None:
-    """The attempts that were begun and not reported: those that are under way here, and those of
-    an earlier program. `is_ours`: no other node had the shard since this program knew it, and the
-    server is the same.
+    """Resume the attempts that were started and not reported, here or by an earlier program.
+
+    `is_ours`: no other node had the shard since this program knew it, and the server is the same.
     """
-    held = {row[:4]: row for row in rows.held}
-    kept = {row[:4]: row for row in rows.results if row[4] == "ok"}
-    """The results of transactions, whose reports are not there."""
+    suspensions = {row[:4]: row for row in rows.held}
+    stored_results = {row[:4]: row for row in rows.results if row[4] == "ok"}
+    """The results of transactions whose reports are not stored."""
     for task in busy:
         saga = driver.sagas[task["saga"]]
-        words = task["step"], task["task"], task["attempt"]
-        attempt = old.pop((saga.number, *words), None)
-        row = (driver.number * SHARD_CAPACITY + saga.number, *words)
-        if attempt is not None and attempt.recorded and row not in kept:
-            found.forgotten.append(attempt)  # by a server that was there before
-            attempt = Attempt(saga, *words, fresh=False)
+        key = task["step"], task["task"], task["attempt"]
+        attempt = old.pop((saga.number, *key), None)
+        row = (driver.number * SHARD_CAPACITY + saga.number, *key)
+        if attempt is not None and attempt.is_recorded and row not in stored_results:
+            recovery.forgotten.append(attempt)  # an earlier server had its result
+            attempt = Attempt(saga, *key, is_uncalled=False)
         elif attempt is None or _is_doubtful(attempt, is_ours):
             if attempt is not None:
-                found.forgotten.append(attempt)
-            attempt = _made_again(saga, words, attempt, is_ours)
-            if row in held:
-                _put_suspension(attempt, held[row])
+                recovery.forgotten.append(attempt)
+            attempt = _restored_attempt(saga, key, attempt, is_ours)
+            if row in suspensions:
+                _apply_suspension(attempt, suspensions[row])
         attempt.instance = saga
-        saga.busy[attempt.word] = attempt
-        if row in kept and attempt.state is not FINISHED:
-            *_, value, at = kept[row]
+        saga.busy[attempt.action_key] = attempt
+        if row in stored_results and attempt.state is not FINISHED:
+            *_, value, at = stored_results[row]
             attempt.finish(Outcome(SUCCEEDED, value or "null", encoded=True), at)
-        found.resumed.append(attempt)
-    found.forgotten += old.values()
+        recovery.resumed.append(attempt)
+    recovery.forgotten += old.values()
 
 
 def _is_doubtful(attempt: Attempt, is_ours: bool) -> bool:
-    """Whether what this program knows of it may be otherwise by now: it was given up without a
-    call, or it waits, and another node may have had the shard and called it.
+    """Whether this program's state of an attempt may be out of date.
+
+    It was given up without a call; or it waits, and another node may have had the shard and called
+    it.
     """
     if attempt.state is FINISHED:
         return attempt.outcome is not None and not attempt.outcome.called
     return not is_ours and attempt.state is not RUNNING
 
 
-def _made_again(
-    saga: SagaInstance, words: tuple[int, str, int], before: Attempt | None, is_ours: bool
+def _restored_attempt(
+    saga: SagaInstance, key: tuple[int, str, int], previous: Attempt | None, is_ours: bool
 ) -> Attempt:
-    """An attempt as an earlier program left it, or as one that was given up is decided again."""
-    attempt = Attempt(saga, *words, fresh=before is not None and is_ours)
-    if attempt.fresh and attempt.manner.external and attempt.word not in saga.rare.final:
-        attempt.reason = Suspension.EXTERNAL  # its row tells whether a worker has it
+    """Return a new attempt that replaces one of an earlier program or a given-up one."""
+    attempt = Attempt(saga, *key, is_uncalled=previous is not None and is_ours)
+    if (
+        attempt.is_uncalled
+        and attempt.manner.external
+        and attempt.action_key not in saga.rare.final
+    ):
+        attempt.reason = Suspension.EXTERNAL  # its row says whether a worker has it
     return attempt
 
 
-def _put_suspension(attempt: Attempt, row: HeldRow) -> None:
-    """Put into an attempt what the store has of its suspension."""
+def _apply_suspension(attempt: Attempt, row: StoredSuspension) -> None:
+    """Apply the stored suspension to an attempt."""
     _, _, _, _, why, count, since, until, error = row
     reason = Suspension(why)
-    attempt.reason, attempt.since, attempt.until, attempt.has_row = reason, since, until, True
-    attempt.rare.noted = why
-    if reason in FAILED_BEFORE:
+    attempt.reason, attempt.waiting_since, attempt.until, attempt.has_row = (
+        reason,
+        since,
+        until,
+        True,
+    )
+    attempt.rare.last_note = why
+    if reason in AFTER_FAILURE:
         attempt.rare.failures, attempt.outcome = count, failure(error or "")
         return
     if reason is Suspension.CHILD:
@@ -343,13 +364,15 @@ def _put_suspension(attempt: Attempt, row: HeldRow) -> None:
         attempt.outcome = Outcome(OutcomeKind(reason.value), error or "")
 
 
-def _abort_again(found: Recovery, driver: ShardDriver, abort: Abort) -> None:
-    """It was asked, or was to be: it is asked of a saga that is open and not aborted. Of those of
-    an aborted saga, the first one that was not answered counts, unless another one did before.
+def _abort_again(recovery: Recovery, driver: ShardDriver, abort: Abort) -> None:
+    """Repeat or answer an abort request.
+
+    It is repeated if its saga is open and not aborted. Of the requests for an aborted saga, the
+    first one without an answer counts, unless another one aborted the saga before.
     """
     if abort.saga.aborted or abort.saga.number not in driver.sagas:
-        is_first = not any(other.saga is abort.saga for other in found.aborted)
+        is_first = not any(other.saga is abort.saga for other in recovery.aborted)
         abort.done = abort.saga.aborted and is_first and not abort.is_repeated
-        found.aborted.append(abort)
+        recovery.aborted.append(abort)
     else:
         driver.abort(abort)

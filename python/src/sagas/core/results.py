@@ -17,12 +17,12 @@ if TYPE_CHECKING:
     from sagas.definition.selection import Selection
 
 R = TypeVar("R")
-MOST_SAID = 120
+MAX_ERROR = 120
 ENDED = ("completed", "recovered")
 
 
-class Ended(Protocol):
-    """How a saga ended, in a store or in a test."""
+class SagaEnd(Protocol):
+    """The end of a saga, in a store or in a test."""
 
     @property
     def saga(self) -> str:
@@ -65,43 +65,43 @@ class Ended(Protocol):
         ...
 
 
-def _result(of: Ended, name: str) -> Any:
-    """The result of one step, by its whole name."""
-    if name not in of.results:
-        there = name in of.states
+def _result(end: SagaEnd, name: str) -> Any:
+    """Return the result of one step by its full name."""
+    if name not in end.results:
+        is_declared = name in end.states
         raise KeyError(
-            f"step {name!r} is not committed: it is {of.states[name]}"
-            if there
-            else f"unknown step {name!r}: the steps are {', '.join(of.states)}"
+            f"step {name!r} is not committed: it is {end.states[name]}"
+            if is_declared
+            else f"unknown step {name!r}: the steps are {', '.join(end.states)}"
         )
-    return serialization.stored(of.results[name], name)
+    return serialization.stored(end.results[name], name)
 
 
 def _compensations(steps: list[str]) -> str:
-    """The compensations of these steps, for a line."""
-    one = len(steps) == 1
-    return f"the {'compensation' if one else 'compensations'} of {' and '.join(steps)}"
+    """Return a text that names the compensations of these steps."""
+    is_single = len(steps) == 1
+    return f"the {'compensation' if is_single else 'compensations'} of {' and '.join(steps)}"
 
 
-class Answering:
-    """What is asked of either."""
+class EndQueries:
+    """The methods that all ends of sagas share."""
 
     __slots__ = ()
 
     @property
-    def ok(self: Ended) -> bool:
+    def ok(self: SagaEnd) -> bool:
         """Whether every step is committed."""
         return self.phase in ENDED and all(state == "committed" for state in self.states.values())
 
     @overload
-    def result_of(self: Ended, step: Selection[R]) -> R:
+    def result_of(self: SagaEnd, step: Selection[R]) -> R:
         ...
 
     @overload
-    def result_of(self: Ended, step: str) -> Any:
+    def result_of(self: SagaEnd, step: str) -> Any:
         ...
 
-    def result_of(self: Ended, step: Selection[Any] | str) -> Any:
+    def result_of(self: SagaEnd, step: Selection[Any] | str) -> Any:
         """Return the result of a committed step.
 
         Args:
@@ -118,7 +118,7 @@ class Answering:
             return of_names(self.fan.gather(step, str), one)
         return self.fan.gather(step, one)
 
-    def each(self: Ended, step: FanOut[Any, R]) -> dict[int | str, R]:
+    def each(self: SagaEnd, step: FanOut[Any, R]) -> dict[int | str, R]:
         """Return the results of the items of a fan-out that succeeded, and remain.
 
         Args:
@@ -127,25 +127,25 @@ class Answering:
         Returns:
             The results, by the numbers of the items, or by their keys in a dict.
         """
-        found = self.fan.gather(step, lambda name: name)
-        items = found.items() if isinstance(found, dict) else enumerate(found)
+        names = self.fan.gather(step, lambda name: name)
+        items = names.items() if isinstance(names, dict) else enumerate(names)
         return {
             key: serialization.stored(self.results[name], name)
             for key, name in items
             if name in self.results and serialization.failed(self.results[name]) is None
         }
 
-    def __str__(self: Ended) -> str:
-        """A line, and one for each step, with the first line of what that raised."""
-        stands = [step for step, state in self.states.items() if state == "undo_failed"]
+    def __str__(self: SagaEnd) -> str:
+        """Return a summary line and a line for each step, with the first line of its error."""
+        undo_failed = [step for step, state in self.states.items() if state == "undo_failed"]
         cost = "" if self.cost is None else f", plan of cost {self.cost}"
-        if stands and self.phase == "recovered":  # what it cost is not known
-            cost = f", but {_compensations(stands)} failed permanently"
+        if undo_failed and self.phase == "recovered":  # its cost is not known
+            cost = f", but {_compensations(undo_failed)} failed permanently"
         blocking_steps = (
             f", because of {' and '.join(self.blocking_steps)}" if self.blocking_steps else ""
         )
-        said = {
-            step: f": {error.strip().splitlines()[0][:MOST_SAID]}"
+        error_lines = {
+            step: f": {error.strip().splitlines()[0][:MAX_ERROR]}"
             for step, error in self.errors.items()
             if error.strip()
         }
@@ -154,17 +154,20 @@ class Answering:
             f"{self.phase}{' (aborted)' if self.aborted else ''}{cost}{blocking_steps}"
         )
         states = {step: state_text(state, is_over=True) for step, state in self.states.items()}
-        wide = max(9, *map(len, states.values()))
+        width = max(9, *map(len, states.values()))
         return "\n".join(
             [
                 head,
-                *(f"  {state:{wide}} {step}{said.get(step, '')}" for step, state in states.items()),
+                *(
+                    f"  {state:{width}} {step}{error_lines.get(step, '')}"
+                    for step, state in states.items()
+                ),
             ]
         )
 
 
 @dataclasses.dataclass(frozen=True, init=False)
-class SagaResult(Answering):
+class SagaResult(EndQueries):
     """Tell how a saga ended. Made by `Run.wait` and `Store.wait`.
 
     `str` shows a line for each step.
@@ -183,7 +186,7 @@ class SagaResult(Answering):
         aborted: Whether it was aborted.
         note: What the person wrote who resolved it, or None.
         errors: What the failed and undo_failed steps raised last, by step.
-        fan: Which steps stand for a declared one.
+        fan: The expansion of declared steps.
 
     Example:
         >>> with sagas.open_sync("orders.db", [order]) as store:
@@ -223,7 +226,7 @@ class SagaResult(Answering):
         errors: dict[str, str] | None = None,
         fan: Fan = FIXED,
     ) -> None:
-        # at once: a frozen class's own form takes three times as long, and each saga makes one
+        # all at once: the generated constructor takes three times as long, and each saga calls it
         vars(self).update(
             key=key,
             saga=saga,
@@ -251,19 +254,19 @@ class SagaResult(Answering):
         return end
 
     def __getattr__(self, name: str) -> Any:
-        """What is not read yet. (Two threads may read it at once: both have the same.)"""
-        mine = vars(self)
-        if (read := mine.get("_read")) is not None:
-            mine.update({**vars(read()), **mine})
-            mine.pop("_read", None)
-        if name not in mine:
+        """Read the result at the first access. (If two threads read it, both get the same.)"""
+        values = vars(self)
+        if (read := values.get("_read")) is not None:
+            values.update({**vars(read()), **values})
+            values.pop("_read", None)
+        if name not in values:
             raise AttributeError(
                 f"{type(self).__name__!r} object has no attribute {name!r}", name=name, obj=self
             )
-        return mine[name]
+        return values[name]
 
     def __getstate__(self) -> dict[str, Any]:
-        """All of it, for a copy and another process."""
+        """Return all fields, for a copy or another process."""
         return {field.name: getattr(self, field.name) for field in dataclasses.fields(self)}
 
 
@@ -328,8 +331,8 @@ class UnknownAttempt:
         attempt: The attempt's number, from 1.
         attempt_id: As `Task.attempt_id`.
         count: How often the outcome was unknown.
-        since: Wall time of the first unknown outcome, or of the last retry that a person asked for
-            behind it, in seconds since 1970.
+        since: Wall time of the first unknown outcome, or of the last retry by an operator
+            after it, in seconds since 1970.
         until: When it is repeated, in seconds since 1970; None: a person has to report it.
         error: What was raised last, or None.
     """

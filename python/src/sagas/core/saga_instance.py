@@ -19,15 +19,15 @@ if TYPE_CHECKING:
 
 
 RESTING = (AttemptState.SUSPENDED, AttemptState.QUEUED, AttemptState.FINISHED)
-"""The states of attempts whose functions read nothing now."""
+"""The states of attempts whose functions read no values now."""
 
 
 class AcknowledgedSaga(HeldValues):
-    """What a program with a record has of a saga. Without a record, it is never set.
+    """What a program with a record has of a saga. Without a record it is not set.
 
     Attributes:
-        rest: What the acknowledgement of its start rests on; None if it is not this program's.
-        end_rest: The same of its end, once that is decided.
+        rest: What the acknowledgement of its start rests on; None if another program started it.
+        end_rest: What the acknowledgement of its end rests on, when its end is decided.
     """
 
     __slots__ = ("rest", "end_rest")
@@ -39,18 +39,18 @@ class SagaInstance(AcknowledgedSaga):
     """A saga from its start to its end.
 
     Attributes:
-        key: The caller's name for it.
+        key: The key that the caller chose.
         kind: Its definition.
-        place: The index of its definition in its shard.
+        definition_index: The index of its definition in its shard.
         number: Its number in its shard; -1 until it has one.
         busy: The attempts that were claimed and not reported.
-        odd: Whether something failed, was retried or was aborted.
-        draining: Whether what runs ends, and then the saga is planned.
+        has_deviated: Whether something failed, was retried or was aborted.
+        draining: Whether it waits until its running attempts end, and is planned then.
         answer: The last plan that was adopted.
         committed: Whether the store has it.
-        guessed: Whether it was begun without a look for its key. Until it is committed, the key
-            may be another saga's.
-        start: The pending start of a client that it is of.
+        guessed: Whether it was started without a lookup of its key. Until it is committed, the
+            key may belong to another saga.
+        client_start: The id of the client's pending start that created it, if any.
         phase: How it ended, as the store has it; the empty text while it is open.
         end: The end, as the store has it.
     """
@@ -58,17 +58,17 @@ class SagaInstance(AcknowledgedSaga):
     __slots__ = (
         "key",
         "kind",
-        "place",
+        "definition_index",
         "number",
         "shard",
         "busy",
-        "odd",
+        "has_deviated",
         "aborted",
         "draining",
         "answer",
         "committed",
         "guessed",
-        "start",
+        "client_start",
         "phase",
         "end",
         "token",
@@ -79,44 +79,44 @@ class SagaInstance(AcknowledgedSaga):
         key: str,
         text: str,
         kind: CompiledDefinition,
-        place: int,
+        definition_index: int,
         options: StartOptions = start_options.NONE,
     ) -> None:
         self.key = key
         self.kind = kind
-        self.place = place
-        self.take(text, options)
+        self.definition_index = definition_index
+        self.hold(text, options)
         self._extras: SagaExtras | None = None
         self.number = -1
         self.shard: ShardDriver | None = None
         self.committed = self.guessed = False
-        self.start: int | None = None
+        self.client_start: int | None = None
         self.end = ""
         self.forget()
 
     def forget(self) -> None:
-        """Make it what it was when it was opened; recovery puts in what the store has."""
+        """Reset it to the state after its opening; recovery then applies the stored rows."""
         self.token: str | None = None
         self.results: dict[int, str] = {}
         self.busy: dict[ActionKey, Attempt] = {}
-        self.odd = self.aborted = self.draining = False
+        self.has_deviated = self.aborted = self.draining = False
         self.answer: dict[str, Any] | None = None
         self.phase = ""
         tenant = self._extras.tenant if self._extras is not None else None
         self._extras = None
-        if tenant is not None:  # its functions that run have slots of this tenant
+        if tenant is not None:  # its running functions have slots of this tenant
             self.rare.tenant = tenant
 
     @property
     def rare(self) -> SagaExtras:
-        """What only some sagas have."""
+        """State that only some sagas have, created at the first use."""
         if self._extras is None:
             self._extras = SagaExtras()
         return self._extras
 
     @property
     def shape(self) -> ShapeValues:
-        """What is kept of the shape that its input gave it. It is read once.
+        """The stored shape that its input determined. It is read once.
 
         Raises:
             CannotDecode: The codec failed.
@@ -130,34 +130,35 @@ class SagaInstance(AcknowledgedSaga):
         return self.rare.shape
 
     def release(self) -> None:
-        """Hold no large value any more, unless a function may read it now. It is read from the
-        store when one needs it.
+        """Drop large values, unless a function may read them now.
+
+        They are read from the store when a function needs them.
         """
         if not (self.is_large and self.committed):
             return
         busy = self.busy.values()
         if all(attempt.state in RESTING for attempt in busy):
-            self.drop([attempt.results for attempt in busy])
+            self.drop_large([attempt.results for attempt in busy])
 
     @property
     def numbering(self) -> ShapeValues:
-        """As `shape`, of which only numbers and keys of items are looked at."""
+        """The numbers and keys of the items, without the other values of `shape`."""
         return self.rare.numbering or self.shape
 
     @property
     def tenant(self) -> str | None:
-        """Whose it is, if its definition says that, and once it was asked."""
+        """Its tenant, if its definition has `fair_by` and the function was called."""
         return None if self._extras is None else self._extras.tenant
 
     @property
-    def why_draining(self) -> str:
-        """Why what it does is not wanted any more, as functions hear it."""
+    def drain_reason(self) -> str:
+        """The reason with which running functions are cancelled."""
         return "aborted" if self.aborted else "failed"
 
     @property
-    def drains(self) -> bool:
-        """Whether it drains, and the store has why: what it does may be ended."""
-        return self.draining and self._extras is not None and self._extras.drains
+    def may_cancel_work(self) -> bool:
+        """Whether it drains and the reason is stored, so that its attempts may be cancelled."""
+        return self.draining and self._extras is not None and self._extras.may_cancel_work
 
     @property
     def over(self) -> bool:
@@ -171,13 +172,13 @@ class SagaInstance(AcknowledgedSaga):
 
     @property
     def has_due(self) -> bool:
-        """Whether the store has the time of a wait that is retried."""
-        return self._extras is not None and bool(self._extras.due)
+        """Whether the time of a retried wait is stored."""
+        return self._extras is not None and bool(self._extras.wait_ends)
 
     @property
     def has_early(self) -> bool:
-        """Whether the store has a report of a step that has not begun."""
-        return self._extras is not None and bool(self._extras.early)
+        """Whether a report of a step that has not started is stored."""
+        return self._extras is not None and bool(self._extras.early_reports)
 
     @property
     def id(self) -> int:
@@ -186,19 +187,17 @@ class SagaInstance(AcknowledgedSaga):
         return self.shard.identity.number * SHARD_CAPACITY + self.number
 
     @property
-    def is_doubtful(self) -> bool:
-        """Whether its key may be another saga's."""
+    def has_unchecked_key(self) -> bool:
+        """Whether its key may belong to another saga."""
         return self.guessed and not self.committed
 
-    def missed(self, word: ActionKey, at: float, told: dict[str, Any]) -> None:
-        """Keep when an action failed, and the pause that it wants."""
-        self.rare.missed_at[word] = at
-        self.rare.pauses[word] = told.get("retry_after")
+    def note_failure(self, word: ActionKey, at: float, failure: dict[str, Any]) -> None:
+        """Note when an action failed, and the pause that it requested."""
+        self.rare.failed_at[word] = at
+        self.rare.retry_pauses[word] = failure.get("retry_after")
 
-    def raised(self, step: int, value: str, called: bool) -> None:
-        """Keep what an attempt raised; what it raised when it was called goes before what is said
-        of one that was given up.
-        """
+    def note_error(self, step: int, value: str, called: bool) -> None:
+        """Note the error of an attempt. The error of a call precedes that of a given-up attempt."""
         errors = self.rare.errors
         if called or step not in errors:
             errors[step] = value

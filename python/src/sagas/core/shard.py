@@ -1,22 +1,22 @@
-"""`ShardDriver`: what the engine is asked, and what its answers lead to.
+"""`ShardDriver`: the requests to the engine, and the effects of its replies.
 
 A shard is up to 1,000 sagas with one owner and one event log. Its engine process decides what
 happens next, and its event log in the store is the only truth. One turn of a shard is:
 
     lines = driver.requests(free_slots, now)    # what is due, [] if nothing is
-    answer = driver.replies(*ask(lines), now)   # `ask` is the engine: its replies, and log text
-    while isinstance(answer, list):             # how sagas ended that did not just go well
-        answer = driver.replies(*ask(answer), now)
-    driver.writes(answer)
-    .. make answer.batch durable ..
-    driver.committed(answer)                    # or driver.failed(answer), if it was refused
-    for saga in answer.rare.draining: ..        # a step of it failed
-    for attempt in answer.dispatch: ..          # what `Effects` says is done after the commit
+    effects = driver.replies(*ask(lines), now)  # `ask` is the engine: its replies, and log text
+    while isinstance(effects, list):            # ends of sagas that deviated from success
+        effects = driver.replies(*ask(effects), now)
+    driver.begin_commit(effects)
+    commit(effects.batch)                       # until it is durable
+    driver.committed(effects)                   # or driver.failed(effects), if it was refused
+    drain(effects.rare.draining)                # sagas with a failed step
+    start(effects.dispatch)                     # and the other effects after the commit
 
-The next question may be asked before the batch is durable, and further batches may be on their
-way: they are made durable in the order of `replies`. After `failed`, or where the engine dies,
-what the driver knows is not what the store has: its state is `STALE`, and `core.recovery` makes
-it anew from the rows of the store.
+The next request may be sent before the batch is durable, and several batches may be under way:
+they become durable in the order of `replies`. After `failed`, or if the engine dies, the driver
+differs from the store: its state is `STALE`, and `core.recovery` restores it from the rows of the
+store.
 """
 
 from __future__ import annotations
@@ -27,29 +27,29 @@ from collections import deque
 from collections.abc import Iterable, Sequence
 
 from sagas.core import early_reports, endings, offers, protocol, suspension_rows
-from sagas.core.batch import Batch, Born, Loaded, Withdrawal
-from sagas.core.effects import Abort, Effects, Question
+from sagas.core.batch import Batch, NewShard, LoadedShard, Withdrawal
+from sagas.core.effects import Abort, Effects, EngineRequest
 from sagas.core.model import Attempt, SagaInstance
 from sagas.core.early_reports import is_success
 from sagas.core.outcomes import SUCCEEDED
-from sagas.core.replies import Reading
+from sagas.core.replies import ReplyReader
 from sagas.core.shard_definitions import ShardDefinitions
 from sagas.core.states import SHARD_TRANSITIONS, Check, ShardState, check
 from sagas.core.suspensions import SuspensionRow
 
-MOST_REPORTS = 256
-"""So many attempts are reported, or sagas opened, by one question."""
-MOST_CLAIMS = 1000
-"""So many tasks are claimed by one question."""
+MAX_REPORTS = 256
+"""The number of attempts that one request reports, or of sagas that it opens."""
+MAX_CLAIMS = 1000
+"""The number of tasks that one request claims."""
 
 
 @dataclasses.dataclass(frozen=True, slots=True)
 class ShardIdentity:
-    """What a shard is from its creation on.
+    """The constant data of a shard.
 
     Attributes:
         number: Its number in the store.
-        name: Its name, which the idempotency keys of its sagas begin with.
+        name: Its name, with which the idempotency keys of its sagas begin.
         definitions: Its definitions.
     """
 
@@ -59,52 +59,52 @@ class ShardIdentity:
 
 
 class ShardDriver:
-    """The sagas of one shard, and what is on its way to its engine and to the store.
+    """The sagas of one shard, and its pending requests and commits.
 
     Attributes:
-        identity: What it is from its creation on.
-        state: Where it stands; `to` is its only writer.
+        identity: Its constant data.
+        state: Its state; only `set_state` writes it.
         epoch: The fencing token of its owner.
-        known: The epoch, and the server's timeline, as of which its attempts are known: what one
-            of them writes by itself is fenced by both.
-        born: The shard's own row, until it is in the store.
+        fence: The epoch and the server's timeline of its attempts. Both fence each write of an
+            attempt's own transaction.
+        new_shard: The shard's own row, until it is in the store.
         sagas: Its open sagas, by number.
-        opens: Sagas to be opened.
-        reports: Attempts that are finished, and to be reported.
-        aborts: Aborts to be asked.
-        sent: Sagas that the engine was asked to open, and that are not known to be stored.
-        reporting: Lots that were reported, and are not known to be stored.
-        aborting: Aborts that were asked, and are not known to be stored.
-        events: How many events the store has of it, or will have.
-        opened: How many sagas it has opened.
-        reserved: Those, and those that are to be opened here.
-        is_full: Whether it had no room for a saga, and takes no more.
-        unwritten: How many batches are on their way to the store.
-        hungry: Whether the engine may have tasks.
-        asked: What the engine is about to answer.
+        opens: Sagas to open.
+        reports: Finished attempts to report.
+        aborts: Abort requests to send.
+        opens_sent: Sagas that the engine was requested to open and that may not be stored yet.
+        reports_sent: Batches of reports that were sent and may not be stored yet.
+        aborts_sent: Abort requests that were sent and may not be stored yet.
+        events: The number of events that the store has, or will have after pending commits.
+        opened: The number of sagas that it has opened.
+        reserved: The number of sagas that it has opened or will open.
+        is_full: Whether it had no capacity for a saga, and opens no more.
+        commits_in_flight: The number of batches that are being stored.
+        may_have_tasks: Whether the engine may have tasks.
+        unanswered: The request that the engine has not answered; None if there is none.
     """
 
     __slots__ = (
         "identity",
         "state",
         "epoch",
-        "known",
-        "born",
+        "fence",
+        "new_shard",
         "sagas",
         "opens",
         "reports",
         "aborts",
-        "sent",
-        "reporting",
-        "aborting",
+        "opens_sent",
+        "reports_sent",
+        "aborts_sent",
         "events",
         "opened",
         "reserved",
         "is_full",
-        "unwritten",
-        "hungry",
-        "asked",
-        "_more",
+        "commits_in_flight",
+        "may_have_tasks",
+        "unanswered",
+        "_next_claims",
     )
 
     def __init__(
@@ -113,28 +113,28 @@ class ShardDriver:
         self.identity = identity
         self.state = state
         self.epoch = epoch
-        self.known: tuple[int, str] = (-1, "")
-        self.born: Born | None = None
+        self.fence: tuple[int, str] = (-1, "")
+        self.new_shard: NewShard | None = None
         self.sagas: dict[int, SagaInstance] = {}
         self.opens: deque[SagaInstance] = deque()
         self.reports: dict[Attempt, None] = {}
         self.aborts: list[Abort] = []
-        self.sent: dict[SagaInstance, None] = {}
-        self.reporting: deque[Sequence[Attempt]] = deque()
-        self.aborting: list[Abort] = []
-        self.events = self.unwritten = 0
+        self.opens_sent: dict[SagaInstance, None] = {}
+        self.reports_sent: deque[Sequence[Attempt]] = deque()
+        self.aborts_sent: list[Abort] = []
+        self.events = self.commits_in_flight = 0
         self.opened = self.reserved = opened
         self.is_full = False
-        self.hungry = False
-        self.asked: Question | None = None
-        self._more = 1  # tasks that are asked for next time
+        self.may_have_tasks = False
+        self.unanswered: EngineRequest | None = None
+        self._next_claims = 1  # the number of tasks to request next time
 
     @classmethod
     def created(cls, identity: ShardIdentity, timeline: str = "") -> ShardDriver:
         """Make a shard that the store does not have yet. Its first batch holds its row."""
         driver = cls(identity, ShardState.IDLE, epoch=1)
-        driver.known = (driver.epoch, timeline)
-        driver.born = identity.name, identity.definitions.all()
+        driver.fence = (driver.epoch, timeline)
+        driver.new_shard = identity.name, identity.definitions.all()
         return driver
 
     @property
@@ -149,55 +149,60 @@ class ShardDriver:
 
     # -- its state
 
-    def to(self, state: ShardState) -> None:
-        """Let it stand there from now on."""
+    def set_state(self, state: ShardState) -> None:
+        """Set the state."""
         if Check.is_on:
             check(SHARD_TRANSITIONS, self.state, state)
         self.state = state
 
     @property
-    def is_known(self) -> bool:
-        """Whether what is known of it is what the store has, or will have."""
+    def is_current(self) -> bool:
+        """Whether it has the state that the store has, or will have after pending commits."""
         return self.state in (ShardState.IDLE, ShardState.STARTING, ShardState.ACTIVE)
 
     def has_room(self, capacity: int) -> bool:
-        """Whether it takes one more saga."""
+        """Whether it can open one more saga."""
         is_open = self.state is not ShardState.CLOSED and not self.is_full
         return is_open and self.reserved < capacity
 
     @property
     def is_over(self) -> bool:
-        """Whether no saga of it is open, and none is about to be."""
-        is_empty = not (self.sagas or self.unwritten or self.opens or self.sent)
+        """Whether no saga of it is open or about to be opened."""
+        is_empty = not (self.sagas or self.commits_in_flight or self.opens or self.opens_sent)
         return is_empty and self.reserved == self.opened
 
-    def unkept(self) -> Iterable[Attempt]:
-        """The finished attempts whose reports are not known to be stored."""
-        return itertools.chain(self.reports, *self.reporting)
+    def unstored_reports(self) -> Iterable[Attempt]:
+        """Return the finished attempts whose reports may not be stored yet."""
+        return itertools.chain(self.reports, *self.reports_sent)
 
     def is_due(self, may_claim: bool) -> bool:
-        """Whether the engine can be asked something now; for tasks only if they may be claimed."""
-        return bool(self.reports or self.opens or self.aborts) or (self.hungry and may_claim)
+        """Whether a request to the engine is due; for tasks only if they may be claimed."""
+        return bool(self.reports or self.opens or self.aborts) or (
+            self.may_have_tasks and may_claim
+        )
 
-    # -- what is to be asked
+    # -- pending requests
 
     def open(self, saga: SagaInstance) -> None:
-        """Open a saga here; it is asked for in the order of these calls."""
+        """Add a saga to open here; sagas are opened in the order of these calls."""
         self.reserved += 1
         self.opens.append(saga)
 
     @property
-    def is_undefined(self) -> bool:
-        """Whether a saga is to be opened whose definition the engine does not know."""
-        return bool(self.opens) and self.opens[0].place >= self.identity.definitions.known
+    def has_undefined_open(self) -> bool:
+        """Whether the next saga to open has a definition that the engine does not know."""
+        return (
+            bool(self.opens)
+            and self.opens[0].definition_index >= self.identity.definitions.known_count
+        )
 
     @property
-    def wants_engine(self) -> bool:
-        """Whether another engine has to be started for that."""
-        return self.is_undefined and self.identity.definitions.is_fixed
+    def needs_new_engine(self) -> bool:
+        """Whether a new engine has to be started for such a definition."""
+        return self.has_undefined_open and self.identity.definitions.is_fixed
 
     def withdraw(self, saga: SagaInstance) -> bool:
-        """Do not open a saga here; whether it was not asked for yet."""
+        """Remove a saga to open. Return whether the engine was not requested to open it yet."""
         if saga not in self.opens:
             return False
         self.opens.remove(saga)
@@ -205,46 +210,46 @@ class ShardDriver:
         return True
 
     def report(self, attempt: Attempt) -> None:
-        """Report an attempt that is finished."""
+        """Add a finished attempt to report."""
         self.reports[attempt] = None
 
     def abort(self, abort: Abort) -> None:
-        """Ask to abort a saga."""
+        """Add an abort request."""
         abort.is_repeated = abort.saga.aborted
         self.aborts.append(abort)
 
     def suspended(self, attempt: Attempt, row: SuspensionRow, now: float) -> Effects:
-        """Keep why an attempt waits: the batch is its row."""
+        """Return effects that store the suspension of an attempt."""
         effects = self.effects(now)
         suspension_rows.put(effects.batch, attempt, row, self.number)
-        effects.more.suspended.append((attempt, row))
+        effects.rare_effects.suspended.append((attempt, row))
         return effects
 
     def offered(self, attempt: Attempt, now: float) -> Effects:
-        """Offer an attempt to external workers: the batch is its row."""
+        """Return effects that offer an attempt to external workers."""
         effects = self.effects(now)
-        effects.batch.more.offers.append(offers.offer(attempt, self.number, now))
-        effects.more.offered.append(attempt)
+        effects.batch.rare_rows.offers.append(offers.offer_row(attempt, self.number, now))
+        effects.rare_effects.offered.append(attempt)
         return effects
 
     def withdrawn(self, attempt: Attempt, now: float) -> Effects:
-        """Withdraw an attempt from external workers: the batch changes its row."""
+        """Return effects that withdraw an attempt from external workers."""
         effects = self.effects(now)
         withdrawal = Withdrawal(attempt.token(), self.number)
-        effects.batch.more.withdrawn.append(withdrawal)
-        effects.more.withdrawn.append((attempt, withdrawal))
+        effects.batch.rare_rows.withdrawn.append(withdrawal)
+        effects.rare_effects.withdrawn.append((attempt, withdrawal))
         return effects
 
     def effects(self, now: float) -> Effects:
-        """Make effects with an empty batch, behind all that was asked so far."""
+        """Return effects with an empty batch, which follows all earlier requests."""
         batch = Batch(self.identity.number, now, self.events, self.epoch)
-        batch.born = self.born
+        batch.new_shard = self.new_shard
         return Effects(batch)
 
     # -- to the engine
 
     def requests(self, free_slots: int, now: float = 0.0) -> list[str]:
-        """Ask what is due.
+        """Return the requests that are due, and remember them in `unanswered`.
 
         Args:
             free_slots: How many tasks may be claimed.
@@ -252,45 +257,47 @@ class ShardDriver:
                 opened, before a task of theirs is claimed.
 
         Returns:
-            Lines for the engine; none if nothing is due. `asked` says what they ask.
+            Lines for the engine; none if nothing is due. `request` says what they ask.
         """
-        asked = Question()
+        request = EngineRequest()
         lines: list[str] = []
-        if self.aborts:  # first: what is given up because of one has failed behind it
-            asked.aborts, self.aborts = self.aborts, []
-            self.aborting += asked.aborts
-            lines += [protocol.abort_line(abort.saga.number) for abort in asked.aborts]
+        if (
+            self.aborts
+        ):  # first: attempts that are given up because of an abort have failed after it
+            request.aborts, self.aborts = self.aborts, []
+            self.aborts_sent += request.aborts
+            lines += [protocol.abort_line(abort.saga.number) for abort in request.aborts]
         if self.reports:
-            asked.reports = self._ask_reports(asked, lines)
-        if asked.aborts or asked.odd:
-            self._ask_early(asked, lines)
+            request.reports = self._ask_reports(request, lines)
+        if request.aborts or request.deviating:
+            self._ask_early(request, lines)
         if self.opens:
             defines = self.identity.definitions.define_lines()
-            asked.defines = len(defines)
+            request.definition_count = len(defines)
             lines += defines
-            asked.opens = self._ask_opens(lines)
-            if any(saga.is_overdue(now) for saga in asked.opens):
-                self._ask_aborts(asked, lines, now)
+            request.opens = self._ask_opens(lines)
+            if any(saga.is_overdue(now) for saga in request.opens):
+                self._ask_aborts(request, lines, now)
         if lines:
-            self.hungry = True
-        if self.hungry and free_slots > 0:
-            most = max(len(lines) + 1 + asked.plans, self._more)
-            asked.claims = min(most, free_slots + asked.plans)
-            lines.append(protocol.next_line(asked.claims))
-        if asked.looks:
-            lines += map(protocol.show_line, asked.looks)
-        asked.lines = len(lines)
-        self.asked = asked if lines else None
+            self.may_have_tasks = True
+        if self.may_have_tasks and free_slots > 0:
+            most = max(len(lines) + 1 + request.expected_plans, self._next_claims)
+            request.claim_count = min(most, free_slots + request.expected_plans)
+            lines.append(protocol.next_line(request.claim_count))
+        if request.expected_ends:
+            lines += map(protocol.show_line, request.expected_ends)
+        request.reply_count = len(lines)
+        self.unanswered = request if lines else None
         return lines
 
-    def _ask_reports(self, asked: Question, lines: list[str]) -> Sequence[Attempt]:
-        """A lot of them, the first first."""
-        lot, self.reports = [*self.reports], {}
-        if len(lot) > MOST_REPORTS:
-            lot, self.reports = lot[:MOST_REPORTS], dict.fromkeys(lot[MOST_REPORTS:])
-        self.reporting.append(lot)
+    def _ask_reports(self, request: EngineRequest, lines: list[str]) -> Sequence[Attempt]:
+        """Add the oldest reports to the request."""
+        attempts, self.reports = [*self.reports], {}
+        if len(attempts) > MAX_REPORTS:
+            attempts, self.reports = attempts[:MAX_REPORTS], dict.fromkeys(attempts[MAX_REPORTS:])
+        self.reports_sent.append(attempts)
         odd: list[Attempt] = []
-        for attempt in lot:
+        for attempt in attempts:
             saga, outcome = attempt.instance, attempt.outcome
             assert outcome
             is_good = outcome.kind is SUCCEEDED
@@ -300,169 +307,172 @@ class ShardDriver:
                 )
             )
             saga.busy.pop(attempt.action.word, None)
-            if saga.odd or not is_good or attempt.kind == "undo":
-                saga.odd = True
+            if saga.has_deviated or not is_good or attempt.kind == "undo":
+                saga.has_deviated = True
                 odd.append(attempt)
         if odd:
-            asked.odd = odd
-            asked.plans, asked.looks = endings.expected(odd)
-        return lot
+            request.deviating = odd
+            request.expected_plans, request.expected_ends = endings.expected_endings(odd)
+        return attempts
 
-    def _ask_early(self, asked: Question, lines: list[str]) -> None:
-        """Before a saga recovers, commit what was reported of its steps that have not begun, where
-        the engine allows it: behind the successes of the lot, and ahead of all else.
+    def _ask_early(self, request: EngineRequest, lines: list[str]) -> None:
+        """Commit the early reports of sagas that are about to recover, if the engine allows it.
+
+        They follow the successes of this request, and precede everything else.
         """
-        sagas = [abort.saga for abort in asked.aborts]
-        sagas += [one.instance for one in asked.odd if not is_success(one)]
-        asked.early = early_reports.due(sagas, asked.reports)
-        if not asked.early:
+        sagas = [abort.saga for abort in request.aborts]
+        sagas += [one.instance for one in request.deviating if not is_success(one)]
+        request.early = early_reports.due_reports(sagas, request.reports)
+        if not request.early:
             return
-        first = len(asked.aborts)
-        told = [*zip(asked.reports, lines[first:])]
-        told.sort(key=lambda one: not is_success(one[0]))
-        if told:
-            asked.reports = self.reporting[-1] = [attempt for attempt, _ in told]
-        asked.goods = sum(map(is_success, asked.reports))
-        reports = [line for _, line in told]
-        taken = [protocol.take_lines(one.saga.number, one.word[0]) for one in asked.early]
+        first = len(request.aborts)
+        pairs = [*zip(request.reports, lines[first:])]
+        pairs.sort(key=lambda one: not is_success(one[0]))
+        if pairs:
+            request.reports = self.reports_sent[-1] = [attempt for attempt, _ in pairs]
+        request.success_count = sum(map(is_success, request.reports))
+        reports = [line for _, line in pairs]
+        taken = [protocol.take_lines(one.saga.number, one.action_key[0]) for one in request.early]
         lines[:] = [
-            *reports[: asked.goods],
+            *reports[: request.success_count],
             *itertools.chain(*taken),
             *lines[:first],
-            *reports[asked.goods :],
+            *reports[request.success_count :],
         ]
 
     def _ask_opens(self, lines: list[str]) -> Sequence[SagaInstance]:
-        """As many as a question may have."""
-        lot: list[SagaInstance] = []
+        """Add as many sagas to open as a request may have."""
+        sagas: list[SagaInstance] = []
         opens, usable = self.opens, self.identity.definitions.usable
-        while opens and opens[0].place < usable and len(lines) < MOST_REPORTS:
+        while opens and opens[0].definition_index < usable and len(lines) < MAX_REPORTS:
             saga = opens.popleft()
-            self.sent[saga], saga.shard = None, self
-            lines.append(protocol.open_line(saga.place, self.opened + len(lot)))
-            lot.append(saga)
-        return lot
+            self.opens_sent[saga], saga.shard = None, self
+            lines.append(protocol.open_line(saga.definition_index, self.opened + len(sagas)))
+            sagas.append(saga)
+        return sagas
 
-    def _ask_aborts(self, asked: Question, lines: list[str], now: float) -> None:
-        """Abort those that are about to be opened, and whose deadlines have passed. They are
-        planned at once, and are expected to be over.
+    def _ask_aborts(self, request: EngineRequest, lines: list[str], now: float) -> None:
+        """Abort the sagas of this request whose deadlines have passed.
+
+        They are planned at once, and are expected to end.
         """
-        late = [(self.opened + at, saga) for at, saga in enumerate(asked.opens)]
+        late = [(self.opened + offset, saga) for offset, saga in enumerate(request.opens)]
         late = [(number, saga) for number, saga in late if saga.is_overdue(now)]
         lines += [protocol.abort_line(number) for number, _ in late]
-        asked.overdue = [saga for _, saga in late]
-        asked.plans += len(late)
-        asked.looks = [*asked.looks, *(number for number, _ in late)]
+        request.overdue = [saga for _, saga in late]
+        request.expected_plans += len(late)
+        request.expected_ends = [*request.expected_ends, *(number for number, _ in late)]
 
     # -- from the engine
 
     def replies(self, replies: Sequence[str], log_text: str, now: float) -> Effects | list[str]:
-        """Take the engine's replies to what was asked.
+        """Read the engine's replies to the request.
 
         Args:
-            replies: One for each line, in order.
+            replies: One reply for each line, in order.
             log_text: The event log's new lines.
             now: Wall time in seconds.
 
         Returns:
-            What they come to; or further lines for the engine, whose replies are the next ones.
+            The effects; or further lines for the engine, whose replies are passed next.
 
         Raises:
-            Disagrees: The engine knows something else than this program.
+            EngineDisagrees: The engine's state differs from this program's.
         """
-        asked = self.asked
-        assert asked
-        if asked.effects is not None:
-            reading = Reading(self, asked.effects)
-            for number, reply in zip(asked.shows, replies, strict=True):
+        request = self.unanswered
+        assert request
+        if request.effects is not None:
+            reading = ReplyReader(self, request.effects)
+            for number, reply in zip(request.shown_sagas, replies, strict=True):
                 reading.shown(number, reply)
-            return self._answered(asked, asked.effects)
-        effects = asked.effects = self.effects(now)
+            return self._answered(request, request.effects)
+        effects = request.effects = self.effects(now)
         effects.batch.text = log_text
-        asked.shows = Reading(self, effects).replies(asked, replies)
-        if asked.shows:  # how they ended goes into the same batch
-            return [protocol.show_line(number) for number in asked.shows]
-        return self._answered(asked, effects)
+        request.shown_sagas = ReplyReader(self, effects).replies(request, replies)
+        if request.shown_sagas:  # their ends go into the same batch
+            return [protocol.show_line(number) for number in request.shown_sagas]
+        return self._answered(request, effects)
 
-    def _answered(self, asked: Question, effects: Effects) -> Effects:
+    def _answered(self, request: EngineRequest, effects: Effects) -> Effects:
         begun = len(effects.dispatch)
-        effects.unclaimed = asked.claims - begun
-        self._more = min(MOST_CLAIMS, 2 * begun) if self.hungry else 1
-        self.events += effects.batch.counted()
-        self.asked = None
+        effects.unclaimed = request.claim_count - begun
+        self._next_claims = min(MAX_CLAIMS, 2 * begun) if self.may_have_tasks else 1
+        self.events += effects.batch.count_lines()
+        self.unanswered = None
         return effects
 
     # -- to the store, and from there
 
-    def writes(self, effects: Effects) -> None:
-        """Its batch is on its way to the store, or an answer without rows goes behind one."""
-        if effects.batch or (self.unwritten and (effects.rare.aborted or effects.rare.early)):
+    def begin_commit(self, effects: Effects) -> None:
+        """Note that a batch is being stored, or that effects without rows follow one."""
+        if effects.batch or (
+            self.commits_in_flight and (effects.rare.aborted or effects.rare.early)
+        ):
             effects.is_written = True
-            self.unwritten += 1
+            self.commits_in_flight += 1
 
     def committed(self, effects: Effects) -> None:
-        """Its batch is durable, or was empty: what it says is so."""
+        """Apply effects whose batch is durable or empty."""
         if effects.is_written:
-            self.unwritten -= 1
-            self.born = None
-        if self.reporting and self.reporting[0] is effects.reported:
-            self.reporting.popleft()  # lots are written in the order of their reports
-        if self.aborting:
-            self.aborting = [one for one in self.aborting if one not in effects.rare.aborted]
+            self.commits_in_flight -= 1
+            self.new_shard = None
+        if self.reports_sent and self.reports_sent[0] is effects.reported:
+            self.reports_sent.popleft()  # batches of reports are stored in their order
+        if self.aborts_sent:
+            self.aborts_sent = [one for one in self.aborts_sent if one not in effects.rare.aborted]
         for saga in effects.opened:
-            self.sent.pop(saga, None)
+            self.opens_sent.pop(saga, None)
             saga.committed = True
         for saga in effects.ended:
             self.sagas.pop(saga.number, None)
 
     def failed(self, effects: Effects) -> int:
-        """Its batch is not durable, as far as is known: as `fail`."""
+        """Note that a batch may not be durable, and call `fail`."""
         if effects.is_written:
-            self.unwritten -= 1
+            self.commits_in_flight -= 1
         return self.fail()
 
     def fail(self) -> int:
-        """What the engine knows beyond the store is thrown away with it; the shard is `STALE`
-        until it is recovered, unless it is being recovered already.
+        """Discard the engine's state: the shard is `STALE` until it is recovered.
+
+        If it is being recovered already, its state does not change.
 
         Returns:
-            How many tasks were asked for, and are not answered any more.
+            The number of requested tasks that will not be answered.
         """
-        if self.is_known:
-            self.to(ShardState.STALE)
-        return self.unask()
+        if self.is_current:
+            self.set_state(ShardState.STALE)
+        return self.drop_request()
 
     # -- back from the store (`core.recovery`)
 
-    def loaded(self, rows: Loaded) -> None:
-        """Its rows were read: it is the program's under their epoch."""
+    def loaded(self, rows: LoadedShard) -> None:
+        """Take the epoch of the rows that were read."""
         if rows.epoch != self.epoch:
-            self.epoch, self.born = rows.epoch, None
+            self.epoch, self.new_shard = rows.epoch, None
 
-    def close_opens(self) -> None:
-        """No saga is to be opened here any more."""
-        self.sent = {}
+    def clear_opens(self) -> None:
+        """Remove all sagas to open."""
+        self.opens_sent = {}
         self.opens.clear()
         self.reserved = self.opened
 
-    def restart(self, rows: Loaded) -> None:
-        """Know no saga any more, and begin behind the event log of the store. Sagas that are to
-        be opened stay.
-        """
-        self.to(ShardState.ACTIVE)
-        self.known = (rows.epoch, rows.line)
+    def restart(self, rows: LoadedShard) -> None:
+        """Forget all sagas, and continue after the stored event log. Sagas to open are kept."""
+        self.set_state(ShardState.ACTIVE)
+        self.fence = (rows.epoch, rows.timeline)
         self.events, self.opened = rows.events, rows.opened
-        self.identity.definitions.stored = rows.definitions
+        self.identity.definitions.stored_count = rows.definition_count
         self.reserved = self.opened + len(self.opens)
-        self.sagas, self.reports, self.aborts, self.aborting = {}, {}, [], []
-        self.reporting.clear()
-        self.hungry, self._more = True, 1
+        self.sagas, self.reports, self.aborts, self.aborts_sent = {}, {}, [], []
+        self.reports_sent.clear()
+        self.may_have_tasks, self._next_claims = True, 1
 
-    def unask(self) -> int:
-        """The engine does not answer any more.
+    def drop_request(self) -> int:
+        """Drop the request that the engine will not answer.
 
         Returns:
             As `fail`.
         """
-        asked, self.asked = self.asked, None
-        return asked.claims if asked else 0
+        request, self.unanswered = self.unanswered, None
+        return request.claim_count if request else 0

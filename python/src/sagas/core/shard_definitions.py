@@ -5,65 +5,77 @@ from __future__ import annotations
 from collections.abc import Sequence
 
 from sagas.core import protocol
-from sagas.core.batch import Defined
+from sagas.core.batch import DefinitionRow
 from sagas.definition.capacity import MOST_ADDED
 from sagas.definition.compiled import CompiledDefinition, digest_of
 
 
 class ShardDefinitions:
-    """Its definitions, each at its place. One of sagas whose steps come from their input gets more
-    of them; none ever goes.
+    """The definitions of a shard, each with its index.
+
+    A shard of sagas whose steps come from their input gets further definitions. No definition is
+    ever removed.
 
     Attributes:
-        digest: What names the set of them, if it does not grow; of others it is empty.
+        digest: The digest of the set, if it does not grow; else empty.
         texts: The definitions, as the engine reads them.
         kinds: The same with this program's functions.
-        stored: How many of them the store has, or will have.
-        known: How many of them the engine knows.
-        has_grown: Whether the engine has learned one after its start: then a question that adds
-            definitions also opens their sagas.
-        is_fixed: Whether the engine has refused one: then another engine takes its place.
+        stored_count: The number of definitions that the store has, or will have.
+        known_count: The number of definitions that the engine knows.
+        has_grown: Whether the engine has learned a definition after its start: then a request that
+            adds definitions also opens their sagas.
+        is_fixed: Whether the engine has refused a definition: then a new engine replaces it.
     """
 
-    __slots__ = ("digest", "texts", "kinds", "stored", "known", "has_grown", "is_fixed", "_places")
+    __slots__ = (
+        "digest",
+        "texts",
+        "kinds",
+        "stored_count",
+        "known_count",
+        "has_grown",
+        "is_fixed",
+        "_indexes",
+    )
 
     def __init__(self, kinds: Sequence[CompiledDefinition], digest: str = "") -> None:
         self.digest = digest
         self.kinds = [*kinds]
         self.texts = [kind.text for kind in kinds]
-        self._places = {text: place for place, text in enumerate(self.texts)}
-        self.stored = self.known = len(self.texts)
+        self._indexes = {text: index for index, text in enumerate(self.texts)}
+        self.stored_count = self.known_count = len(self.texts)
         self.has_grown = self.is_fixed = False
 
     def started(self) -> None:
-        """An engine is started with all of them."""
-        self.known = len(self.texts)
+        """Note that an engine is started with all definitions."""
+        self.known_count = len(self.texts)
         self.has_grown = self.is_fixed = False
 
     def has_room(self, kind: CompiledDefinition) -> bool:
-        """Whether it has this one, or may get it."""
-        return kind.text in self._places or len(self.texts) < MOST_ADDED
+        """Whether it has a definition, or has capacity for it."""
+        return kind.text in self._indexes or len(self.texts) < MOST_ADDED
 
-    def place(self, kind: CompiledDefinition) -> int:
-        """Return the place of one, which it has from now on."""
-        place = self._places.get(kind.text)
-        if place is None:
-            place = self._places[kind.text] = len(self.texts)
+    def definition_index(self, kind: CompiledDefinition) -> int:
+        """Return the index of a definition, which is added if it is new."""
+        index = self._indexes.get(kind.text)
+        if index is None:
+            index = self._indexes[kind.text] = len(self.texts)
             self.texts.append(kind.text)
             self.kinds.append(kind)
-        return place
+        return index
 
     @property
     def usable(self) -> int:
-        """How many of them a saga may have that is opened by the next question, which begins with
-        `define_lines`.
+        """The number of definitions whose sagas the next request can open.
+
+        The request begins with `define_lines`.
         """
-        return len(self.texts) if self.has_grown and not self.is_fixed else self.known
+        return len(self.texts) if self.has_grown and not self.is_fixed else self.known_count
 
     def define_lines(self) -> list[str]:
-        """The requests by which the engine learns those that it does not know."""
+        """Return the requests that add the definitions that the engine does not know."""
         lines: list[str] = []
-        for text in self.texts[self.known :] if not self.is_fixed else ():
+        for text in self.texts[self.known_count :] if not self.is_fixed else ():
             line = protocol.define_line(text)
             if line is None:
                 self.is_fixed = True
@@ -71,26 +83,28 @@ class ShardDefinitions:
             lines.append(line)
         return lines
 
-    def defined(self, reply: str) -> None:
-        """Read the engine's reply to one of them. Those behind one that it did not take are at
-        other places there, so that it is not asked to open a saga with any of them.
+    def read_reply(self, reply: str) -> None:
+        """Read the engine's reply to such a request.
+
+        After a refused definition the engine's indexes differ, so it is not requested to open
+        sagas with later definitions.
         """
-        if not self.is_fixed and protocol.is_defined(reply, self.known):
-            self.known += 1
+        if not self.is_fixed and protocol.is_defined(reply, self.known_count):
+            self.known_count += 1
             self.has_grown = True
         else:
             self.is_fixed = True
 
-    def all(self) -> list[Defined]:
-        """All of them, as rows."""
+    def all(self) -> list[DefinitionRow]:
+        """Return all definitions as rows."""
         return self._rows(0, len(self.texts))
 
-    def _rows(self, first: int, end: int) -> list[Defined]:
-        of = range(first, end)
-        return [(place, digest_of(self.texts[place]), self.texts[place]) for place in of]
+    def _rows(self, first: int, end: int) -> list[DefinitionRow]:
+        indexes = range(first, end)
+        return [(index, digest_of(self.texts[index]), self.texts[index]) for index in indexes]
 
-    def to_store(self, place: int) -> list[Defined]:
-        """Return those up to a place that the store does not have; it will have them now."""
-        rows = self._rows(self.stored, place + 1)
-        self.stored = max(self.stored, place + 1)
+    def to_store(self, index: int) -> list[DefinitionRow]:
+        """Return the rows up to an index that the store does not have, and count them as stored."""
+        rows = self._rows(self.stored_count, index + 1)
+        self.stored_count = max(self.stored_count, index + 1)
         return rows

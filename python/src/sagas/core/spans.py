@@ -1,8 +1,8 @@
-"""What an attempt did other than being called at once: for its history, and for people alone.
+"""Notes of what an attempt did, for its history and for people alone.
 
-Of an attempt that is called as soon as it begins nothing is noted: it ran from its begin to its
-end. A note is a word, since when, and what was raised. The notes are stored with the next row of
-the attempt: of its suspension, or of its report.
+An attempt that is called as soon as it starts has no notes: it ran from its start to its end. A
+note is a word, its start time and an error. The notes are stored with the next row of the attempt:
+its suspension or its report.
 """
 
 from __future__ import annotations
@@ -10,30 +10,30 @@ from __future__ import annotations
 import json
 from typing import Optional
 
-from sagas.core.batch import Spans
+from sagas.core.batch import SpansRow
 from sagas.core.model import QUEUED, RUNNING, SUSPENDED, Attempt
 from sagas.core.states import Suspension
 
-Note = tuple[str, float, Optional[str]]
-"""What it did, since when, and what was raised."""
+SpanNote = tuple[str, float, Optional[str]]
+"""A word, its start time and the error that was raised."""
 QUEUED_WORD, RUNNING_WORD, PERSON_WORD = "queued", "running", "person"
-"""Beside those of `Suspension`. `person`: its outcome is unknown, and a person has to report it."""
+"""Words in addition to those of `Suspension`. `person`: an operator has to report the outcome."""
 LEASED_WORD = "leased"
-"""A worker had it, whose lease ended without a report; noted by the claim that follows."""
+"""A worker's lease ended without a report; the next claim notes it."""
 AGAIN_WORD = "again"
-"""It runs, and a program that ended may have called it before."""
+"""It runs, and an earlier program may have called it."""
 SHORT = 1.0
-"""Seconds: of one that only waited for its turn, and no longer, nothing is stored."""
+"""Seconds: if an attempt only waited for its turn, a shorter wait is not stored."""
 TURNS = frozenset(
     {QUEUED_WORD, RUNNING_WORD, Suspension.STEP_LIMIT.value, Suspension.FLEET_LIMIT.value}
 )
 CALLED_BEFORE = "called before"
-MOST = 200
-"""Notes of one attempt: of one that goes on for days those behind are not stored."""
+MAX_NOTES = 200
+"""The maximum number of notes of an attempt. Later notes are not stored."""
 
 
 def word_of(attempt: Attempt) -> str:
-    """What it does now."""
+    """Return the word for what an attempt does now."""
     if attempt.state is SUSPENDED:
         if attempt.reason is Suspension.UNKNOWN and attempt.until is None:
             return PERSON_WORD
@@ -42,41 +42,45 @@ def word_of(attempt: Attempt) -> str:
 
 
 def note(attempt: Attempt, now: float, raised: str | None = None) -> None:
-    """Note what it does now, if that is something else than before."""
+    """Note what an attempt does now, if that has changed."""
     extras, word = attempt.rare, word_of(attempt)
-    if extras.noted == CALLED_BEFORE and word == RUNNING_WORD:
+    if extras.last_note == CALLED_BEFORE and word == RUNNING_WORD:
         word = AGAIN_WORD
-    if word != extras.noted and extras.notes < MOST:
-        extras.noted, extras.notes = word, extras.notes + 1
+    if word != extras.last_note and extras.note_count < MAX_NOTES:
+        extras.last_note, extras.note_count = word, extras.note_count + 1
         extras.spans.append((word, now, raised))
 
 
-def called_before(attempt: Attempt) -> None:
-    """An earlier program may have called it."""
-    attempt.rare.noted = CALLED_BEFORE
+def note_earlier_call(attempt: Attempt) -> None:
+    """Note that an earlier program may have called an attempt."""
+    attempt.rare.last_note = CALLED_BEFORE
 
 
-def noted(attempt: Attempt, now: float) -> None:
-    """As `note`, of one of which something was noted before."""
-    if attempt.extras is not None and attempt.extras.noted and attempt.state in (QUEUED, RUNNING):
+def note_again(attempt: Attempt, now: float) -> None:
+    """Note what an attempt does now, if it has notes already."""
+    if (
+        attempt.extras is not None
+        and attempt.extras.last_note
+        and attempt.state in (QUEUED, RUNNING)
+    ):
         note(attempt, now)
 
 
-def taken(attempt: Attempt) -> list[Spans]:
-    """The row of what was noted since the last one, if any."""
+def taken(attempt: Attempt) -> list[SpansRow]:
+    """Return the row of the notes since the last row, if any."""
     extras = attempt.extras
     if extras is None or not extras.spans:
         return []
     spans, extras.spans = extras.spans, []
-    follows = extras.notes > len(spans)  # on those that are stored
-    if attempt.state is SUSPENDED or follows or _is_told(attempt, spans):
+    follows = extras.note_count > len(spans)  # notes that are stored
+    if attempt.state is SUSPENDED or follows or _is_worth_storing(attempt, spans):
         return [(*attempt.row, spans[0][1], json.dumps(spans))]
     return []
 
 
-def _is_told(attempt: Attempt, spans: list[Note]) -> bool:
-    """Whether those of one that has ended say anything."""
+def _is_worth_storing(attempt: Attempt, spans: list[SpanNote]) -> bool:
+    """Whether the notes of an ended attempt have information."""
     if any(word not in TURNS for word, _, _ in spans):
         return True
-    ran = next((at for word, at, _ in spans if word == RUNNING_WORD), attempt.at)
+    ran = next((at for word, at, _ in spans if word == RUNNING_WORD), attempt.finished_at)
     return ran - spans[0][1] >= SHORT

@@ -1,9 +1,9 @@
 """Every set of states, its transitions and its words.
 
-`FINISHED` is never left. Where a report is refused, or a commit is lost, recovery makes new
-attempts from the rows of the store.
+`FINISHED` is final. If a report is refused, or a commit is lost, recovery makes new attempts from
+the rows of the store.
 
-The texts of the proved program (docs/FORMATS.md) and those of the package differ in a few places;
+Some words of the proved program (docs/FORMATS.md) differ from those of the package:
 `step_state` translates them.
 """
 
@@ -21,7 +21,7 @@ Table = Mapping[S, frozenset[S]]
 
 
 class IllegalTransition(RuntimeError):
-    """A state was followed by one that its table does not allow: a fault of this package."""
+    """A state was followed by one that its table does not allow: an error of this package."""
 
 
 class Action(enum.StrEnum):
@@ -32,10 +32,10 @@ class Action(enum.StrEnum):
 
 
 class AttemptState(enum.Enum):
-    """Where an attempt stands in this program."""
+    """The state of an attempt in this program."""
 
     CLAIMED = "claimed"
-    """The shard's event log has it as begun; nothing is decided yet."""
+    """The shard's event log has it as started; nothing is decided yet."""
     SUSPENDED = "suspended"
     """It takes no slot; its `Suspension` says what it waits for."""
     QUEUED = "queued"
@@ -51,11 +51,11 @@ class Suspension(enum.StrEnum):
 
     BACKOFF = "backoff"
     UNKNOWN = "unknown"
-    """Nobody knows what its last call did."""
+    """The outcome of its last call is unknown."""
     RETRY = "retry"
-    """It failed as the last one of its definition, and is called again."""
+    """It failed as the last attempt of its definition, and is called again."""
     EXHAUSTED = "exhausted"
-    """It failed, its attempts are used up, and a person decides."""
+    """It failed, its attempts are used up, and an operator decides."""
     CANNOT_DECODE = "cannot_decode"
     """This program cannot read what the store has for it."""
     TIMER = "wait"
@@ -69,16 +69,16 @@ class Suspension(enum.StrEnum):
 
 
 class EarlyReason(enum.StrEnum):
-    """How a step was reported that has not begun; the text is stored as the reason of attempt 0."""
+    """The kind of an early report; the text is stored as the reason of attempt 0."""
 
     RESULT = "early_result"
     ERROR = "early_error"
     UNDONE = "early_undone"
-    """It succeeded, its saga ended without it, and another saga undoes it, if anything is to be."""
+    """It succeeded, its saga ended without it, and another saga undoes its effect, if any."""
 
 
 class OutcomeKind(enum.StrEnum):
-    """What a call came to."""
+    """The kind of outcome of a call."""
 
     SUCCEEDED = "succeeded"
     FAILED = "failed"
@@ -90,11 +90,11 @@ class OutcomeKind(enum.StrEnum):
     CANNOT_DECODE = "cannot_decode"
     """It was not called: this program cannot read what the store has for it."""
     ANSWERED = "answered"
-    """The function of an approval decided it, and nobody is asked."""
+    """The function of an approval decided it, so no operator is asked."""
 
 
 class StepState(enum.StrEnum):
-    """Where a step of a saga stands."""
+    """The state of a step of a saga."""
 
     WAITING = "waiting"
     RUNNING = "running"
@@ -103,11 +103,11 @@ class StepState(enum.StrEnum):
     COMPENSATING = "undoing"
     COMPENSATED = "undone"
     COMPENSATION_FAILED = "undo_failed"
-    """Its compensation failed for good: what the step did stands."""
+    """Its compensation failed permanently: the step's effect remains."""
 
 
 class SagaPhase(enum.StrEnum):
-    """Where a saga stands, for its callers."""
+    """The phase of a saga, for its callers."""
 
     OPEN = "open"
     COMPLETED = "completed"
@@ -115,17 +115,17 @@ class SagaPhase(enum.StrEnum):
     RECOVERED = "recovered"
     """It ended by a plan."""
     STUCK = "stuck"
-    """No allowed plan is left: a person has to look."""
+    """No plan is feasible: an operator has to resolve it."""
     RESOLVED = "resolved"
-    """A person has looked."""
+    """An operator has resolved it."""
 
 
 class EnginePhase(enum.StrEnum):
-    """Where a saga stands, in the replies of the engine."""
+    """The phase of a saga in the replies of the engine."""
 
     GOING = "going"
     DRAINING = "draining"
-    """A step failed, or the saga was aborted: what runs ends, and then it is planned."""
+    """A step failed, or the saga was aborted: it is planned after its running attempts."""
     PLANNING = "planning"
     ENDED = "ended"
     STUCK = "stuck"
@@ -137,10 +137,10 @@ class EnginePhase(enum.StrEnum):
 
 
 class ShardState(enum.Enum):
-    """Where a shard stands in the program that drives it."""
+    """The state of a shard in the program that owns it."""
 
     STALE = "stale"
-    """What this program knows of it is not what the store has."""
+    """This program's state of it differs from the store."""
     LOADING = "loading"
     """It is read from the store."""
     IDLE = "idle"
@@ -195,7 +195,7 @@ SAGA_TRANSITIONS: Table[SagaPhase] = {
 ENGINE_TRANSITIONS: Table[EnginePhase] = {
     EnginePhase.GOING: frozenset({EnginePhase.DRAINING, EnginePhase.ENDED}),
     EnginePhase.DRAINING: frozenset({EnginePhase.PLANNING}),
-    # DRAINING: it was aborted meanwhile
+    # DRAINING: it was aborted in the meantime
     EnginePhase.PLANNING: frozenset(
         {EnginePhase.GOING, EnginePhase.DRAINING, EnginePhase.ENDED, EnginePhase.STUCK}
     ),
@@ -246,15 +246,13 @@ WAITS_FOR: Mapping[str, str] = {
 
 
 class Check:
-    """Whether each transition is looked up in its table: in Python's development mode, and in the
-    tests of this package.
-    """
+    """Whether each transition is checked: in development mode and in this package's tests."""
 
     is_on = sys.flags.dev_mode
 
 
 def check(table: Table[S], before: S, after: S) -> None:
-    """Raise `IllegalTransition` where one state does not follow another."""
+    """Raise `IllegalTransition` if one state does not follow another."""
     if after not in table[before]:
         raise IllegalTransition(f"{type(before).__name__}: {before.name} -> {after.name}")
 
@@ -274,21 +272,23 @@ def program_word(state: StepState) -> str:
 
 
 def undo_failures(end: str) -> list[int]:
-    """Return the steps whose compensations failed for good, of a saga's end as the store has it."""
+    """Return the steps whose compensations failed permanently, from a saga's stored end."""
     states = json.loads(end)["states"] if UNDO_FAILED in end else ()
     return [step for step, text in enumerate(states) if text == UNDO_FAILED]
 
 
 def known_state(state: str) -> str:
-    """Return a step's state as the store alone knows it: an attempt that has begun is called, or
-    waits for its turn, a time or a worker.
+    """Return a step's state as the store alone shows it.
+
+    The store does not show whether a started attempt is called or waits.
     """
     return "begun" if state == StepState.RUNNING else state
 
 
 def state_text(state: str, is_over: bool = False) -> str:
-    """Return a step's state for a person: of one whose compensation failed for good that it did;
-    of one that a saga that is over never began that it is not run.
+    """Return a step's state for people.
+
+    A step that an ended saga never started is `not run`.
     """
     if is_over and state == StepState.WAITING:
         return "not run"
@@ -296,8 +296,12 @@ def state_text(state: str, is_over: bool = False) -> str:
 
 
 def saga_phase(phase: str | None, recovered: bool, note: str | None) -> SagaPhase:
-    """Return a saga's phase by what the store keeps of it: the proved program's word, whether it
-    ended by a plan, and the note of who resolved it.
+    """Return a saga's phase from its stored columns.
+
+    Args:
+        phase: The proved program's word; None if the saga is open.
+        recovered: Whether it ended by a plan.
+        note: The note of the operator who resolved it, or None.
     """
     if phase is None:
         return SagaPhase.OPEN

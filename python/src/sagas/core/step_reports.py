@@ -1,4 +1,4 @@
-"""Idempotent reports: the same again is accepted, another one conflicts."""
+"""Idempotent reports: the same report again is accepted, a different one conflicts."""
 
 from __future__ import annotations
 
@@ -8,7 +8,7 @@ from typing import Any
 
 from sagas.base.errors import ConflictingReport, StepNotWaiting
 from sagas.core.batch import SagaRow
-from sagas.core.early_reports import KINDS
+from sagas.core.early_reports import EARLY_OUTCOMES
 from sagas.core.outcomes import Outcome
 from sagas.core.states import EarlyReason, EnginePhase, OutcomeKind
 from sagas.definition.payloads import PLAIN, Payloads
@@ -17,46 +17,48 @@ RESULTS = "SELECT step, action, event, value FROM attempts WHERE id = ? ORDER BY
 EARLY = """
 SELECT reason, detail FROM suspensions WHERE id = ? AND step = ? AND action = ? AND number = 0
 """
-UNUSED = "a report of it was stored, and the saga ended without the step"
-DONE = ("commit", "ok", "undone")
-OVER = {
+UNUSED_TEXT = "a report of it was stored, and the saga ended without the step"
+SUCCESS_EVENTS = ("commit", "ok", "undone")
+END_TEXTS = {
     "commit": "it has succeeded",
     "ok": "it has succeeded",
     "fail": "it has failed",
     "undone": "it was undone",
     "undo_fail": "its compensation has failed",
 }
-"""What the last event of a step, or of its compensation, says where that is over."""
+"""Texts for the last event of a step or compensation that has ended."""
 
 
-def over_by(rows: Iterable[tuple[Any, ...]], place: int, kind: str) -> str | None:
-    """In words how a step, or its compensation, ended, by rows of `RESULTS`. None where it has
-    not."""
-    events = [event for step, action, event, _ in rows if (step, action) == (place, kind)]
-    return OVER.get(events[-1]) if events else None
+def end_text(rows: Iterable[tuple[Any, ...]], step_index: int, kind: str) -> str | None:
+    """Return a text that says how a step or its compensation ended; None if it has not.
+
+    `rows`: the rows of `RESULTS`.
+    """
+    events = [event for step, action, event, _ in rows if (step, action) == (step_index, kind)]
+    return END_TEXTS.get(events[-1]) if events else None
 
 
-def first_of(rows: Iterable[tuple[Any, ...]], place: int, kind: str) -> Outcome | None:
-    """How a step, or its compensation, ended, by rows of `RESULTS`. None where it has not."""
-    found = None
+def first_outcome(rows: Iterable[tuple[Any, ...]], step_index: int, kind: str) -> Outcome | None:
+    """Return the outcome of a step or its compensation from rows of `RESULTS`; None if open."""
+    result = None
     for step, word, outcome, value in rows:
-        if (step, word) != (place, kind):
+        if (step, word) != (step_index, kind):
             continue
-        if outcome in DONE:
-            found = Outcome(OutcomeKind.SUCCEEDED, value or "null")
+        if outcome in SUCCESS_EVENTS:
+            result = Outcome(OutcomeKind.SUCCEEDED, value or "null")
             continue
-        told = json.loads(value or "{}")
-        if told.get("called", True):
-            is_final = told.get("final") or outcome in ("fail", "undo_fail")
+        failure = json.loads(value or "{}")
+        if failure.get("called", True):
+            is_final = failure.get("final") or outcome in ("fail", "undo_fail")
             failed = Outcome(OutcomeKind.FAILED_PERMANENTLY, value or "{}")
-            found = failed if is_final else None
-    return found
+            result = failed if is_final else None
+    return result
 
 
-def early_of(rows: Iterable[tuple[Any, ...]]) -> Outcome | None:
-    """What was reported of a step that has not begun, by rows of `EARLY`."""
+def early_outcome(rows: Iterable[tuple[Any, ...]]) -> Outcome | None:
+    """Return the early report of a step from rows of `EARLY`; None if there is none."""
     for reason, text in rows:
-        return Outcome(KINDS[EarlyReason(reason)], text or "null")
+        return Outcome(EARLY_OUTCOMES[EarlyReason(reason)], text or "null")
     return None
 
 
@@ -68,9 +70,16 @@ def check(
     why: str | None = None,
     payloads: Payloads = PLAIN,
 ) -> None:
-    """Raises `ConflictingReport` where this is another answer than the first, which is as it is
-    stored. What was said is in neither text. `why`: what is to be said of the step, where that is
-    more."""
+    """Raise `ConflictingReport` if an outcome differs from the first one.
+
+    Args:
+        key: The saga's key.
+        step: The step's name.
+        first: The first outcome, as stored.
+        outcome: The new outcome. The message shows neither of them.
+        why: A text about the step (default: whether it has succeeded or failed).
+        payloads: The codec of the stored value.
+    """
     if first.kind is OutcomeKind.SUCCEEDED:
         value = payloads.decode(first.value)
         is_same = outcome.kind is OutcomeKind.SUCCEEDED and outcome.value == value
@@ -78,9 +87,9 @@ def check(
         is_same = outcome.kind is not OutcomeKind.SUCCEEDED and _error(outcome) == _error(first)
     if not is_same:
         is_done = first.kind is OutcomeKind.SUCCEEDED
-        told = why or f"it has {'succeeded' if is_done else 'failed'}"
-        told += ". This is a different outcome, and the first one counts"
-        raise ConflictingReport(f"saga {key!r}, step {step!r}: {told}")
+        text = why or f"it has {'succeeded' if is_done else 'failed'}"
+        text += ". This is a different outcome, and the first one counts"
+        raise ConflictingReport(f"saga {key!r}, step {step!r}: {text}")
 
 
 def _error(outcome: Outcome) -> Any:
@@ -88,7 +97,7 @@ def _error(outcome: Outcome) -> Any:
 
 
 def over(row: SagaRow) -> StepNotWaiting:
-    """What is said of a step that never ran, of a saga that is over."""
+    """Return the error for a step that never ran in an ended saga."""
     if row.phase == EnginePhase.STUCK and row.note is None:
         return StepNotWaiting(
             f"saga {row.key!r} is stuck, and no step of it waits. After the repair, call `resolve`"

@@ -5,48 +5,53 @@ from __future__ import annotations
 from collections.abc import Awaitable, Callable
 from typing import Any, Protocol
 
-from sagas.base.errors import Lost
+from sagas.base.errors import ShardLost
 from sagas.core.model import Attempt
 from sagas.definition.step import Function
 from sagas.definition.task import Task
 
-Take = Callable[[], Any]
-"""What gives a function a connection, where it asks for one."""
+TakeConnection = Callable[[], Any]
+"""A callable that returns a connection for a function that asks for one."""
 
 
 class StepTransactions(Protocol):
-    """Functions that may have a connection are called as others, as long as they ask for none."""
+    """The calls of functions that may use a connection of the store.
 
-    def enter(self, attempt: Attempt) -> Take | None:
-        """One is about to be called: what gives it a connection until it first waits. None where
-        there is no connection at hand.
+    Such a function is called without a connection until it asks for one.
+    """
+
+    def enter(self, attempt: Attempt) -> TakeConnection | None:
+        """Return a callable for a connection, for a function that is about to be called.
+
+        The connection is available until the function first waits. None if no connection is free.
         """
 
     async def end(self, attempt: Attempt, task: Task[Any], work: Awaitable[Any]) -> Any:
-        """What is left of a function that was entered, up to the end of what it did there. Gives
-        what it returns, and raises what it raises.
+        """Await the rest of an entered function and the end of its transaction.
+
+        Returns and raises what the function returns and raises.
         """
 
     def raised(self, error: BaseException) -> BaseException:
-        """What a function is taken to have raised that had no connection."""
+        """Return the exception to report for a function that got no connection."""
 
     async def within(self, attempt: Attempt, function: Function, task: Task[Any]) -> Any:
-        """All of it, as soon as there is a connection."""
+        """Call a function in a transaction as soon as a connection is free."""
 
 
 class StepRecord(Protocol):
-    """What became of the transaction that an attempt is called in."""
+    """The state of the transaction in which an attempt is called."""
 
     @property
     def done(self) -> bool:
-        """Whether its result is in the store, with what it wrote."""
+        """Whether it was committed, with the attempt's result."""
 
     @property
     def again(self) -> bool:
-        """Whether all is rolled back by no fault of the function: it is called again."""
+        """Whether it was rolled back without an error of the function, which is called again."""
 
-    def lost(self) -> Lost | None:
-        """What to raise where nobody knows whether it was committed."""
+    def lost(self) -> ShardLost | None:
+        """Return the exception to raise if it is unknown whether it was committed."""
 
     def judged(self, error: Any) -> Exception:
-        """What the function is taken to have raised where the server refused something."""
+        """Return the exception to report for the function if the server refused a statement."""

@@ -1,4 +1,4 @@
-"""What only some attempts and sagas keep: those that wait, fail, or are reported by hand."""
+"""State of attempts and sagas that wait, fail or are reported by hand."""
 
 from __future__ import annotations
 
@@ -8,7 +8,7 @@ from collections.abc import Callable
 from typing import Any
 
 from sagas.base.logger import logger
-from sagas.core.batch import Wanted
+from sagas.core.batch import RequestRef
 from sagas.core.states import EarlyReason, Suspension
 from sagas.definition import serialization
 from sagas.definition.compiled import ActionKey
@@ -18,8 +18,9 @@ from sagas.definition.shape_values import ShapeValues
 
 @dataclasses.dataclass(slots=True)
 class Lease:
-    """An external worker has the task until then, in wall time. Each lease of a task has a greater
-    number than those before.
+    """The lease of an external worker, until a wall time.
+
+    Each lease of a task has a greater number than the earlier ones.
     """
 
     number: int
@@ -30,15 +31,15 @@ class Lease:
 
 @dataclasses.dataclass(frozen=True, slots=True)
 class SuspensionRow:
-    """A row on its way to the store, which keeps an attempt from going on until it is there."""
+    """A row to store. The attempt continues only after it is stored."""
 
     reason: Suspension
     until: float | None
     error: str | None = None
 
 
-class Subject(enum.Enum):
-    """What a function of a definition is asked of an attempt: the option that it was given as."""
+class FunctionOption(enum.Enum):
+    """The options of a definition that are functions of an attempt."""
 
     UNTIL = "until"
     LIMIT_KEY = "concurrency_by"
@@ -46,14 +47,14 @@ class Subject(enum.Enum):
 
 
 @dataclasses.dataclass(frozen=True, slots=True)
-class Returned:
-    """What such a function returned, or raised."""
+class FunctionResult:
+    """The value that such a function returned, or the error that it raised."""
 
     value: Any = None
     error: Exception | None = None
 
     def get(self) -> Any:
-        """Return it, or raise it."""
+        """Return the value, or raise the error."""
         if self.error is not None:
             raise self.error
         return self.value
@@ -61,66 +62,66 @@ class Returned:
 
 @dataclasses.dataclass(slots=True)
 class AttemptExtras:
-    """What only an attempt has whose outcome was unknown, or that somebody reports by hand."""
+    """State of an attempt that waits, fails or is reported by hand."""
 
     count: int = 0
     """How often its outcome was unknown."""
     failures: int = 0
-    """How often it failed, and was called again or is to be."""
+    """How often it failed and was called again, or will be."""
     pause: float = 0.0
     """Seconds until it is called again."""
     gave_way: bool = False
-    """Whether its wait for another saga was given up, so that others get its place."""
+    """Whether its wait for another saga was given up, so that others get its slot."""
     lease: Lease | None = None
     """The newest lease of an external worker that this program knows of."""
     offered: int | None = None
     """See `Attempt.offered`."""
     limit_key: str | None = None
     """The key by which the limits of its step count it, as JSON."""
-    asked: str = ""
-    """The functions of its definition that are called now, as they are declared."""
-    returned: dict[Subject, Returned] = dataclasses.field(default_factory=dict)
-    """What they returned, until that is used."""
+    called_options: str = ""
+    """The options whose functions are called now, for messages."""
+    returned: dict[FunctionOption, FunctionResult] = dataclasses.field(default_factory=dict)
+    """The results of these functions, until they are used."""
     control: Control | None = None
-    """What its function hears and tells, once one of them was asked for."""
-    request: Wanted = None
+    """The cancellation and the progress of its function, created at the first use."""
+    request: RequestRef = None
     """The operator's command that finished it."""
     spans: list[tuple[str, float, str | None]] = dataclasses.field(default_factory=list)
-    """What was noted of it and is not stored (`core.spans`)."""
-    noted: str = ""
-    """The word that was noted last."""
-    notes: int = 0
-    """How often something was noted."""
+    """The notes that are not stored yet (`core.spans`)."""
+    last_note: str = ""
+    """The word of the last note."""
+    note_count: int = 0
+    """The number of notes."""
 
 
 @dataclasses.dataclass(slots=True)
 class SagaExtras:
-    """What only a saga has in which something failed, or waits."""
+    """State of a saga in which a step failed or waits."""
 
-    missed_at: dict[ActionKey, float] = dataclasses.field(default_factory=dict)
-    """When the last attempt of each action failed that is retried."""
-    pauses: dict[ActionKey, float | None] = dataclasses.field(default_factory=dict)
-    """Seconds that it wants behind that (`RetryAfter`)."""
+    failed_at: dict[ActionKey, float] = dataclasses.field(default_factory=dict)
+    """When the last attempt of each retried action failed."""
+    retry_pauses: dict[ActionKey, float | None] = dataclasses.field(default_factory=dict)
+    """The pause in seconds that the action requested after that (`RetryAfter`)."""
     final: set[ActionKey] = dataclasses.field(default_factory=set)
     """The actions that failed permanently."""
     errors: dict[int, str] = dataclasses.field(default_factory=dict)
-    """What each step raised last."""
+    """The last error of each step."""
     shape: ShapeValues | None = None
-    """What is kept of its shape, once it was read."""
+    """Its stored shape, after it was read."""
     numbering: ShapeValues | None = None
-    """The numbers and keys of its items, once its shape is not held any more."""
-    due: dict[ActionKey, float] = dataclasses.field(default_factory=dict)
-    """Of waits: until when; 0 once that is over."""
-    early: dict[ActionKey, tuple[EarlyReason, str]] = dataclasses.field(default_factory=dict)
-    """What is reported of steps that have not begun: which kind, and its text as it is stored."""
-    drains: bool = False
-    """See `SagaInstance.drains`."""
+    """The numbers and keys of its items, after its shape was dropped."""
+    wait_ends: dict[ActionKey, float] = dataclasses.field(default_factory=dict)
+    """The end times of waits; 0 after they have passed."""
+    early_reports: dict[ActionKey, tuple[EarlyReason, str]] = dataclasses.field(default_factory=dict)
+    """The reports of steps that have not started: their kinds, and their texts as stored."""
+    may_cancel_work: bool = False
+    """See `SagaInstance.may_cancel_work`."""
     tenant: str | None = None
-    """Whose it is, as JSON; None until that is asked."""
+    """Its tenant as JSON; None until `fair_by` was called."""
 
 
 def tenant_of(by: Callable[[Any], Any], text: str, name: str) -> str:
-    """Return whose a saga is, by its definition's function of its input; `null` if that raises."""
+    """Return a saga's tenant, which a function of its input computes; `null` if it raises."""
     try:
         return serialization.write(by(serialization.read(text)), "fair_by")
     except Exception as error:

@@ -1,14 +1,14 @@
 """`plan`, `check` and `audit` by the C library, or by the program.
 
-Plans, judgements and audits of texts, by the C library in this process; where it is not there, by
-the program.
+Plans, checks and audits of texts, by the C library in this process. If the library does not exist,
+the program performs them.
 
     verdict = sagas.plan(definition, case)             # Verdict(yes=True,
     text='{"cost":38,"kept":[0,1],..}')
     sagas.check(definition, case, verdict.text)        # Verdict(yes=True, text='least 38')
 
-Texts are str, or bytes, of the forms of docs/FORMATS.md. A call keeps nothing, and other threads
-run meanwhile; any number of threads may call.
+Texts are str or bytes in the formats of docs/FORMATS.md. A call keeps no state, and other threads
+run during it; any number of threads may call.
 """
 
 from __future__ import annotations
@@ -30,7 +30,7 @@ Span = tuple[int, int]
 OK, REJECTED, INVALID, NO_MEMORY, BUFFER_TOO_SMALL = 0, 1, 3, 4, 5
 FIRST_SIZE = 65536
 
-# Of each call, how many texts it takes before the spans, the buffer and the place of what was used.
+# The number of texts of each call, before the spans, the buffer and the used size.
 CALLS = {
     "sagas_check": 3,
     "sagas_plan": 2,
@@ -66,19 +66,20 @@ class _Span(ctypes.Structure):
 
 
 def path() -> pathlib.Path | None:
-    """Where the library is: `$SAGAS_LIBRARY`, else the one that came with the package, else the
-    release of the checkout that this is in.
+    """Return the path of the library; None if it does not exist.
+
+    It is `$SAGAS_LIBRARY`, the library of the package, or the release of the surrounding checkout.
     """
-    told = os.environ.get("SAGAS_LIBRARY")
-    places = [pathlib.Path(told)] if told else program.released("libsagas.so")
-    return next((place for place in places if place.is_file()), None)
+    explicit = os.environ.get("SAGAS_LIBRARY")
+    candidates = [pathlib.Path(explicit)] if explicit else program.release_paths("libsagas.so")
+    return next((candidate for candidate in candidates if candidate.is_file()), None)
 
 
 @functools.cache
-def loaded(place: pathlib.Path) -> ctypes.CDLL | None:
-    """The library with the types of its calls, or None where this machine cannot load it."""
+def loaded(path: pathlib.Path) -> ctypes.CDLL | None:
+    """Return the library with the types of its calls; None if this machine cannot load it."""
     try:
-        library = ctypes.CDLL(str(place))
+        library = ctypes.CDLL(str(path))
     except OSError:
         return None
     for name, count in CALLS.items():
@@ -102,62 +103,73 @@ def call(
     spans: Sequence[Span] | None = None,
     size: int = FIRST_SIZE,
 ) -> tuple[int, bytes]:
-    """The status and the text of a call of the library: first with a buffer of so many bytes, then
-    with one as large as its text takes.
+    """Call the library, and return its status and its text.
+
+    If the text does not fit into a buffer of `size` bytes, the call is repeated with a larger one.
     """
-    words: list[object] = [word for text in texts for word in (text, len(text))]
+    arguments: list[object] = [argument for text in texts for argument in (text, len(text))]
     if spans is not None:
-        words += [(_Span * len(spans))(*(_Span(start, end) for start, end in spans)), len(spans)]
+        arguments += [
+            (_Span * len(spans))(*(_Span(start, end) for start, end in spans)),
+            len(spans),
+        ]
     used = ctypes.c_size_t()
     while True:
         buffer = ctypes.create_string_buffer(size) if size else None
-        status = int(getattr(library, name)(*words, buffer, size, ctypes.byref(used)))
+        status = int(getattr(library, name)(*arguments, buffer, size, ctypes.byref(used)))
         if status != BUFFER_TOO_SMALL:
             return status, ctypes.string_at(buffer, used.value) if buffer else b""
         size = used.value
 
 
 def _by_program(command: str, texts: Sequence[bytes]) -> tuple[int, bytes]:
-    """The same of the program: its status, and what it prints, or with status 3 its line on
-    standard error.
+    """Run the program, and return its status and its output.
+
+    With the status `INVALID` the output is its line on standard error.
     """
-    with contextlib.closing(program.Texts(texts)) as given:
-        done = program.finished([program.path(), command, *given.paths], given.files)
-    if done.returncode not in (OK, REJECTED, INVALID, NO_MEMORY):
+    with contextlib.closing(program.TextFiles(texts)) as text_files:
+        process = program.run_to_end([program.path(), command, *text_files.paths], text_files.files)
+    if process.returncode not in (OK, REJECTED, INVALID, NO_MEMORY):
         raise EngineError(
-            f"sagas {command} ended with {done.returncode}: "
-            f"{done.stderr.decode(errors='replace').strip()}"
+            f"sagas {command} ended with {process.returncode}: "
+            f"{process.stderr.decode(errors='replace').strip()}"
         )
-    return done.returncode, done.stderr if done.returncode == INVALID else done.stdout
+    return process.returncode, process.stderr if process.returncode == INVALID else process.stdout
 
 
-def _asked(command: str, texts: Sequence[Text]) -> Verdict:
-    """What a command answers to texts. `InvalidText` where one is not of its form, `MemoryError`
-    where memory was refused.
+def _verdict(command: str, texts: Sequence[Text]) -> Verdict:
+    """Return the verdict of a command on texts.
+
+    Raises:
+        InvalidText: A text does not have its format.
+        MemoryError: The system refused memory.
     """
-    given = [text.encode() if isinstance(text, str) else text for text in texts]
-    place = path()
-    library = loaded(place) if place else None
+    encoded = [text.encode() if isinstance(text, str) else text for text in texts]
+    library_path = path()
+    library = loaded(library_path) if library_path else None
     if library is None:
-        status, said = _by_program(command, given)
+        status, output = _by_program(command, encoded)
     elif command == "audit":
-        ends = [sum(map(len, given[1 : count + 1])) for count in range(len(given))]
-        status, said = call(
-            library, "sagas_audit_all", [given[0], b"".join(given[1:])], list(zip(ends, ends[1:]))
+        ends = [sum(map(len, encoded[1 : count + 1])) for count in range(len(encoded))]
+        status, output = call(
+            library,
+            "sagas_audit_all",
+            [encoded[0], b"".join(encoded[1:])],
+            list(zip(ends, ends[1:])),
         )
     else:
-        status, said = call(library, f"sagas_{command}", given)
+        status, output = call(library, f"sagas_{command}", encoded)
     if status == NO_MEMORY:
         raise MemoryError(f"sagas {command}: the system refused memory")
     if status == INVALID:
-        raise InvalidText(said.decode(errors="replace").rstrip("\n"))
-    return Verdict(status == OK, said.decode().rstrip("\n"))
+        raise InvalidText(output.decode(errors="replace").rstrip("\n"))
+    return Verdict(status == OK, output.decode().rstrip("\n"))
 
 
 def plan(definition: Text, case: Text) -> Verdict:
     """Return a least-cost plan for a saga in the state of a case.
 
-    Nothing is kept, any number of threads may call, and other threads run meanwhile.
+    A call keeps no state, and other threads run during it; any number of threads may call.
 
     Args:
         definition: The text of a definition file.
@@ -178,11 +190,11 @@ def plan(definition: Text, case: Text) -> Verdict:
         >>> sagas.check(definition, case, answer.text)
         Verdict(yes=True, text='least 4')
     """
-    return _asked("plan", [definition, case])
+    return _verdict("plan", [definition, case])
 
 
 def check(definition: Text, case: Text, answer: Text) -> Verdict:
-    """Verify a plan, whoever made it.
+    """Verify a plan of any origin.
 
     Args:
         definition: The text of a definition file.
@@ -197,7 +209,7 @@ def check(definition: Text, case: Text, answer: Text) -> Verdict:
         EngineError: Neither the library nor the program `sagas` can be run here.
         MemoryError: The system refused memory.
     """
-    return _asked("check", [definition, case, answer])
+    return _verdict("check", [definition, case, answer])
 
 
 def audit(log: Text, definition: Text, *more: Text) -> Verdict:
@@ -216,4 +228,4 @@ def audit(log: Text, definition: Text, *more: Text) -> Verdict:
         EngineError: Neither the library nor the program `sagas` can be run here.
         MemoryError: The system refused memory.
     """
-    return _asked("audit", [log, definition, *more])
+    return _verdict("audit", [log, definition, *more])

@@ -27,8 +27,8 @@ class Choice:
         cost_to_keep: Cost if its effect stays; None: this is not allowed.
         cost_to_drop: Cost if it is undone or skipped; None: this is not allowed.
         kept: Whether the plan keeps it.
-        needed_by: If dropping it alone were no dearer: the first kept step that needs it; else
-            None.
+        needed_by: If dropping it alone were not more expensive: the first kept step that needs it;
+            else None.
     """
 
     step: str
@@ -94,7 +94,7 @@ class Plan:
     def blocking_steps(self) -> list[str]:
         """If no plan is feasible, the steps that show why; else an empty list."""
         steps = listed_steps.of(self.definition)
-        return [steps[place].name for place in self.answer.get("chain", ())]
+        return [steps[index].name for index in self.answer.get("chain", ())]
 
     @property
     def choices(self) -> list[Choice]:
@@ -102,28 +102,37 @@ class Plan:
         kept = set(self.answer.get("kept", ()))
         steps = listed_steps.of(self.definition)
         needed = {
-            need: steps[place].name
-            for place in sorted(kept, reverse=True)
-            for need in steps[place].needs
+            need: steps[index].name
+            for index in sorted(kept, reverse=True)
+            for need in steps[index].needs
         }
         return [
-            self._choice(step, step_state(told).value, place in kept, needed.get(step.name))
-            for place, (step, told) in enumerate(zip(steps, self.case["states"]))
+            self._choice(step, step_state(state_word).value, index in kept, needed.get(step.name))
+            for index, (step, state_word) in enumerate(zip(steps, self.case["states"]))
         ]
 
     def _choice(self, step: ListedStep, state: str, kept: bool, needed: str | None) -> Choice:
         run, undo, skip, keep = map(_cost, (step.run, step.undo, step.skip, step.keep))
         if state == "waiting":
-            stand = None if self.case.get("aborted") else _sum(run, keep)
+            keep_cost = None if self.case.get("aborted") else _sum(run, keep)
         else:
-            stand = keep if state in ("committed", "undo_failed") else None
-        leave = (
+            keep_cost = keep if state in ("committed", "undo_failed") else None
+        drop_cost = (
             None if state == "undo_failed" else _sum(undo, skip) if state == "committed" else skip
         )
-        goes = (
-            state == "committed" and leave is not None and (stand is None or stand >= leave)
+        may_be_dropped = (
+            state == "committed"
+            and drop_cost is not None
+            and (keep_cost is None or keep_cost >= drop_cost)
         )  # if nothing needs it
-        return Choice(step.name, state, stand, leave, kept, needed if kept and goes else None)
+        return Choice(
+            step.name,
+            state,
+            keep_cost,
+            drop_cost,
+            kept,
+            needed if kept and may_be_dropped else None,
+        )
 
     def check(self) -> str:
         """Verify the plan by `sagas check`, which does not trust the planner.
@@ -134,12 +143,12 @@ class Plan:
         Raises:
             EngineError: The plan is wrong, or the program `sagas` cannot be run.
         """
-        done = program.run(
+        process = program.run(
             "check", [self.definition, json.dumps(self.case), json.dumps(self.answer)]
         )
-        if done.returncode != 0:
-            raise EngineError((done.stdout + done.stderr).strip())
-        return done.stdout.strip()
+        if process.returncode != 0:
+            raise EngineError((process.stdout + process.stderr).strip())
+        return process.stdout.strip()
 
     def draw(self, *, unfold: Iterable[str] = ()) -> str:
         """Return the plan as text for Graphviz, for example for `dot -Tsvg`.
@@ -157,7 +166,7 @@ class Plan:
         choices = self.choices
         wide = max(4, *(len(choice.step) for choice in choices))
         states = [state_text(choice.state) for choice in choices]
-        found = max(9, *map(len, states))
+        width = max(9, *map(len, states))
         head = f"plan of {self.saga} {self.key}: "
         head += (
             f"cost {self.cost}"
@@ -166,29 +175,29 @@ class Plan:
         )
         lines = [
             head,
-            f"  {'step':{wide}}  {'found':{found}}  cost to keep  cost to drop  decision",
+            f"  {'step':{wide}}  {'found':{width}}  cost to keep  cost to drop  decision",
         ]
         for choice, state in zip(choices, states):
             decision = choice.detail if self.cost is not None else "stuck"
             lines.append(
-                f"  {choice.step:{wide}}  {state:{found}}  {_shown(choice.cost_to_keep):>12}  "
-                f"{_shown(choice.cost_to_drop):>12}  {decision}"
+                f"  {choice.step:{wide}}  {state:{width}}  {_cost_text(choice.cost_to_keep):>12}  "
+                f"{_cost_text(choice.cost_to_drop):>12}  {decision}"
             )
         return "\n".join(lines)
 
 
-def _cost(told: int | str) -> Cost:
-    return told if isinstance(told, int) else None
+def _cost(value: int | str) -> Cost:
+    return value if isinstance(value, int) else None
 
 
-def certificate_text(one: Plan) -> str:
-    """A plan as `sagas check` reads it from its standard input."""
-    return f"{one.definition}---\n{json.dumps(one.case)}\n---\n{json.dumps(one.answer)}\n"
+def certificate_text(plan: Plan) -> str:
+    """Return a plan as `sagas check` reads it from its standard input."""
+    return f"{plan.definition}---\n{json.dumps(plan.case)}\n---\n{json.dumps(plan.answer)}\n"
 
 
 def _sum(a: Cost, b: Cost) -> Cost:
     return None if a is None or b is None else a + b
 
 
-def _shown(cost: Cost) -> str:
+def _cost_text(cost: Cost) -> str:
     return "never" if cost is None else str(cost)

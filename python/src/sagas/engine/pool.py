@@ -7,61 +7,62 @@ from typing import Generic, Protocol, TypeVar
 
 
 class Borrower(Protocol):
-    """What asks for an engine process."""
+    """A shard that requests an engine process."""
 
     def granted(self) -> None:
-        """It may have one."""
+        """Start an engine process now."""
 
     def rests(self) -> bool:
-        """Whether its process may go to another one."""
+        """Whether its process may be replaced by that of another borrower."""
 
     def sleep(self) -> None:
-        """Lets its process go."""
+        """Stop its process."""
 
 
 T = TypeVar("T", bound=Borrower)
 
 
 class EnginePool(Generic[T]):
-    """At most `most` shards have an engine process. One that asks gets it when another rests, or
-    has had it for its turn.
+    """A pool in which at most `capacity` shards have an engine process.
+
+    A waiting shard gets a process when another shard rests.
     """
 
     def __init__(self, most: int) -> None:
-        self.most = most
+        self.capacity = most
         self._up: dict[T, None] = {}
-        self.wanted: dict[T, None] = {}
-        """The shards that wait for one."""
+        self.waiting: dict[T, None] = {}
+        """The shards that wait for a process."""
 
-    def up(self) -> Iterable[T]:
-        """The shards that have one, or are about to."""
+    def borrowers(self) -> Iterable[T]:
+        """Return the shards that have a process or are about to start one."""
         return self._up
 
-    def want(self, borrower: T) -> None:
-        """Calls `granted` once the shard may have one."""
+    def request_engine(self, borrower: T) -> None:
+        """Request a process: `granted` is called when the shard may start it."""
         if borrower in self._up:
             borrower.granted()
         else:
-            self.wanted[borrower] = None
-            self.turn()
+            self.waiting[borrower] = None
+            self.lend()
 
-    def gone(self, borrower: T) -> None:
-        """Its process is gone, or it wants none any more."""
-        self.wanted.pop(borrower, None)
+    def release(self, borrower: T) -> None:
+        """Note that a shard has no process and does not wait for one."""
+        self.waiting.pop(borrower, None)
         if borrower in self._up:
             del self._up[borrower]
-            self.turn()
+            self.lend()
 
-    def turn(self) -> None:
-        """Takes processes from shards that rest, for those that wait."""
-        for borrower in list(self._up) if self.wanted and len(self._up) >= self.most else ():
-            if len(self._up) < self.most:
+    def lend(self) -> None:
+        """Stop processes of shards that rest, and grant them to shards that wait."""
+        for borrower in list(self._up) if self.waiting and len(self._up) >= self.capacity else ():
+            if len(self._up) < self.capacity:
                 break
             if borrower.rests():
                 del self._up[borrower]
                 borrower.sleep()
-        while self.wanted and len(self._up) < self.most:
-            borrower = next(iter(self.wanted))
-            del self.wanted[borrower]
+        while self.waiting and len(self._up) < self.capacity:
+            borrower = next(iter(self.waiting))
+            del self.waiting[borrower]
             self._up[borrower] = None
             borrower.granted()

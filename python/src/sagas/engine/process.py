@@ -14,39 +14,37 @@ from collections.abc import Sequence
 from typing import Protocol
 
 from sagas.base.errors import EngineError
-from sagas.base.fork_guard import private
-from sagas.base.program import Texts, memory_file, not_runnable
+from sagas.base.fork_guard import private_descriptors
+from sagas.base.program import TextFiles, memory_file, not_runnable
 from sagas.core import protocol
 from sagas.core.protocol import REPLY
 
-PIPE = 1 << 20  # bytes
-READ = (
+PIPE_BYTES = 1 << 20  # bytes
+READ_BYTES = (
     1 << 16
 )  # bytes that are read at once: what is larger is mapped, and given back, at each read
 WAIT = 1  # milliseconds
 HUNG = 60.0  # seconds
 AGAIN = 32
-"""Questions after one whose answer was late, until answers are waited for again."""
+"""After a late answer: the number of requests until `wait` waits again."""
 AGAIN_LATER = 0.01  # seconds
 NOT_RUNNABLE = (errno.ENOEXEC, errno.EACCES, errno.ENOENT)
-"""What the system says of a program that it cannot run: for another processor, without the right,
-or without its loader."""
+"""The errors of the system for a program that it cannot run: another processor, no permission or no
+loader."""
 
 
-Answer = tuple[list[str], str]
-"""What an engine says to a question: a reply for each line that it was asked, and the event log's
-new lines.
-"""
+EngineAnswer = tuple[list[str], str]
+"""A reply for each line of the request, and the new lines of the event log."""
 
 
 class Listener(Protocol):
-    """What an engine answers."""
+    """The receiver of an engine's replies."""
 
     def answered(self, replies: list[str], log_text: str) -> None:
-        """It has answered."""
+        """Take the replies to a request."""
 
     def died(self, engine: EngineProcess, last: str) -> None:
-        """It has ended by itself, with these last words. It is called once."""
+        """Take the last line of an engine that ended on its own. This is called once."""
 
 
 REFUSED = 3
@@ -54,13 +52,13 @@ REFUSED = 3
 
 
 class EngineProcess:
-    """One process that drives one shard, one question at a time.
+    """A process that executes one shard, one request at a time.
 
     Attributes:
-        asked: How many replies are to come: while there are any, nothing else is asked.
-        dead: Whether it was thrown away, or ended.
+        unanswered: The number of missing replies. No further request is sent until it is 0.
+        is_dead: Whether it was stopped, or ended.
         process: The process.
-        buried: Done once the process that was thrown away is no more.
+        reaped: Done when the stopped process was reaped.
     """
 
     def __init__(
@@ -76,124 +74,128 @@ class EngineProcess:
             program: The path of `sagas`.
             definitions: The shard's definitions.
             text: Its event log so far, without the header.
-            listener: What it answers.
+            listener: Its receiver of replies.
 
         Raises:
             EngineError: It cannot be started.
         """
         self._loop = asyncio.get_running_loop()
         self._listener = listener
-        self.asked = 0
-        self._since = 0.0
+        self.unanswered = 0
+        self._sent_at = 0.0
         self._replies: list[str] = []  # that came
-        self._shown: list[str] = []  # lines of the log that came, each with its plus
-        self._part = ""  # of a line that has not come whole
-        self._out = b""
-        self._writing = self.dead = False
-        self.buried: asyncio.Future[None] = self._loop.create_future()
-        self._late = 0  # questions whose answers are not waited for
+        self._log_lines: list[str] = []  # lines of the log that came, each with its plus
+        self._partial_line = ""  # of a line that has not come whole
+        self._unsent = b""
+        self._writing = self.is_dead = False
+        self.reaped: asyncio.Future[None] = self._loop.create_future()
+        self._unwaited = 0  # questions whose answers are not waited for
         self._start(program, definitions, text)
 
     def _start(self, program: str, definitions: Sequence[str], text: str) -> None:
-        self._words = -1
-        self._texts: Texts | None = None
+        self._stderr = -1
+        self._texts: TextFiles | None = None
         try:
-            self._words = memory_file("words")
-            self._texts = Texts([*definitions, protocol.HEADER + text] if text else definitions)
-            words = self._texts.paths
+            self._stderr = memory_file("words")
+            self._texts = TextFiles([*definitions, protocol.HEADER + text] if text else definitions)
+            arguments = self._texts.paths
             if text:
-                words = ["--from", words[-1], *words[:-1]]
-            self._popen([program, "drive", "--lines", *words], self._texts.files)
-            self._texts.given()
+                arguments = ["--from", arguments[-1], *arguments[:-1]]
+            self._popen([program, "drive", "--lines", *arguments], self._texts.files)
+            self._texts.close_passed_files()
         except OSError as error:
             self._close_files()
             if error.errno in NOT_RUNNABLE:
                 raise not_runnable(program, str(error.strerror)) from error
             raise EngineError(f"{program}: cannot be started: {error.strerror}") from error
-        for fd in (self._to, self._back):
+        for fd in (self._request_fd, self._reply_fd):
             os.set_blocking(fd, False)
-            # (a user has so many pages of pipes, and no more; and not each system has it)
+            # (the system limits the pipe pages of a user, and some systems do not support it)
             with contextlib.suppress(AttributeError, OSError):
-                fcntl.fcntl(fd, fcntl.F_SETPIPE_SZ, PIPE)
-        self._loop.add_reader(self._back, self._readable)
+                fcntl.fcntl(fd, fcntl.F_SETPIPE_SZ, PIPE_BYTES)
+        self._loop.add_reader(self._reply_fd, self._readable)
         self._poll = select.poll()
-        self._poll.register(self._back, select.POLLIN)
+        self._poll.register(self._reply_fd, select.POLLIN)
 
-    def _popen(self, words: Sequence[str], files: Sequence[int]) -> None:
-        """No child that is forked here has its pipes, on any side."""
-        with private.unforked():
+    def _popen(self, arguments: Sequence[str], files: Sequence[int]) -> None:
+        """Start the process so that no forked child inherits its pipes."""
+        with private_descriptors.without_forks():
             self.process = subprocess.Popen(
-                words,
+                arguments,
                 stdin=subprocess.PIPE,
                 stdout=subprocess.PIPE,
-                stderr=self._words,
+                stderr=self._stderr,
                 bufsize=0,
                 pass_fds=files,
                 start_new_session=True,
             )
             assert self.process.stdin and self.process.stdout
-            self._to, self._back = self.process.stdin.fileno(), self.process.stdout.fileno()
-            for fd in (self._to, self._back):
-                private.add(fd)
+            self._request_fd, self._reply_fd = (
+                self.process.stdin.fileno(),
+                self.process.stdout.fileno(),
+            )
+            for fd in (self._request_fd, self._reply_fd):
+                private_descriptors.add(fd)
 
     def ask(self, requests: Sequence[str]) -> None:
-        """Send a question: its listener is told the answer, unless `wait` gives it."""
-        assert not self.asked
-        self.asked, self._since = len(requests), time.monotonic()
-        self._out += ("\n".join(requests) + "\n").encode()
+        """Send a request. The listener gets the replies, unless `wait` returns them."""
+        assert not self.unanswered
+        self.unanswered, self._sent_at = len(requests), time.monotonic()
+        self._unsent += ("\n".join(requests) + "\n").encode()
         self._write()
 
     def has_refused(self) -> bool:
-        """Whether it has ended since it refuses what it was started on."""
+        """Whether it ended because it refuses its event log or a definition."""
         return self.process.returncode == REFUSED
 
     def is_hung(self, now: float) -> bool:
-        """Whether it was asked so long ago that it will hardly answer."""
-        return self.asked > 0 and now - self._since > HUNG
+        """Whether its replies are overdue by `HUNG` seconds."""
+        return self.unanswered > 0 and now - self._sent_at > HUNG
 
-    def wait(self) -> Answer | None:
-        """Wait here for the answer, as long as answers come within `WAIT`: that takes less than a
-        turn of the loop.
+    def wait(self) -> EngineAnswer | None:
+        """Wait for the replies, if recent replies came within `WAIT`.
+
+        This takes less than a turn of the loop.
 
         Measured on 2026-11-28, in instructions a saga of three steps over SQLite: 15 % less for
         one saga at a time, nothing for 16, and 5 % less for 256.
 
         Returns:
-            The answer; None if the listener is told it later.
+            The replies; None if the listener gets them later.
         """
-        if self._late:
-            self._late -= 1
+        if self._unwaited:
+            self._unwaited -= 1
             return None
         if self._poll.poll(WAIT):
             return self._read()
-        self._late = AGAIN
+        self._unwaited = AGAIN
         return None
 
     def _write(self) -> None:
         try:
-            while self._out:
-                self._out = self._out[os.write(self._to, self._out) :]
+            while self._unsent:
+                self._unsent = self._unsent[os.write(self._request_fd, self._unsent) :]
         except BlockingIOError:
             if not self._writing:
                 self._writing = True
-                self._loop.add_writer(self._to, self._write)
+                self._loop.add_writer(self._request_fd, self._write)
             return
         except OSError:
             self._loop.call_soon(self._die)
             return
         if self._writing:
             self._writing = False
-            self._loop.remove_writer(self._to)
+            self._loop.remove_writer(self._request_fd)
 
     def _readable(self) -> None:
         answer = self._read()
         if answer is not None:
             self._listener.answered(*answer)
 
-    def _read(self) -> Answer | None:
-        """Read what is there; the answer, if it is whole by now."""
+    def _read(self) -> EngineAnswer | None:
+        """Read the available output. Return the replies if they are complete; else None."""
         try:
-            data = os.read(self._back, READ)
+            data = os.read(self._reply_fd, READ_BYTES)
         except BlockingIOError:
             return None
         except OSError:
@@ -201,72 +203,74 @@ class EngineProcess:
         if not data:
             self._die()
             return None
-        came = (self._part + data.decode()).split("\n")  # all of ASCII: no character is cut
-        self._part = came.pop()
+        lines = (self._partial_line + data.decode()).split(
+            "\n"
+        )  # all of ASCII: no character is cut
+        self._partial_line = lines.pop()
         # a line of the log is shown before the reply that it belongs to
-        self._replies += [line for line in came if line >= REPLY]
-        self._shown += [line for line in came if line < REPLY]
-        if not self.asked or len(self._replies) < self.asked:
+        self._replies += [line for line in lines if line >= REPLY]
+        self._log_lines += [line for line in lines if line < REPLY]
+        if not self.unanswered or len(self._replies) < self.unanswered:
             return None
-        replies, self._replies, self.asked = self._replies, [], 0
-        if not self._shown:
+        replies, self._replies, self.unanswered = self._replies, [], 0
+        if not self._log_lines:
             return replies, ""
-        self._shown.append("")
-        text, self._shown = "\n".join(self._shown)[1:].replace("\n+", "\n"), []
+        self._log_lines.append("")
+        text, self._log_lines = "\n".join(self._log_lines)[1:].replace("\n+", "\n"), []
         return replies, text.removeprefix(protocol.HEADER)
 
     def _die(self) -> None:
-        if not self.dead:
+        if not self.is_dead:
             self.stop()
             self.process.wait()  # its output ended, so it is about to
             status = f"ended with status {self.process.returncode}"
-            self._listener.died(self, self._said() or status)
+            self._listener.died(self, self._last_error_line() or status)
 
-    def _said(self) -> str:
-        """Its last words."""
-        end = os.pread(self._words, 4096, max(0, os.fstat(self._words).st_size - 4096))
-        said = [line for line in end.decode(errors="replace").splitlines() if line.strip()]
-        return said[-1] if said else ""
+    def _last_error_line(self) -> str:
+        """Return the last line of its standard error."""
+        end = os.pread(self._stderr, 4096, max(0, os.fstat(self._stderr).st_size - 4096))
+        lines = [line for line in end.decode(errors="replace").splitlines() if line.strip()]
+        return lines[-1] if lines else ""
 
     def stop(self) -> None:
-        """Throws the process away."""
-        if self.dead:
+        """Kill the process."""
+        if self.is_dead:
             return
-        self.dead = True
-        self._loop.remove_reader(self._back)
+        self.is_dead = True
+        self._loop.remove_reader(self._reply_fd)
         if self._writing:
-            self._loop.remove_writer(self._to)
+            self._loop.remove_writer(self._request_fd)
         self.process.kill()
         assert self.process.stdin and self.process.stdout
         for pipe in (self.process.stdin, self.process.stdout):
-            private.discard(pipe.fileno())
+            private_descriptors.discard(pipe.fileno())
             pipe.close()
-        self._loop.call_soon(self._bury)
+        self._loop.call_soon(self._reap)
 
-    def _bury(self) -> None:
-        """Takes its status, once it is there: the loop does not stand still for it."""
+    def _reap(self) -> None:
+        """Collect its exit status when it is available, without blocking the loop."""
         if self.process.poll() is not None:
-            self._forget()
+            self._release()
             return
         try:
-            end = os.pidfd_open(self.process.pid)
-        except (AttributeError, OSError):  # the system has none: it is looked at again in a moment
-            self._loop.call_later(AGAIN_LATER, self._bury)
+            pidfd = os.pidfd_open(self.process.pid)
+        except (AttributeError, OSError):  # the system has none: try again soon
+            self._loop.call_later(AGAIN_LATER, self._reap)
             return
-        self._loop.add_reader(end, self._ended, end)
+        self._loop.add_reader(pidfd, self._ended, pidfd)
 
-    def _ended(self, end: int) -> None:
-        self._loop.remove_reader(end)
-        os.close(end)
+    def _ended(self, pidfd: int) -> None:
+        self._loop.remove_reader(pidfd)
+        os.close(pidfd)
         self.process.wait()
-        self._forget()
+        self._release()
 
     def _close_files(self) -> None:
-        if self._words >= 0:
-            os.close(self._words)
+        if self._stderr >= 0:
+            os.close(self._stderr)
         if self._texts is not None:
             self._texts.close()
 
-    def _forget(self) -> None:
+    def _release(self) -> None:
         self._close_files()
-        self.buried.set_result(None)
+        self.reaped.set_result(None)

@@ -11,8 +11,8 @@ from sagas.base.errors import CannotDecode
 from sagas.core import states
 from sagas.core.attention import Attention, AttentionReason
 from sagas.core.batch import SagaRow
-from sagas.core.exhaustion import FAILED_BEFORE
-from sagas.core.history import MISSES, end_of, was_called
+from sagas.core.exhaustion import AFTER_FAILURE
+from sagas.core.history import FAILURE_EVENTS, stored_result, was_called
 from sagas.core.results import DefinitionCount, SagaResult, Summary, UnknownAttempt
 from sagas.definition import tokens
 from sagas.definition.capacity import SHARD_CAPACITY
@@ -295,7 +295,7 @@ def _waits(
 ) -> Waits:
     since, until, detail = times
     name = names.of(digest)[step]
-    if why in FAILED_BEFORE:  # its row counts on from the engine's last attempt, or from a retry
+    if why in AFTER_FAILURE:  # its row counts on from the engine's last attempt, or from a retry
         count += number - 1
     rest = why, max(0, count), since, until, detail
     return Waits(id, key, saga, name, action == "undo", number, *rest)
@@ -342,7 +342,7 @@ def stuck_results(kind_of: Callable[[str], CompiledDefinition], limit: int) -> Q
         row = SagaRow(*columns)
         attempts = yield Query(RESULTS, (row.id,))
         if digest in names:
-            results.append(end_of(kind_of(names.text(digest)), row, attempts))
+            results.append(stored_result(kind_of(names.text(digest)), row, attempts))
     return results
 
 
@@ -392,7 +392,7 @@ def attention(
         """
     raised = f"""
         SELECT s.key, r.step, r.event, r.value FROM attempts r JOIN sagas s ON s.id = r.id
-        WHERE r.event IN {MISSES} AND r.id IN (
+        WHERE r.event IN {FAILURE_EVENTS} AND r.id IN (
           SELECT s.id FROM sagas s WHERE {PHASES["stuck"]} ORDER BY s.ended, s.id LIMIT ?)
         ORDER BY r.at, r.number
         """

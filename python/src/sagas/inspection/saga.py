@@ -11,15 +11,15 @@ from sagas.base.errors import NoSuchSaga
 from sagas.core import states as states_module
 from sagas.core.batch import SagaRow
 from sagas.core.history import (
-    FAILED,
-    STANDS,
-    Attempted,
+    FAILED_STATES,
+    EFFECT_STATES,
+    AttemptEnd,
     Projection,
     attempts_of,
     errors_of,
     events_of,
     last_values,
-    lines_of,
+    saga_events,
     results_of,
     was_called,
 )
@@ -97,7 +97,7 @@ class _Kept:
         stored = queries.known(rows, row.key)
         self.row, self.definition, self.shape = row, stored.definition, stored.shape
         self.names = step_names(stored.definition)
-        self.lines = lines_of(stored.chunks, row.id % SHARD_CAPACITY)
+        self.lines = saga_events(stored.chunks, row.id % SHARD_CAPACITY)
         self.attempts = attempts_of(self.names, stored.results, read)
         self.history = Projection(self.names, self.lines)
 
@@ -207,7 +207,7 @@ def _view(
         aborted=history.aborted,
         input=read(row.input),
         end=json.loads(row.end) if row.end else None,
-        results={n: results[n] for n, state in states if state in STANDS and n in results},
+        results={n: results[n] for n, state in states if state in EFFECT_STATES and n in results},
         steps=steps_of(kept.definition, history, kept.attempts, progress, early),
         plan=kept.plan,
         held=held,
@@ -229,7 +229,7 @@ def _view(
 def steps_of(
     definition: str,
     history: Projection,
-    attempts: list[Attempted],
+    attempts: list[AttemptEnd],
     progress: Mapping[tuple[Any, ...], Progress],
     early: Mapping[int, str],
 ) -> list[StepView]:
@@ -257,10 +257,10 @@ def steps_of(
                 list(step.needs),
                 state,
                 history.attempts[index] - skipped[name],
-                (done if state in STANDS else last).get(name),
+                (done if state in EFFECT_STATES else last).get(name),
                 history.began.get(index),
                 history.ended.get(index),
-                errors.get(name) if state in FAILED else None,
+                errors.get(name) if state in FAILED_STATES else None,
                 progress.get((index, "run", now.get((name, False), 0)))
                 or progress.get((index, "undo", now.get((name, True), 0))),
                 early.get(index) if state == StepState.WAITING else None,

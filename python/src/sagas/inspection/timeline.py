@@ -7,7 +7,7 @@ import json
 from collections.abc import Iterable
 from typing import Any
 
-from sagas.core.history import MISSES, STARTS, Attempted, Stretch, was_called
+from sagas.core.history import FAILURE_EVENTS, START_EVENTS, AttemptEnd, Stretch, was_called
 from sagas.core.spans import AGAIN_WORD, LEASED_WORD, PERSON_WORD, QUEUED_WORD, RUNNING_WORD
 from sagas.core.states import Suspension
 from sagas.definition import listed_steps
@@ -151,13 +151,13 @@ def _times(
     stretch: Stretch,
     ready: float,
     marks: list[Span],
-    end: Attempted | None,
+    end: AttemptEnd | None,
     notes: list[Note],
     now: float,
 ) -> AttemptTimes:
     """Return the times of an attempt from its recorded spans."""
     outcome, error = OUTCOMES.get(stretch.outcome or ""), None
-    if end is not None and end.outcome in MISSES:
+    if end is not None and end.outcome in FAILURE_EVENTS:
         error = str((end.value or {}).get("error", ""))
         if not was_called(end.outcome, end.value):
             outcome = "not_called"
@@ -276,8 +276,8 @@ def _ready(view: SagaView) -> dict[Key, float]:
         name = names[event["step"]] if "step" in event else ""
         if word == "adopt":
             planned = at
-        elif word in STARTS:
-            undo = STARTS[word]
+        elif word in START_EVENTS:
+            undo = START_EVENTS[word]
             number = counts[name, undo] = counts.get((name, undo), 0) + 1
             before = _before(name, undo, above if undo else needs)
             ready[name, undo, number] = max(

@@ -8,7 +8,7 @@ from collections.abc import Sequence
 from typing import Any, NamedTuple
 
 from sagas.core.attention import AttentionReason
-from sagas.core.history import Attempted, Line, Stretch
+from sagas.core.history import AttemptEnd, EventLine, Stretch
 from sagas.core.results import HistoryEvent, Summary
 from sagas.definition import tokens
 from sagas.definition.control import Progress
@@ -145,9 +145,9 @@ class SagaView:
     plan: Plan | None
     held: list[Waits]
     events: list[HistoryEvent]
-    lines: list[Line]
+    lines: list[EventLine]
     stretches: list[Stretch]
-    attempts: list[Attempted]
+    attempts: list[AttemptEnd]
     notes: list[Note]
     definition: str
     token: str

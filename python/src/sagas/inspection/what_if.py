@@ -5,7 +5,7 @@ from __future__ import annotations
 import dataclasses
 import json
 
-from sagas.core.history import MISSES
+from sagas.core.history import FAILURE_EVENTS
 from sagas.definition import listed_steps
 from sagas.engine import library
 from sagas.engine.plan import Plan
@@ -73,7 +73,7 @@ def _failed(view: SagaView) -> dict[str, str]:
     final = {
         (attempt.step, attempt.undo)
         for attempt in view.attempts
-        if attempt.outcome in MISSES and (attempt.value or {}).get("final")
+        if attempt.outcome in FAILURE_EVENTS and (attempt.value or {}).get("final")
     }
     ends = {("waiting", False): "failed", ("committed", True): "undo_failed"}
     return {

@@ -8,7 +8,7 @@ from __future__ import annotations
 
 from collections.abc import Collection, Mapping
 
-from sagas.core.effects import NOTHING_RARE, Abort, Effects
+from sagas.core.effects import NO_RARE_EFFECTS, Abort, Effects
 from sagas.core.model import Attempt, SagaInstance
 from sagas.core.recovery import Recovery
 from sagas.runtime.instances import Instances
@@ -51,9 +51,9 @@ class Acknowledgements:
         """
         if rest is None:
             batch = effects.batch
-            session = self._sessions.get(batch.log)
+            session = self._sessions.get(batch.shard)
             if session is None or session.present != batch.epoch:
-                session = self._record.session(batch.log, batch.epoch)
+                session = self._record.session(batch.shard, batch.epoch)
             rest = session, batch.first + batch.lines
         for attempt in effects.dispatch:
             attempt.rest = rest
@@ -66,14 +66,14 @@ class Acknowledgements:
         if self._report_waiters:
             for attempt in effects.reported:
                 attempt.rest = rest
-        if effects.rare is not NOTHING_RARE:
+        if effects.rare is not NO_RARE_EFFECTS:
             for abort in effects.rare.aborted:
                 self._aborts.setdefault(abort.saga, {})[abort] = rest
 
     def recovered(self, recovery: Recovery) -> None:
         """Note a recovered shard: what continues rests on the events that are stored."""
         batch = recovery.effects.batch
-        rest = self._record.session(batch.log, batch.epoch), batch.first
+        rest = self._record.session(batch.shard, batch.epoch), batch.first
         self.over(recovery.gone)
         self.over(recovery.restored)
         for saga in recovery.restored:

@@ -6,8 +6,8 @@ import asyncio
 from collections.abc import Callable
 
 from sagas.base import program
-from sagas.base.errors import EngineError, Lost, SagasError
-from sagas.base.events import Teller
+from sagas.base.errors import EngineError, ShardLost, SagasError
+from sagas.base.events import EventEmitter
 from sagas.core import protocol
 from sagas.core.batch import Batch
 from sagas.core.shard import ShardDriver
@@ -36,7 +36,7 @@ async def verdict(program_path: str, text: str, definitions: list[str]) -> tuple
         program.run, "audit", [protocol.HEADER + text, *definitions], program_path
     )
     message = (process.stdout + process.stderr).strip()
-    if process.returncode < 0 or process.returncode == program.CANNOT:
+    if process.returncode < 0 or process.returncode == program.SYSTEM_ERROR_STATUS:
         raise EngineError(
             f"sagas audit exited with status {process.returncode}: {message or 'it was killed'}"
         )
@@ -52,7 +52,7 @@ class Auditor:
         program: str,
         commits: CommitQueue,
         clock: Callable[[], float],
-        teller: Teller,
+        teller: EventEmitter,
     ) -> None:
         self._store, self._program, self._commits = store, program, commits
         self._clock, self._teller = clock, teller
@@ -67,15 +67,15 @@ class Auditor:
         while True:
             try:
                 await self._close(driver)
-            except Lost:  # another node owns the shard
+            except ShardLost:  # another node owns the shard
                 return
             except (SagasError, OSError) as error:
                 detail = f"shard {driver.name} could not be closed yet: {error}"
-                self._teller.tell("commit_failed", detail=detail)
+                self._teller.emit("commit_failed", detail=detail)
                 await asyncio.sleep(pause)
                 pause = min(MAX_PAUSE, 2 * pause)
             else:
-                self._teller.tell("shard_closed", detail=driver.name)
+                self._teller.emit("shard_closed", detail=driver.name)
                 return
 
     async def _close(self, driver: ShardDriver) -> None:
@@ -83,9 +83,9 @@ class Auditor:
             text = await self._store.text(driver.number)
             is_good, message = await verdict(self._program, text, driver.identity.definitions.texts)
         if not is_good:
-            self._teller.tell("audit_failed", detail=f"shard {driver.name}: {message}")
+            self._teller.emit("audit_failed", detail=f"shard {driver.name}: {message}")
         batch = Batch(driver.number, self._clock(), epoch=driver.epoch)
-        batch.more.closed = 1 if is_good else 2, message
+        batch.rare_rows.closed = 1 if is_good else 2, message
         await self._commits.kept(batch)
 
     async def all_shards(self) -> dict[str, str]:

@@ -11,8 +11,8 @@ from collections.abc import Awaitable, Callable, Sequence
 from concurrent.futures import Executor as Threads
 from typing import Any, Protocol
 
-from sagas.base.errors import CannotDecode, Lost
-from sagas.base.fork_guard import private
+from sagas.base.errors import CannotDecode, ShardLost
+from sagas.base.fork_guard import private_descriptors
 from sagas.base.logger import logger
 from sagas.core import outcomes, spans
 from sagas.core.limits import Slots
@@ -49,7 +49,7 @@ class CallListener(Protocol):
     def enter(self, attempt: Attempt) -> None:
         """Have the attempt called again: the call had no effect, and did not fail."""
 
-    def lost(self, attempt: Attempt, fault: Lost) -> None:
+    def lost(self, attempt: Attempt, fault: ShardLost) -> None:
         """Handle that it is unknown whether the transaction of an attempt was committed."""
 
     def emit(self, attempt: Attempt, name: str, detail: str | None = None) -> None:
@@ -88,7 +88,7 @@ class Calls:
         )
         self._threads, self._remote = threads, remote
         self._teller, self._clock = coordinator.teller, coordinator.clock
-        self._forks, self._tracer = private.forks, tracer
+        self._forks, self._tracer = private_descriptors.forks, tracer
         self.acknowledgements = Acknowledgements.of(coordinator.store)
         self._called = self.acknowledgements.called if self.acknowledgements else None
         self.running: dict[Attempt, asyncio.Task[None] | None] = {}
@@ -112,7 +112,7 @@ class Calls:
 
     def start(self, attempt: Attempt) -> None:
         """Call the function of an attempt that has a slot."""
-        if attempt.action.simple and self._tracer is None and not attempt.lacks():
+        if attempt.action.simple and self._tracer is None and not attempt.lacks_values():
             self.start_simple([attempt])
             return
         gate = self._fleet.gate(attempt)
@@ -164,10 +164,10 @@ class Calls:
         try:
             if await self._has_values(attempt):
                 outcome = await self._outcome(attempt, attempt.manner)
-        except Lost as error:
+        except ShardLost as error:
             fault = error
         except BlobUnavailable as error:
-            outcome = outcomes.not_read(error)
+            outcome = outcomes.values_unavailable(error)
         self._ended(attempt, began, outcome, fault, at_once=False)
 
     async def _has_values(self, attempt: Attempt) -> bool:
@@ -175,7 +175,7 @@ class Calls:
 
         Raises `BlobUnavailable`.
         """
-        if attempt.lacks():
+        if attempt.lacks_values():
             try:
                 await self._fill(attempt)
             except asyncio.CancelledError:
@@ -199,7 +199,7 @@ class Calls:
         with self._tracer.attempt(task, manner.function) as span:
             outcome = await call(attempt, manner, task, self._threads, late)
             if outcome is not None:
-                span.ended(outcome.kind.value, outcomes.fault(outcome), outcome.error)
+                span.ended(outcome.kind.value, outcomes.error_text(outcome), outcome.error)
             return outcome
 
     async def end(self, timeout: float | None) -> set[asyncio.Task[None]]:
@@ -235,14 +235,14 @@ class Calls:
 
         It is not called if it was forgotten, or if its shard may belong to another program.
         """
-        if private.forks != self._forks:  # a forked child process returned from a function
+        if private_descriptors.forks != self._forks:  # a forked child process returned from a function
             os._exit(FORKED)
         if attempt.state is RUNNING and self._store.holds():
             if self._called is not None:
                 self._called(attempt)
             if attempt.extras is not None:
-                spans.noted(attempt, self._clock())
-            if self._teller.listens:
+                spans.note_again(attempt, self._clock())
+            if self._teller.has_hook:
                 self._listener.emit(attempt, "step_started")
             return True
         if attempt.state is RUNNING:  # another node may own the shard: it is loaded again first
@@ -261,7 +261,7 @@ class Calls:
         self._check_fork()
         for attempt in attempts:
             del self.running[attempt]
-        self._slots.left(len(attempts))
+        self._slots.leave_many(len(attempts))
         self._listener.succeeded(finish_all(attempts, self._clock()))
 
     def held_loop(self, attempt: Attempt, seconds: float) -> None:
@@ -286,11 +286,11 @@ class Calls:
         attempt: Attempt,
         began: float,
         outcome: Outcome | None,
-        fault: Lost | None,
+        fault: ShardLost | None,
         at_once: bool,
     ) -> None:
         record, attempt.record = attempt.record, None
-        attempt.recorded = record is not None and record.done
+        attempt.is_recorded = record is not None and record.done
         if not self._leave_running(attempt, began):
             return
         if fault is not None:
@@ -309,7 +309,7 @@ class Calls:
     def _leave_running(self, attempt: Attempt, began: float) -> bool:
         """Release the slot of a call; return whether its outcome still counts."""
         self._check_fork()
-        attempt.took = time.monotonic() - began
+        attempt.call_seconds = time.monotonic() - began
         del self.running[attempt]
         self._leave(attempt)
         return attempt.state is RUNNING
@@ -321,7 +321,7 @@ class Calls:
             gate.leave(attempt)
 
     def _check_fork(self) -> None:
-        if private.forks != self._forks:  # a forked child process returned from the function
+        if private_descriptors.forks != self._forks:  # a forked child process returned from the function
             os._exit(FORKED)
 
     # -- cancellation and progress
@@ -338,7 +338,7 @@ class Calls:
                 continue
             control, job = attempt.control, self.running[attempt]
             was_aborted = control.cancelled.reason == "aborted"
-            control.cancelled.set(instance.why_draining)
+            control.cancelled.set(instance.drain_reason)
             if instance.aborted and not was_aborted and attempt.manner.cancel_on_abort and job:
                 control.is_stopped = job.cancel()
 

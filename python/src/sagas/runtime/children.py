@@ -12,7 +12,7 @@ from sagas.base.errors import (
     InvalidResult,
     KeyConflict,
     MissingStep,
-    Moved,
+    SagaMoved,
     NoSuchSaga,
     SagasError,
     TemporaryError,
@@ -149,14 +149,14 @@ class Children:
             except (CannotDecode, MissingStep) as error:
                 outcome = outcomes.parked(str(error))
                 break
-            except (TemporaryError, Moved, NoSuchSaga) as error:
+            except (TemporaryError, SagaMoved, NoSuchSaga) as error:
                 logger.info("retrying the child of %r: %s", attempt.key, error)
                 await asyncio.sleep(RETRY_DELAY)
             except Exception as error:  # otherwise the attempt would never be reported
                 logger.error("retrying the child of %r after an error", attempt.key, exc_info=error)
                 await asyncio.sleep(RETRY_DELAY)
         self.gone(attempt)
-        is_here = attempt.instance.busy.get(attempt.word) is attempt
+        is_here = attempt.instance.busy.get(attempt.action_key) is attempt
         if is_here and attempt.state is SUSPENDED and attempt.reason is Suspension.CHILD:
             self._listener.ended(attempt, outcome)
 
@@ -164,7 +164,7 @@ class Children:
         """Start the child if it does not exist, and return the outcome of the attempt."""
         try:
             key_or_outcome = await self._begun(attempt)
-        except (TemporaryError, Moved, NoSuchSaga):
+        except (TemporaryError, SagaMoved, NoSuchSaga):
             raise
         except (CannotDecode, MissingStep):
             raise
@@ -177,7 +177,7 @@ class Children:
         while True:
             self._changed.clear()
             ended = await self._operations.end(key_or_outcome)
-            outcome = children.outcome(ended.end, ended.kind, ended.results)
+            outcome = children.child_outcome(ended.end, ended.kind, ended.results)
             if outcome is not None:
                 if attempt.undo and outcome.kind is SUCCEEDED:
                     return Outcome(SUCCEEDED, "null")
@@ -256,7 +256,7 @@ class Children:
         token = tokens.saga_token(name, ended.id % SHARD_CAPACITY)
         earlier = await self._earlier(attempt)
         before = [(await self._operations.end(earlier_key)).end.states for earlier_key in earlier]
-        done = children.left_by(ended.end.states, before)
+        done = children.undone_steps(ended.end.states, before)
         return kind, children.undo_input(
             undone, token, ended.kind, text, ended.results, done, earlier
         )
@@ -323,7 +323,7 @@ class Children:
         undoes = attempt.undo or child_keys.undoes_child(attempt.key)
         if undoes or attempt not in self._stored_keys:
             return
-        if not attempt.instance.drains:
+        if not attempt.instance.may_cancel_work:
             return
         if attempt.instance.aborted and attempt not in self._aborts:
             self._aborts[attempt] = self._coordinator.spawn(self._abort(attempt))
@@ -338,7 +338,7 @@ class Children:
                 return
             except Closed:
                 return
-            except (TemporaryError, Moved, NoSuchSaga) as error:
+            except (TemporaryError, SagaMoved, NoSuchSaga) as error:
                 logger.info("retrying the abort of child %r: %s", key, error)
                 await asyncio.sleep(RETRY_DELAY)
 
@@ -357,7 +357,7 @@ class Children:
                 return
             except (Closed, NoSuchSaga, CannotDecode):
                 return
-            except (TemporaryError, Moved) as error:
+            except (TemporaryError, SagaMoved) as error:
                 logger.info("retrying the child of %r: %s", attempt.key, error)
                 await asyncio.sleep(RETRY_DELAY)
 
@@ -377,7 +377,7 @@ def _others(attempt: Attempt) -> Iterator[Attempt]:
     """
     instance = attempt.instance
     assert instance.shard
-    for other in (*instance.busy.values(), *instance.shard.unkept()):
+    for other in (*instance.busy.values(), *instance.shard.unstored_reports()):
         is_child = other.state is SUSPENDED and other.reason is Suspension.CHILD
         if other.instance is instance and not is_child:
             yield other

@@ -14,7 +14,7 @@ from sagas.base.errors import (
     StoreUnavailable,
 )
 from sagas.base.logger import logger
-from sagas.core.batch import Batch, Start
+from sagas.core.batch import Batch, PendingStart
 from sagas.core.model import SagaInstance
 from sagas.definition import undo_sagas
 from sagas.definition.saga import Saga
@@ -124,7 +124,7 @@ class StartReader:
         """
         if not self._doubt.settle():
             return None
-        start_ids = [saga.start for saga in self._sagas.by_key.values() if saga.start is not None]
+        start_ids = [saga.client_start for saga in self._sagas.by_key.values() if saga.client_start is not None]
         return [*start_ids, *self._fitted]
 
     def _left_now(self) -> list[int]:
@@ -133,7 +133,7 @@ class StartReader:
         self._left = {id: until for id, until in self._left.items() if until > now}
         return [*self._left]
 
-    async def _open(self, row: Start) -> None:
+    async def _open(self, row: PendingStart) -> None:
         """Open a start; leave it to other nodes if this one cannot decode its input."""
         try:
             await self._begin(row)
@@ -149,10 +149,10 @@ class StartReader:
             )
             await self._store.give_back(id, None)
 
-    async def _begin(self, row: Start) -> None:
+    async def _begin(self, row: PendingStart) -> None:
         id, key, saga, version, text, *_ = row
         by_key = self._sagas.by_key
-        if id in self._fitted or (key in by_key and by_key[key].start == id):
+        if id in self._fitted or (key in by_key and by_key[key].client_start == id):
             return
         stored = await self._store.find(key)
         if self._coordinator.closed:
@@ -167,7 +167,7 @@ class StartReader:
             error = await conflict_with_stored(
                 self._store, key, declared, text, stored.saga, stored.input, payloads
             )
-            batch.more.begun.append((id, stored.id if error is None else None))
+            batch.rare_rows.begun.append((id, stored.id if error is None else None))
             await self._commits.kept(batch)
             return
         try:
@@ -194,7 +194,7 @@ class StartReader:
         )
         return Fitted(None, None, invalid_input)
 
-    async def _fit(self, row: Start, declared: Saga, value: str) -> None:
+    async def _fit(self, row: PendingStart, declared: Saga, value: str) -> None:
         """Open a start whose steps come from its input."""
         definitions = self._definitions
         try:
@@ -212,7 +212,7 @@ class StartReader:
         finally:
             self._fitted.discard(row[0])
 
-    async def _put(self, row: Start, fitted: Fitted) -> None:
+    async def _put(self, row: PendingStart, fitted: Fitted) -> None:
         """Open a start with its definition, or refuse it if its input is invalid."""
         id, key, _, _, text, labels, deadline, traceparent = row
         kind, shape, error = fitted
@@ -225,5 +225,5 @@ class StartReader:
             return
         options = StartOptions(labels, deadline, shape=shape, traceparent=traceparent)
         instance = self._sagas.add(key, text, kind, options)
-        instance.start = id
+        instance.client_start = id
         self._assign(instance)

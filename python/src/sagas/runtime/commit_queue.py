@@ -6,12 +6,12 @@ import asyncio
 from collections.abc import Sequence
 from typing import Protocol
 
-from sagas.base.errors import Lost, SagasError, StoreUnavailable
-from sagas.base.events import Teller
+from sagas.base.errors import ShardLost, SagasError, StoreUnavailable
+from sagas.base.events import EventEmitter
 from sagas.base.logger import logger
 from sagas.core.batch import Batch
 from sagas.core.effects import Effects
-from sagas.core.group_commit import GroupCommitPolicy, half
+from sagas.core.group_commit import GroupCommitPolicy, first_half
 from sagas.storage.interface import CommitWriter
 
 
@@ -65,7 +65,7 @@ class BatchWaiter:
         if self._durable.done():
             return
         if fault is None:
-            fault = Lost(f"shard {effects.batch.log}")
+            fault = ShardLost(f"shard {effects.batch.shard}")
         is_ours = isinstance(fault, SagasError)
         self._durable.set_exception(
             fault if is_ours else StoreUnavailable(f"{self._path}: {fault}")
@@ -85,7 +85,7 @@ class CommitQueue:
     """Writes batches in the order of their arrival, one transaction at a time."""
 
     def __init__(
-        self, store: CommitWriter, load: CommitLoad, teller: Teller, loop: asyncio.AbstractEventLoop
+        self, store: CommitWriter, load: CommitLoad, teller: EventEmitter, loop: asyncio.AbstractEventLoop
     ) -> None:
         self._store, self._load, self._teller, self._loop = store, load, teller, loop
         self._policy = GroupCommitPolicy()
@@ -106,7 +106,7 @@ class CommitQueue:
 
         That is half of them if the server would otherwise be idle until all calls ended.
         """
-        return half(ready) if self._store.commit_seconds and not self.is_writing else ready
+        return first_half(ready) if self._store.commit_seconds and not self.is_writing else ready
 
     # -- queue
 
@@ -120,7 +120,7 @@ class CommitQueue:
                 be notified before this call returns.
         """
         if self._store.commit_seconds:
-            self._policy.came(self._loop.time())
+            self._policy.batch_arrived(self._loop.time())
         self._queue.append((effects, listener))
         if self._is_under_way:
             return
@@ -153,7 +153,7 @@ class CommitQueue:
 
     def drop(self, shards: Sequence[int]) -> None:
         """Discard the waiting batches of these shards."""
-        self._queue = [entry for entry in self._queue if entry[0].batch.log not in shards]
+        self._queue = [entry for entry in self._queue if entry[0].batch.shard not in shards]
 
     # -- write
 
@@ -179,7 +179,7 @@ class CommitQueue:
         if self._load.is_alone():
             return False
         policy, now = self._policy, self._loop.time()
-        waits = policy.holds(self._load.coming(), _rows_of(self._queue), commit_seconds, now)
+        waits = policy.should_wait(self._load.coming(), _rows_of(self._queue), commit_seconds, now)
         if self._timer and not waits:
             self._timer.cancel()
             self._timer = None
@@ -211,7 +211,7 @@ class CommitQueue:
                 self.write()
         for effects, listener in entries:
             if listener is not None:
-                _notify(effects, listener, fault, fault is not None or effects.batch.log in lost)
+                _notify(effects, listener, fault, fault is not None or effects.batch.shard in lost)
         if commit_seconds:
             self._policy.committed(self._load.calls(), self._loop.time())
         if self._queue:
@@ -224,9 +224,9 @@ class CommitQueue:
     ) -> list[Entry]:
         """Return the failed entries with later ones of their shards, which fail too."""
         if fault is not None:
-            self._teller.tell("commit_failed", detail=str(fault))
-        shards = {effects.batch.log for effects, _ in entries} if fault else lost
-        later = [entry for entry in self._queue if entry[0].batch.log in shards]
+            self._teller.emit("commit_failed", detail=str(fault))
+        shards = {effects.batch.shard for effects, _ in entries} if fault else lost
+        later = [entry for entry in self._queue if entry[0].batch.shard in shards]
         self.drop(list(shards))
         return [*entries, *later]
 
@@ -236,9 +236,9 @@ def _notify(
 ) -> None:
     try:
         if is_lost:
-            listener.failed(effects, None if isinstance(fault, Lost) else fault)
+            listener.failed(effects, None if isinstance(fault, ShardLost) else fault)
         else:
             listener.committed(effects)
     except Exception as error:  # the other listeners must still be notified
-        logger.exception("shard %d: an error after a commit", effects.batch.log)
+        logger.exception("shard %d: an error after a commit", effects.batch.shard)
         listener.broken(error)

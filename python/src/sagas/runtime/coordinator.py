@@ -11,11 +11,11 @@ from concurrent.futures import ThreadPoolExecutor
 from typing import Any
 
 from sagas.base.errors import Closed, InvalidStore, SagasError
-from sagas.base.events import Teller
-from sagas.base.fork_guard import private
+from sagas.base.events import EventEmitter
+from sagas.base.fork_guard import private_descriptors
 from sagas.base.logger import logger
 from sagas.core import undo_check
-from sagas.core.batch import Batch, LogRow
+from sagas.core.batch import Batch, ShardRow
 from sagas.core.limits import Slots
 from sagas.core.shard import ShardDriver
 from sagas.core.undo_check import CompletedChild
@@ -74,14 +74,14 @@ class Coordinator:
         threads: int,
         engine_processes: int,
         idle: float,
-        teller: Teller,
+        teller: EventEmitter,
         clock: Callable[[], float],
         context: Any = None,
         tracer: Tracer | None = None,
     ) -> None:
         self.store, self.registry, self.teller, self.clock = store, registry, teller, clock
         self.loop = asyncio.get_running_loop()
-        self.forks = private.forks
+        self.forks = private_descriptors.forks
         self.closed: SagasError | None = None
         self.refusal: asyncio.Future[InvalidStore] = self.loop.create_future()
         self.listeners: list[Callable[[], None]] = []
@@ -170,7 +170,7 @@ class Coordinator:
             if missing:
                 return f"saga {kind.name!r} (version {kind.version}) has open sagas, but {missing}"
         try:
-            return undo_check.lacking(self.registry.kind, completed)
+            return undo_check.missing_compensation(self.registry.kind, completed)
         except (ValueError, LookupError, TypeError, SagasError):  # an invalid definition
             return None
 
@@ -204,7 +204,7 @@ class Coordinator:
         """
         self.shards.lease_expired(is_older)
 
-    def taken(self, rows: list[LogRow]) -> None:
+    def taken(self, rows: list[ShardRow]) -> None:
         """Execute shards that this node has taken over."""
         self.shards.taken(rows)
         self.look()
@@ -342,7 +342,7 @@ class Coordinator:
         self._threads.shutdown(wait=not late, cancel_futures=True)
         self.declared.close()
         if engines:
-            await asyncio.wait([engine.buried for engine in engines], timeout=QUIET)
+            await asyncio.wait([engine.reaped for engine in engines], timeout=QUIET)
 
     async def _late(self, shutdown_timeout: float | None) -> set[asyncio.Task[None]]:
         """Wait for running functions; return the tasks that did not end in time."""

@@ -7,7 +7,7 @@ import heapq
 import itertools
 from collections.abc import Callable
 
-from sagas.base.events import Teller
+from sagas.base.events import EventEmitter
 from sagas.core.model import SagaInstance
 from sagas.runtime.instances import Instances
 
@@ -25,7 +25,7 @@ class Deadlines:
         self,
         sagas: Instances,
         abort: Callable[[SagaInstance], asyncio.Future[bool]],
-        teller: Teller,
+        teller: EventEmitter,
         clock: Callable[[], float],
     ) -> None:
         self._sagas, self._abort, self._teller, self._clock = sagas, abort, teller, clock
@@ -57,7 +57,7 @@ class Deadlines:
             saga = heapq.heappop(self._heap)[2]
             is_here = self._sagas.by_key.get(saga.key) is saga
             if is_here and not saga.over and not saga.aborted:
-                self._teller.tell("saga_overdue", key=saga.key, saga=saga.kind.name)
+                self._teller.emit("saga_overdue", key=saga.key, saga=saga.kind.name)
                 self._abort(saga).add_done_callback(_ignore_result)
 
 

@@ -89,7 +89,7 @@ class DeadlockCheck:
         )
 
     def _slots_taken(self, attempt: Attempt, key: str) -> str:
-        limit = self._coordinator.slots.most
+        limit = self._coordinator.slots.capacity
         return (
             f"step {attempt.name!r} of saga {attempt.instance.key!r} waits for saga "
             f"{key!r}, and all {limit} slots of the store's concurrency are taken by steps "
@@ -104,7 +104,7 @@ class DeadlockCheck:
         """
         slots = self._coordinator.slots
         if (
-            len(self._waits) < slots.most
+            len(self._waits) < slots.capacity
             or len(self._waits) < slots.running
             or not all(map(self._needs_slot, self._waits.values()))
         ):
@@ -126,7 +126,7 @@ class DeadlockCheck:
             return False
         if not saga.busy:
             runner = self._coordinator.runner(saga.shard) if saga.shard else None
-            return runner is not None and self._coordinator.slots.is_starved(runner)
+            return runner is not None and self._coordinator.slots.is_shard_waiting(runner)
         return any(
             attempt in self._waits or self._coordinator.slots.is_waiting(attempt)
             for attempt in saga.busy.values()
@@ -136,6 +136,6 @@ class DeadlockCheck:
         """Return whether nothing in progress in the saga's shard could end the saga."""
         shard = saga.shard
         is_here = shard is not None and shard.state in (ShardState.ACTIVE, ShardState.IDLE)
-        if shard is None or not is_here or shard.unwritten or shard.asked:
+        if shard is None or not is_here or shard.commits_in_flight or shard.unanswered:
             return False
         return not (shard.reports or shard.aborts)

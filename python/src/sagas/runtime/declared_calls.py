@@ -5,7 +5,7 @@ from __future__ import annotations
 from collections.abc import Callable
 from typing import TypeVar
 
-from sagas.core.declared_values import Question
+from sagas.core.declared_values import OptionCalls
 from sagas.core.model import Attempt
 from sagas.definition.saga import Saga
 from sagas.definition.shelf import Fitted, DefinitionRegistry
@@ -36,18 +36,18 @@ class DefinitionCaller:
         value: T = await self._threads.call(name, function)
         return value
 
-    async def answer(self, attempt: Attempt, question: Question) -> bool:
+    async def answer(self, attempt: Attempt, question: OptionCalls) -> bool:
         """Store the answers of a question in an attempt.
 
         Returns:
             False if the attempt changed in the meantime.
         """
-        is_same, extras = attempt.pausing(), attempt.rare
-        extras.asked = question.words
+        is_same, extras = attempt.pause_guard(), attempt.rare
+        extras.called_options = question.option_names
         try:
             answers = await self.call(attempt.instance.kind.name, question.answers)
         finally:
-            extras.asked = ""
+            extras.called_options = ""
         if not is_same():
             return False
         extras.returned |= answers

@@ -11,7 +11,7 @@ from collections.abc import AsyncIterator, Sequence
 from typing import Protocol, cast
 
 from sagas.base.logger import logger
-from sagas.core.batch import Loaded
+from sagas.core.batch import LoadedShard
 from sagas.core.model import RUNNING
 from sagas.core.shard import ShardDriver
 from sagas.definition.blobs import Reference
@@ -36,7 +36,7 @@ class CheckedShard(Protocol):
 
 
 async def unreadable_sagas(
-    kinds: Sequence[CompiledDefinition], rows: Loaded, store: Database
+    kinds: Sequence[CompiledDefinition], rows: LoadedShard, store: Database
 ) -> AsyncIterator[str]:
     """Yield the first unreadable value of each open saga of a shard.
 
@@ -67,7 +67,7 @@ async def unreadable_sagas(
             yield f"saga {kind.name!r}, key {key!r}, {why}"
 
 
-async def is_left(shard: CheckedShard, rows: Loaded, store: Database) -> bool:
+async def is_left(shard: CheckedShard, rows: LoadedShard, store: Database) -> bool:
     """Return whether a shard is left to another node, because values cannot be read.
 
     If no other node takes it, this program logs a warning once.

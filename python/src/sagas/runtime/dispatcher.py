@@ -201,7 +201,7 @@ class Dispatcher:
         previous, self._flushed_at = self._flushed_at, time.monotonic()
         if self._flushed_at - previous > LONG:  # otherwise, no call took that long
             for attempt in succeeded:
-                self._check_loop_held(attempt, attempt.took or 0.0)
+                self._check_loop_held(attempt, attempt.call_seconds or 0.0)
         if succeeded:
             self._done(succeeded)
 
@@ -249,7 +249,7 @@ class Dispatcher:
             self._driver = _CoroutineDriver()
             rest = _whole_result(_Continuation(driver, waits_for, context))
             return self._suspended(attempt, function, began, task, rest)
-        value, attempt.took = waits_for.pop(), time.monotonic() - began
+        value, attempt.call_seconds = waits_for.pop(), time.monotonic() - began
         try:
             attempt.outcome = outcomes.succeeded(value, task)
         except outcomes.Unawaited:

@@ -5,7 +5,7 @@ from __future__ import annotations
 import asyncio
 from collections.abc import Callable
 
-from sagas.base.errors import Moved, SagasError
+from sagas.base.errors import SagaMoved, SagasError
 from sagas.core import early_reports
 from sagas.core.early_reports import EarlyReport, Refusal
 from sagas.core.model import SagaInstance
@@ -27,7 +27,7 @@ class EarlyReports:
         """Return a future that is done once a report is stored.
 
         For a refusal, it is done once the state that justifies the refusal is stored. It fails with
-        `Moved` if its caller has to check again.
+        `SagaMoved` if its caller has to check again.
 
         Raises:
             Moved: This program does not execute the saga.
@@ -36,8 +36,8 @@ class EarlyReports:
         shard = report.saga.shard
         runner = self._coordinator.runner(shard) if shard else None
         if shard is None or runner is None:
-            raise Moved(f"saga {report.saga.key!r}")
-        effects = early_reports.effects(shard, report, self._clock()) if shard.is_known else None
+            raise SagaMoved(f"saga {report.saga.key!r}")
+        effects = early_reports.effects(shard, report, self._clock()) if shard.is_current else None
         future = self._waiting[report] = self._coordinator.loop.create_future()
         if effects:
             runner.keep(effects)
@@ -46,7 +46,7 @@ class EarlyReports:
     def waiting(self, saga: SagaInstance, word: ActionKey) -> asyncio.Future[None] | None:
         """Return the future of a report of this step that is being stored, or None."""
         for report, future in self._waiting.items():
-            if isinstance(report, EarlyReport) and report.saga is saga and report.word == word:
+            if isinstance(report, EarlyReport) and report.saga is saga and report.action_key == word:
                 return future
         return None
 
@@ -60,7 +60,7 @@ class EarlyReports:
         for report in [report for report in self._waiting if _number(report) == shard]:
             future = self._waiting.pop(report)
             if not future.done():
-                future.set_exception(error or Moved(f"saga {report.saga.key!r}"))
+                future.set_exception(error or SagaMoved(f"saga {report.saga.key!r}"))
                 future.exception()  # the caller may have been cancelled
 
 

@@ -6,9 +6,9 @@ from collections.abc import Collection, Sequence
 from typing import Protocol
 
 from sagas.base.errors import SagasError
-from sagas.base.events import Teller
+from sagas.base.events import EventEmitter
 from sagas.core import early_reports
-from sagas.core.effects import NOTHING_RARE, Abort, Effects, RareEffects
+from sagas.core.effects import NO_RARE_EFFECTS, Abort, Effects, RareEffects
 from sagas.core.model import Attempt, SagaInstance
 from sagas.core.recovery import Recovery
 from sagas.core.states import saga_phase, undo_failures
@@ -66,7 +66,7 @@ class EffectHandler:
         self,
         executor: Executor,
         sagas: Instances,
-        teller: Teller,
+        teller: EventEmitter,
         shards: ShardsForEffects,
         offers: ExternalOffers,
     ) -> None:
@@ -94,7 +94,7 @@ class EffectHandler:
         rare = effects.rare
         if effects.reported:
             self._executor.reported(effects.reported)
-        if rare is not NOTHING_RARE:
+        if rare is not NO_RARE_EFFECTS:
             self._kept(rare)
         if effects.opened:
             self._opened(effects.opened)
@@ -160,13 +160,13 @@ class EffectHandler:
             self._sagas.notify_started(saga)
         for saga in recovery.gone:
             self._shards.leave(saga, None)
-            if saga.start is not None:
+            if saga.client_start is not None:
                 self._shards.doubt()
         for attempt in recovery.forgotten:
             self._executor.forget(attempt)
         for abort in recovery.aborted:
             self._sagas.answer_abort(abort)
-        self._executor.early.look_again(recovery.effects.batch.log)
+        self._executor.early.look_again(recovery.effects.batch.shard)
 
     def resume(self, recovery: Recovery) -> None:
         """Resume the attempts of a recovered shard."""
@@ -182,29 +182,29 @@ class EffectHandler:
         saga = abort.saga
         if abort.done:
             self._executor.drain(saga)
-            self._teller.tell("saga_aborted", key=saga.key, saga=saga.kind.name)
+            self._teller.emit("saga_aborted", key=saga.key, saga=saga.kind.name)
         self._sagas.answer_abort(abort)
 
     def _overdue(self, saga: SagaInstance) -> None:
         """Emit that a saga was aborted because its deadline had passed, and drain it."""
-        self._teller.tell("saga_overdue", key=saga.key, saga=saga.kind.name)
+        self._teller.emit("saga_overdue", key=saga.key, saga=saga.kind.name)
         self._executor.drain(saga)
-        self._teller.tell("saga_aborted", key=saga.key, saga=saga.kind.name)
+        self._teller.emit("saga_aborted", key=saga.key, saga=saga.kind.name)
 
     def _opened(self, sagas: Sequence[SagaInstance]) -> None:
-        is_wanted = self._teller.wants("saga_started")
+        is_wanted = self._teller.is_wanted("saga_started")
         for saga in sagas:
             self._sagas.notify_started(saga)
             if is_wanted:
-                self._teller.tell("saga_started", key=saga.key, saga=saga.kind.name)
+                self._teller.emit("saga_started", key=saga.key, saga=saga.kind.name)
 
     def _ended(self, sagas: Sequence[SagaInstance]) -> None:
-        is_wanted = self._teller.wants("saga_ended")
+        is_wanted = self._teller.is_wanted("saga_ended")
         for saga in sagas:
             self._sagas.notify_ended(saga)
             if is_wanted or saga.phase != "ended":
                 self._emit_end(saga)
-            if saga.odd and saga.phase == "ended" and (steps := undo_failures(saga.end)):
+            if saga.has_deviated and saga.phase == "ended" and (steps := undo_failures(saga.end)):
                 self._emit_undo_failed(saga, steps)
             if unused := early_reports.unused(saga):
                 self._emit_unused(saga, unused)
@@ -217,13 +217,13 @@ class EffectHandler:
         if saga.phase != "stuck":
             recovered = (saga.answer or {}).get("kind") == "plan"
             detail = saga_phase(saga.phase, recovered, None).value
-        self._teller.tell(f"saga_{saga.phase}", key=saga.key, saga=saga.kind.name, detail=detail)
+        self._teller.emit(f"saga_{saga.phase}", key=saga.key, saga=saga.kind.name, detail=detail)
 
     def _emit_unused(self, saga: SagaInstance, steps: Sequence[int]) -> None:
         """Emit that a saga ended without using successes that were reported early."""
         names = " and ".join(saga.kind.names[step] for step in steps)
         detail = f"{names}: a success was reported before the step began, and was not used"
-        self._teller.tell("saga_unused_report", key=saga.key, saga=saga.kind.name, detail=detail)
+        self._teller.emit("saga_unused_report", key=saga.key, saga=saga.kind.name, detail=detail)
         self._sagas.on_unused_report()
 
     def _emit_undo_failed(self, saga: SagaInstance, steps: Sequence[int]) -> None:
@@ -234,4 +234,4 @@ class EffectHandler:
             "as resolved"
         )
         detail = f"{' and '.join(stands)}: {remedy}"
-        self._teller.tell("saga_undo_failed", key=saga.key, saga=saga.kind.name, detail=detail)
+        self._teller.emit("saga_undo_failed", key=saga.key, saga=saga.kind.name, detail=detail)

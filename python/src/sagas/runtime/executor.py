@@ -9,12 +9,12 @@ import logging
 from collections.abc import Callable, Sequence
 from concurrent.futures import Executor as Threads
 
-from sagas.base.errors import Closed, Lost, Moved, SagasError, StepNotWaiting
+from sagas.base.errors import Closed, ShardLost, SagaMoved, SagasError, StepNotWaiting
 from sagas.core import exhaustion, outcomes, spans
 from sagas.core.attempts import AttemptMachine
-from sagas.core.batch import Wanted
+from sagas.core.batch import RequestRef
 from sagas.core.decisions import Decision, Do
-from sagas.core.declared_values import Question
+from sagas.core.declared_values import OptionCalls
 from sagas.core.effects import Effects
 from sagas.core.limits import Slots
 from sagas.core.model import CLAIMED, FINISHED, QUEUED, SUSPENDED, Attempt, SagaInstance
@@ -99,9 +99,9 @@ class Executor:
             if attempt.action.simple is not None
             and attempt.attempt == 1
             and not attempt.instance.draining
-            and not attempt.lacks()
+            and not attempt.lacks_values()
         ]
-        count = 0 if self.closing else self.slots.take(len(simple))
+        count = 0 if self.closing else self.slots.take_slots(len(simple))
         if count < len(attempts):
             called = set(simple[:count])
             for attempt in attempts:
@@ -116,8 +116,8 @@ class Executor:
 
     def resume(self, attempt: Attempt) -> None:
         """Resume an attempt of a recovered shard."""
-        if attempt.state is CLAIMED and not attempt.fresh and not attempt.has_row:
-            spans.called_before(attempt)
+        if attempt.state is CLAIMED and not attempt.is_uncalled and not attempt.has_row:
+            spans.note_earlier_call(attempt)
         decision = self.machine.resume(attempt, self._clock())
         if decision.do is Do.REPORT_AGAIN:
             self._report_again(attempt)
@@ -170,15 +170,15 @@ class Executor:
     def _go_on(self, attempt: Attempt) -> None:
         """Continue an attempt: its values are read, and its questions are answered."""
         if not self.closing:
-            self._do(attempt, self.machine.go_on(attempt, self._clock()))
+            self._do(attempt, self.machine.decide_again(attempt, self._clock()))
 
     def _ask(self, attempt: Attempt, decision: Decision, go_on: Callable[[Attempt], None]) -> None:
         """Call functions of the definition in the background, then continue the attempt."""
-        assert decision.question
-        self._coordinator.spawn(self._answer_question(attempt, decision.question, go_on))
+        assert decision.option_calls
+        self._coordinator.spawn(self._answer_question(attempt, decision.option_calls, go_on))
 
     async def _answer_question(
-        self, attempt: Attempt, question: Question, go_on: Callable[[Attempt], None]
+        self, attempt: Attempt, question: OptionCalls, go_on: Callable[[Attempt], None]
     ) -> None:
         if await self._coordinator.declared.answer(attempt, question):
             go_on(attempt)
@@ -187,20 +187,20 @@ class Executor:
     def _unread(self, attempt: Attempt, error: BlobUnavailable) -> None:
         """Handle that the values of an attempt cannot be read now."""
         if not self.closing:
-            self._do(attempt, self.machine.unread(attempt, error, self._clock()))
+            self._do(attempt, self.machine.values_unavailable(attempt, error, self._clock()))
 
     def _add_to_history(self, attempt: Attempt, row: SuspensionRow | None = None) -> None:
         """Add the suspension to the history of the attempt.
 
         External attempts have their own table, so their first suspension is left out.
         """
-        is_first = not (attempt.extras and attempt.extras.noted)
+        is_first = not (attempt.extras and attempt.extras.last_note)
         if not (is_first and attempt.reason is Suspension.EXTERNAL):
             spans.note(attempt, self._clock(), row.error if row else None)
 
     def _set_timer(self, attempt: Attempt) -> None:
         self._drop_timer(attempt)
-        delay = self.machine.delay(attempt, self._clock())
+        delay = self.machine.timer_delay(attempt, self._clock())
         if delay is not None:
             self._timers[attempt] = self._loop.call_later(delay, self._timer_fired, attempt)
 
@@ -215,7 +215,7 @@ class Executor:
 
     def _put(self, attempt: Attempt, row: SuspensionRow) -> None:
         """Store why the attempt waits, so that other programs know it."""
-        attempt.has_row, attempt.pending = True, row
+        attempt.has_row, attempt.pending_row = True, row
         if runner := self._runner(attempt):
             if row.reason is Suspension.CANNOT_DECODE:
                 runner.has_unread = True
@@ -223,7 +223,7 @@ class Executor:
 
     def stored(self, attempt: Attempt, row: SuspensionRow) -> None:
         """Continue an attempt whose row is stored, unless a later row is being stored."""
-        if attempt.pending is not row:
+        if attempt.pending_row is not row:
             return
         self._do(attempt, self.machine.stored(attempt))
         if attempt.state is not FINISHED:
@@ -238,7 +238,7 @@ class Executor:
         """Call an attempt once its limits allow it."""
         if self.closing:
             return
-        decision = self.machine.limit(attempt, self._clock())
+        decision = self.machine.decide_limits(attempt, self._clock())
         if decision.do is Do.READ:
             self._coordinator.spawn(self.values.then(attempt, self.enter))
             return
@@ -290,9 +290,9 @@ class Executor:
         now = self._clock()
         for attempt in self.calls.with_new_progress():
             shard, control = attempt.instance.shard, attempt.control
-            if shard and shard.is_known and control.progress:
+            if shard and shard.is_current and control.progress:
                 effects = shards.setdefault(shard, shard.effects(now))
-                effects.batch.more.progress.append((*attempt.row, *control.progress, now))
+                effects.batch.rare_rows.progress.append((*attempt.row, *control.progress, now))
         for shard, effects in shards.items():
             if runner := self._coordinator.runner(shard):
                 runner.keep(effects)
@@ -301,7 +301,7 @@ class Executor:
         """Finish an attempt with a reported outcome."""
         self._do(attempt, self.machine.finish(attempt, outcome, self._clock()))
 
-    async def retry(self, attempt: Attempt, request: Wanted) -> None:
+    async def retry(self, attempt: Attempt, request: RequestRef) -> None:
         """Retry an attempt that waits, by a command, and wait until that is stored."""
         if request is not None:
             attempt.rare.request = request
@@ -316,7 +316,7 @@ class Executor:
         """
         if attempt.state is not FINISHED or attempt.outcome is None:
             return False
-        if self._runner(attempt) and attempt.is_unkept:
+        if self._runner(attempt) and attempt.is_report_unstored:
             with contextlib.suppress(SagasError):  # the caller checks the store
                 await self.kept.wait(attempt)
         return True
@@ -325,7 +325,7 @@ class Executor:
         """Handle that no worker has the task, and that none will get it."""
         self._do(attempt, self.machine.withdrawn(attempt, self._clock()))
 
-    def lost(self, attempt: Attempt, fault: Lost) -> None:
+    def lost(self, attempt: Attempt, fault: ShardLost) -> None:
         """Recover the shard, because it is unknown whether a transaction was committed."""
         self.emit(attempt, "commit_failed", str(fault))
         attempt.claim()
@@ -383,8 +383,8 @@ class Executor:
         finally:
             self._doubted.discard(attempt)
         shard = attempt.instance.shard
-        is_gone = shard is None or not shard.is_known  # the recovery reports it
-        if is_gone or attempt.instance.busy.get(attempt.word) is not attempt:
+        is_gone = shard is None or not shard.is_current  # the recovery reports it
+        if is_gone or attempt.instance.busy.get(attempt.action_key) is not attempt:
             return
         if done:
             subject = f"saga {attempt.key!r}, step {attempt.name!r}"
@@ -403,7 +403,7 @@ class Executor:
 
     def reported(self, attempts: Sequence[Attempt]) -> None:
         """Handle that reports are stored, each with its event."""
-        is_wanted = self._teller.wants("step_succeeded")
+        is_wanted = self._teller.is_wanted("step_succeeded")
         is_awaited = self.kept.futures
         for attempt in attempts:
             if is_awaited:
@@ -425,10 +425,10 @@ class Executor:
             return
         name = "step_failed" if final else RETRYING.get(attempt.event, "step_failed")
         level = None if outcome.called else logging.INFO
-        if not self._teller.wants(name):
+        if not self._teller.is_wanted(name):
             return
-        doubt = outcomes.doubt(outcome.error, attempt.manner)
-        detail = f"{outcomes.fault(outcome)}{doubt}"
+        doubt = outcomes.unknown_hint(outcome.error, attempt.manner)
+        detail = f"{outcomes.error_text(outcome)}{doubt}"
         self.emit(attempt, name, detail, level, outcome.error if name == "step_failed" else None)
 
     def emit(
@@ -440,8 +440,8 @@ class Executor:
         error: BaseException | None = None,
     ) -> None:
         """Emit an event of an attempt."""
-        took = None if attempt.took is None else round(attempt.took, 6)
-        self._teller.tell(
+        took = None if attempt.call_seconds is None else round(attempt.call_seconds, 6)
+        self._teller.emit(
             name,
             level=level,
             error=error,
@@ -459,7 +459,7 @@ class Executor:
         """Emit that a plan was adopted."""
         answer = instance.answer or {}
         detail = f"cost {answer['cost']}" if "cost" in answer else "blocked"
-        self._teller.tell("plan_adopted", key=instance.key, saga=instance.kind.name, detail=detail)
+        self._teller.emit("plan_adopted", key=instance.key, saga=instance.kind.name, detail=detail)
 
     # -- forget
 
@@ -471,7 +471,7 @@ class Executor:
         """
         self._drop_timer(attempt)
         self._stop_following(attempt)
-        self.kept.notify(attempt, Moved(f"saga {attempt.key!r}"))
+        self.kept.notify(attempt, SagaMoved(f"saga {attempt.key!r}"))
         self.changes.notify(attempt)
         attempt.forget()
         self.calls.forget(attempt)

@@ -8,7 +8,7 @@ from collections.abc import Callable, Coroutine
 from typing import Protocol
 
 from sagas.base.errors import SagasError
-from sagas.base.events import Teller
+from sagas.base.events import EventEmitter
 from sagas.core.effects import Effects
 from sagas.core.model import Attempt
 from sagas.core.outcomes import Outcome
@@ -26,7 +26,7 @@ class CoordinatorForExecutor(TurnPolicy, Protocol):
     loop: asyncio.AbstractEventLoop
     store: Database
     registry: DefinitionRegistry
-    teller: Teller
+    teller: EventEmitter
     clock: Callable[[], float]
     closed: SagasError | None
     declared: DefinitionCaller

@@ -15,7 +15,7 @@ from sagas.base.errors import CannotDecode, LeaseLost, SagasError, StoreUnavaila
 from sagas.base.logger import logger
 from sagas.core.lease_signature import Signer
 from sagas.core.model import Attempt
-from sagas.core.offers import task_name, task_of
+from sagas.core.offers import task_name, offered_task_name
 from sagas.core.suspensions import Lease
 from sagas.definition.blobs import BlobUnavailable
 from sagas.definition.compiled import CompiledDefinition
@@ -108,7 +108,7 @@ class ExternalQueue(ExternalReports):
     def offer(self, attempt: Attempt) -> None:
         """Offer an attempt to workers, or wait for the worker that has it."""
         self._withdrawing.discard(attempt)  # its commit failed, or its outcome is unknown
-        if self.coordinator.closed or attempt.pending:
+        if self.coordinator.closed or attempt.pending_row:
             return
         if attempt.offered is not None:
             attempt.rare.offered = None
@@ -130,7 +130,7 @@ class ExternalQueue(ExternalReports):
             return
         if attempt.instance.draining:
             self.coordinator.executor.drain(attempt.instance)
-        self.wake(task_of(attempt))
+        self.wake(offered_task_name(attempt))
 
     def withdraw(self, attempt: Attempt) -> None:
         """Withdraw an attempt of a saga that is being undone, unless a worker has it.
@@ -171,7 +171,7 @@ class ExternalQueue(ExternalReports):
         If the attempt has been reported already, the report is delivered.
         """
         number, attempt.rare.offered = attempt.offered, None
-        while attempt.pending:  # a commit writes its row once
+        while attempt.pending_row:  # a commit writes its row once
             await self.coordinator.executor.changes.wait(attempt)
         committed = self._dispatched[attempt] = self.coordinator.loop.create_future()
         try:
@@ -321,13 +321,13 @@ class ExternalQueue(ExternalReports):
         else:
             kind = attempt.instance.kind
             attempt.rare.lease = Lease(claim.lease, worker, now, now + claim.seconds)
-            attempt.fresh = False
+            attempt.is_uncalled = False
             await self.coordinator.executor.values.fill(attempt)
             task = attempt.task()
             attempt.instance.release()
         if claim.cancelled is not None:
             task.cancelled.set(claim.cancelled)
-        self.coordinator.teller.tell(
+        self.coordinator.teller.emit(
             "step_started",
             key=task.key,
             saga=task.saga,

@@ -24,7 +24,7 @@ from sagas.base.errors import (
 )
 from sagas.base.logger import logger
 from sagas.core import outcomes
-from sagas.core.exhaustion import RETRIED
+from sagas.core.exhaustion import RETRYABLE
 from sagas.core.lease_signature import Signer
 from sagas.core.model import FINISHED, SUSPENDED, Attempt
 from sagas.core.outcomes import CANNOT_DECODE, FAILED, PERMANENT, SUCCEEDED, UNKNOWN, Outcome
@@ -92,10 +92,10 @@ class ExternalReports:
         busy = saga.busy.get(action_key)
         if busy is not None and busy.attempt == count:
             return busy
-        for candidate in shard.unkept():  # finished
+        for candidate in shard.unstored_reports():  # finished
             if (
                 candidate.instance is saga
-                and candidate.word == action_key
+                and candidate.action_key == action_key
                 and candidate.attempt == count
             ):
                 return candidate
@@ -131,11 +131,11 @@ class ExternalReports:
         """Return the value of an outcome as the table stores it: a result is encoded."""
         payloads = self.coordinator.registry.payloads
         is_result = payloads.codec is not None and outcome.kind is SUCCEEDED
-        return outcomes.stored(payloads, outcome.value) if is_result else outcome.value
+        return outcomes.encode_result(payloads, outcome.value) if is_result else outcome.value
 
     def _delivered(self, outcome: OutcomeKind, value: str) -> Outcome:
         """Return the outcome of a stored report."""
-        reported = outcomes.delivered(outcome, value)
+        reported = outcomes.read_report(outcome, value)
         return reported._replace(encoded=self.coordinator.registry.payloads.is_encoded(value))
 
     async def park(self, token: str, number: int, why: CannotDecode | BlobUnavailable) -> None:
@@ -164,13 +164,13 @@ class ExternalReports:
     def _deliver(self, report: Report, attempt: Attempt) -> bool:
         """Deliver a report to an attempt in progress here; return whether that worked."""
         outcome = self._delivered(OutcomeKind(report.outcome), report.value)
-        if attempt.pending:
+        if attempt.pending_row:
             return False
         if (waiting := self._reports.get(report.attempt)) is not None:
             if not waiting.done():
                 waiting.set_result(outcome)
             return True
-        is_known = attempt.reason in RETRIED
+        is_known = attempt.reason in RETRYABLE
         if attempt.state is not SUSPENDED or not (is_known or awaits_worker(attempt)):
             return False
         if outcome.kind in (UNKNOWN, CANNOT_DECODE) and attempt.lease:

@@ -170,7 +170,7 @@ class Gate:
 
     def _distribute(self, asking: list[tuple[Attempt, asyncio.Future[bool]]], grant: Grant) -> None:
         asking = [(attempt, future) for attempt, future in asking if not future.done()]
-        slots = deque(grant.places)
+        slots = deque(grant.slots)
         for number, (attempt, future) in enumerate(asking):
             if number < grant.calls and slots:
                 self._held_slots[attempt] = slots.popleft()

@@ -33,5 +33,5 @@ def text_of(task: Task[Any]) -> str:
 
 def failure(error: Exception) -> Outcome:
     """Return the outcome of an attempt whose `given=` function raised."""
-    message = f"given= raised {outcomes.described(error)}"
+    message = f"given= raised {outcomes.describe_error(error)}"
     return outcomes.failure(message, final=isinstance(error, Fail))

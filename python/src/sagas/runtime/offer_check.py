@@ -87,14 +87,14 @@ class OfferCheck:
 
     def _waiting(self, shard: ShardDriver) -> Iterator[Attempt]:
         """Yield the attempts of a shard whose rows are open, as far as this program knows."""
-        if not shard.is_known:
+        if not shard.is_current:
             return
         for saga in shard.sagas.values():
             if saga.kind.has_external:
                 for attempt in saga.busy.values():
                     if (
                         awaits_worker(attempt)
-                        and not attempt.pending
+                        and not attempt.pending_row
                         and not self._is_moving(attempt)
                     ):
                         yield attempt

@@ -7,10 +7,10 @@ import functools
 import json
 from typing import TYPE_CHECKING, Any, Protocol
 
-from sagas.base.errors import Closed, Moved, SagasError, StoreUnavailable
+from sagas.base.errors import Closed, SagaMoved, SagasError, StoreUnavailable
 from sagas.base.logger import logger
-from sagas.core.batch import Batch, Request, Wanted
-from sagas.core.outcomes import Outcome, reported
+from sagas.core.batch import Batch, PendingRequest, RequestRef
+from sagas.core.outcomes import Outcome, reported_outcome
 from sagas.core.states import OutcomeKind
 from sagas.definition.payloads import Payloads
 
@@ -31,7 +31,7 @@ class CommandExecutor(Protocol):
     meant.
     """
 
-    async def abort(self, key: str, request: Wanted, of: int | None = None) -> bool:
+    async def abort(self, key: str, request: RequestRef, of: int | None = None) -> bool:
         """See `Store.abort`."""
 
     async def report(
@@ -40,14 +40,14 @@ class CommandExecutor(Protocol):
         step: str,
         outcome: Outcome,
         undo: bool,
-        request: Wanted,
+        request: RequestRef,
         of: int | None = None,
         early: bool = True,
     ) -> None:
         """See `Store.complete` and `Store.fail`."""
 
     async def retry(
-        self, key: str, step: str, undo: bool, request: Wanted, of: int | None = None
+        self, key: str, step: str, undo: bool, request: RequestRef, of: int | None = None
     ) -> None:
         """See `Store.retry`."""
 
@@ -55,7 +55,7 @@ class CommandExecutor(Protocol):
 class ReportCompensator(Protocol):
     """Has unused reports compensated."""
 
-    async def compensate(self, key: str, step: str, request: Wanted, of: int | None = None) -> None:
+    async def compensate(self, key: str, step: str, request: RequestRef, of: int | None = None) -> None:
         """See `Store.compensate`."""
 
 
@@ -119,7 +119,7 @@ class RequestExecutor:
             if not self._again:
                 return
 
-    def _begin(self, row: Request) -> None:
+    def _begin(self, row: PendingRequest) -> None:
         if row[0] not in self._doing:
             job = self._doing[row[0]] = self._loop.create_task(self._do(*row))
             job.add_done_callback(functools.partial(self._done, row[0]))
@@ -132,14 +132,14 @@ class RequestExecutor:
     async def _do(self, id: int, key: str, command: str, value: str | None, of: int | None) -> None:
         try:
             answer = await self._ask(id, key, command, json.loads(value or "null"), of)
-        except (Closed, Moved):  # the next program, or the node that has the saga, replies
+        except (Closed, SagaMoved):  # the next program, or the node that has the saga, replies
             return
         except SagasError as error:
             answer = {"error": f"{type(error).__name__}: {error}"}
         except (TypeError, ValueError, KeyError, RecursionError) as error:
             answer = {"error": f"invalid request: {error}"}
         batch = Batch(-1, self._coordinator.clock())
-        batch.more.answers.append((json.dumps(answer), id))
+        batch.rare_rows.answers.append((json.dumps(answer), id))
         self._coordinator.commits.put_alone(batch)
 
     async def _ask(self, id: int, key: str, command: str, arguments: Any, of: int | None) -> Any:
@@ -148,7 +148,7 @@ class RequestExecutor:
         if command in ("complete", "fail"):
             error = str(arguments["error"]) if command == "fail" else None
             result = self._coordinator.registry.payloads.decode_value(arguments.get("result"))
-            outcome = reported(result, error)
+            outcome = reported_outcome(result, error)
             undo, early = arguments.get("kind") == "undo", arguments.get("early") is not False
             await self._executor.report(key, arguments["step"], outcome, undo, id, of, early)
             return True

@@ -114,7 +114,7 @@ class Placement:
             except SagasError as error:
                 self._loop.call_soon(self._shards.refuse, saga, error)
                 return None
-        saga.place = runner.driver.identity.definitions.place(kind)
+        saga.definition_index = runner.driver.identity.definitions.definition_index(kind)
         runner.driver.open(saga)
         return runner
 

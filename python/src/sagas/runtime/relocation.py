@@ -6,8 +6,8 @@ import asyncio
 from collections.abc import Callable, Coroutine
 from typing import TYPE_CHECKING, Protocol
 
-from sagas.base.errors import KeyConflict, Moved, SagasError
-from sagas.core.batch import Batch, Loaded, SagaRow
+from sagas.base.errors import KeyConflict, SagaMoved, SagasError
+from sagas.core.batch import Batch, LoadedShard, SagaRow
 from sagas.core.model import SagaInstance
 from sagas.core.shard import ShardDriver
 from sagas.definition import input_equality, mismatches
@@ -119,7 +119,7 @@ class Relocation:
 
         Callers that wait for its end check the store. Callers that started it receive `error`.
         """
-        self._sagas.leave(saga, error, Moved("this node does not execute the saga"))
+        self._sagas.leave(saga, error, SagaMoved("this node does not execute the saga"))
         for attempt in saga.busy.values():
             self._executor.changes.notify(attempt)
 
@@ -133,8 +133,8 @@ class Relocation:
         if error and Reference.of(row.input) and not is_whole:
             self._spawn(self._move(saga))
             return
-        if saga.start is not None:
-            self._spawn(self._begun(saga.start, None if error else row.id))
+        if saga.client_start is not None:
+            self._spawn(self._begun(saga.client_start, None if error else row.id))
         self.leave(saga, error)
 
     def compare_with_stored(self, saga: SagaInstance) -> None:
@@ -159,25 +159,25 @@ class Relocation:
     async def _begun(self, start: int, saga: int | None) -> None:
         """Mark a client's start as done, with its saga or None, so that no node opens it."""
         batch = Batch(-1, self._clock())
-        batch.more.begun.append((start, saga))
+        batch.rare_rows.begun.append((start, saga))
         try:
             await self._commits.kept(batch)
         except SagasError:
             self._shards.doubt()
 
-    async def find_elsewhere(self, driver: ShardDriver, rows: Loaded) -> None:
+    async def find_elsewhere(self, driver: ShardDriver, rows: LoadedShard) -> None:
         """Withdraw unconfirmed starts in a shard whose keys other sagas have.
 
         These sagas are in another shard, or have ended in this one.
         """
         open_keys = {key for _, key, *_ in rows.open}
         unconfirmed = [
-            saga for saga in driver.sent if not saga.committed and saga.key not in open_keys
+            saga for saga in driver.opens_sent if not saga.committed and saga.key not in open_keys
         ]
         others = await asyncio.gather(*(self._store.find(saga.key) for saga in unconfirmed))
         for saga, other in zip(unconfirmed, others):
             if other is not None and (other.id >= 0 or saga.guessed):
-                driver.sent.pop(saga, None)
+                driver.opens_sent.pop(saga, None)
                 saga.number, saga.shard = -1, None
                 self.key_taken(saga, other)
 
@@ -186,9 +186,9 @@ class Relocation:
 
         Callers that wait check the store.
         """
-        moved = Moved("the saga moved to another node")
-        sagas, opens = list(driver.sagas.values()), [*driver.sent, *driver.opens]
-        attempts = dict.fromkeys(driver.unkept())
+        moved = SagaMoved("the saga moved to another node")
+        sagas, opens = list(driver.sagas.values()), [*driver.opens_sent, *driver.opens]
+        attempts = dict.fromkeys(driver.unstored_reports())
         attempts |= {attempt: None for saga in sagas for attempt in saga.busy.values()}
         for attempt in attempts:
             self._executor.kept.notify(attempt, moved)
@@ -197,7 +197,7 @@ class Relocation:
         for saga in sagas:
             if saga.committed:
                 self.leave(saga, None)
-        driver.close_opens()
+        driver.clear_opens()
         for saga in opens:
             if not saga.committed:
                 saga.forget()
@@ -207,7 +207,7 @@ class Relocation:
     def notify_closed(self, driver: ShardDriver, error: SagasError) -> None:
         """Notify callers that wait for steps of a shard that the store is closed."""
         self._executor.early.look_again(driver.number, error)
-        for attempt in driver.unkept():
+        for attempt in driver.unstored_reports():
             self._executor.kept.notify(attempt, error)
         for saga in driver.sagas.values():
             for attempt in saga.busy.values():
@@ -219,7 +219,7 @@ class Relocation:
         row = await until_answered(lambda: self._whole(saga.key))
         if self._sagas.by_key.get(saga.key) is not saga:
             return
-        if row is not None and (row.id >= 0 or saga.start is None):
+        if row is not None and (row.id >= 0 or saga.client_start is None):
             self.key_taken(saga, row, is_whole=True)
         else:
             self._shards.assign(saga)

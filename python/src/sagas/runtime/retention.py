@@ -224,7 +224,7 @@ async def keep(
             if blobs is not None:  # after the rows that referred to them
                 await blobs.delete(pruned.blobs)
             if pruned.logs:
-                coordinator.teller.tell(
+                coordinator.teller.emit(
                     "shards_pruned",
                     detail=f"{number(len(pruned.logs), 'shard')}, {number(pruned.sagas, 'saga')}",
                 )

@@ -98,7 +98,7 @@ class Scheduler:
         if times and schedule.catch_up == timing.CatchUp.ALL and first > schedule.next_at:
             reason = f"{schedule.name}: only the last {schedule.max:,} missed times are started"
             await self._advance(schedule, first, None, reason)  # the first node that does so counts
-            self._coordinator.teller.tell("schedule_missed", saga=schedule.saga, detail=reason)
+            self._coordinator.teller.emit("schedule_missed", saga=schedule.saga, detail=reason)
             return 0.0
         last = error = None
         for at in times:
@@ -106,7 +106,7 @@ class Scheduler:
             if await self._is_open(schedule, before):
                 if schedule.overlap == timing.Overlap.SKIP:
                     reason = f"{schedule.name}: the saga of the previous time is still open"
-                    self._coordinator.teller.tell(
+                    self._coordinator.teller.emit(
                         "schedule_missed", saga=schedule.saga, detail=reason
                     )
                     continue
@@ -121,7 +121,7 @@ class Scheduler:
                 break
             last, error = at, await self._try(schedule, timing.key_of(schedule.name, at))
         if not times:
-            self._coordinator.teller.tell(
+            self._coordinator.teller.emit(
                 "schedule_missed", saga=schedule.saga, detail=schedule.name
             )
         await self._advance(schedule, next_at, last, error)
@@ -151,7 +151,7 @@ class Scheduler:
         if self._left.get(name) != why:
             self._left[name] = why
             detail = f"{name}: {why}"
-            self._coordinator.teller.tell("schedule_failed", saga=saga, detail=detail)
+            self._coordinator.teller.emit("schedule_failed", saga=saga, detail=detail)
 
     async def _is_unchanged(self, schedule: Schedule) -> bool:
         """Return whether the stored schedule is unchanged since it was read."""
@@ -169,7 +169,7 @@ class Scheduler:
             raise
         except (SagasError, TypeError, ValueError) as failure:
             error = f"{type(failure).__name__}: {failure}"
-            self._coordinator.teller.tell(
+            self._coordinator.teller.emit(
                 "schedule_failed", key=key, saga=schedule.saga, detail=error
             )
             return error

@@ -8,8 +8,8 @@ from collections.abc import Callable, Coroutine
 from typing import TYPE_CHECKING, Protocol
 
 from sagas.base.errors import DamagedShard, SagasError
-from sagas.base.events import Teller
-from sagas.core.batch import Loaded
+from sagas.base.events import EventEmitter
+from sagas.core.batch import LoadedShard
 from sagas.core.limits import Slots
 from sagas.core.shard import ShardDriver
 from sagas.engine.pool import EnginePool
@@ -43,13 +43,13 @@ class ShardsForRunner(Protocol):
     def trouble(self, runner: ShardRunner, error: SagasError) -> None:
         """Handle that a shard could not be loaded."""
 
-    async def find_elsewhere(self, driver: ShardDriver, rows: Loaded) -> None:
+    async def find_elsewhere(self, driver: ShardDriver, rows: LoadedShard) -> None:
         """Withdraw unconfirmed starts in a shard whose keys other sagas have.
 
         These sagas are in another shard, or have ended in this one.
         """
 
-    def reopen(self, driver: ShardDriver, rows: Loaded | None, fault: BaseException | None) -> None:
+    def reopen(self, driver: ShardDriver, rows: LoadedShard | None, fault: BaseException | None) -> None:
         """Open sagas again whose start in a shard was not stored, or refuse them."""
 
     def changed(self, runner: ShardRunner) -> None:
@@ -64,7 +64,7 @@ class Parts:
     program: str
     loop: asyncio.AbstractEventLoop
     clock: Callable[[], float]
-    teller: Teller
+    teller: EventEmitter
     sagas: Instances
     slots: Slots
     commits: CommitQueue

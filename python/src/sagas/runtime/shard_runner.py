@@ -7,11 +7,11 @@ import time
 from sagas.base.errors import DamagedShard, SagasError
 from sagas.base.logger import logger
 from sagas.core import recovery
-from sagas.core.batch import Loaded
+from sagas.core.batch import LoadedShard
 from sagas.core.effects import Abort, Effects
 from sagas.core.model import Attempt
-from sagas.core.replies import Disagrees
-from sagas.core.shard import MOST_REPORTS, ShardDriver
+from sagas.core.replies import EngineDisagrees
+from sagas.core.shard import MAX_REPORTS, ShardDriver
 from sagas.core.states import ShardState
 from sagas.core.suspensions import SuspensionRow
 from sagas.engine.process import EngineProcess
@@ -52,7 +52,7 @@ class ShardRunner:
         self._effects, self._clock, self._loop = parts.effects, parts.clock, parts.loop
         self._woke = self._pause = 0.0
         self._is_scheduled = self._is_coming = False
-        self._rows: Loaded | None = None  # the rows that it is recovered from
+        self._rows: LoadedShard | None = None  # the rows that it is recovered from
         self._overdue: list[int] = []  # the sagas that are aborted during its recovery
 
     # -- calls by the executor
@@ -81,36 +81,36 @@ class ShardRunner:
         """
         if self.driver.state is ACTIVE:
             assert self.engine
-            if self.engine.asked:  # after its reply, it gets the next requests
+            if self.engine.unanswered:  # after its reply, it gets the next requests
                 return
             running = self._slots.running
-            if at_once and (not running or len(self.driver.reports) >= MOST_REPORTS):
+            if at_once and (not running or len(self.driver.reports) >= MAX_REPORTS):
                 self._turn(waits=not running)
             elif not self._is_scheduled:
                 self._is_scheduled = True
                 self._loop.call_soon(self._turn)
         elif self.driver.state is IDLE:
-            self._engines.want(self)
+            self._engines.request_engine(self)
 
     def _turn(self, waits: bool = False) -> None:
         """Send what is due. With `waits`, nothing else can be done until the reply."""
         self._is_scheduled = False
         engine = self.engine
-        if self.driver.state is not ACTIVE or engine is None or engine.asked:
+        if self.driver.state is not ACTIVE or engine is None or engine.unanswered:
             return
-        if self._engines.wanted and time.monotonic() - self._woke > TURN:
+        if self._engines.waiting and time.monotonic() - self._woke > TURN:
             self._loop.call_soon(self.give_up_engine)
-            if not self.driver.unwritten:
+            if not self.driver.commits_in_flight:
                 return
         self._shards.abort_overdue()
         self._shards.fill(self)
-        if self.driver.state is not ACTIVE or engine.asked:  # another shard took its engine
+        if self.driver.state is not ACTIVE or engine.unanswered:  # another shard took its engine
             return
-        lines = [] if self.driver.wants_engine else self._requests()
+        lines = [] if self.driver.needs_new_engine else self._requests()
         if not lines:
-            if self.driver.wants_engine:  # also if a definition was too long for a request
+            if self.driver.needs_new_engine:  # also if a definition was too long for a request
                 self._renew()
-            elif self._engines.wanted:
+            elif self._engines.waiting:
                 self._offer()
             return
         self.used = time.monotonic()
@@ -123,20 +123,20 @@ class ShardRunner:
 
         The events of the old engine are stored first.
         """
-        if not self.driver.unwritten:
+        if not self.driver.commits_in_flight:
             self._stop_engine()
             self.engine = None
-            self.driver.to(IDLE)
-            self.driver.to(STARTING)
+            self.driver.set_state(IDLE)
+            self.driver.set_state(STARTING)
             self._parts.spawn(self._start())
 
     def _requests(self) -> list[str]:
         is_closing, driver = self._shards.is_closing, self.driver
-        lines = driver.requests(0 if is_closing else self._slots.free(), self._clock())
-        if (request := driver.asked) and request.claims:
-            self._slots.reserve(request.claims)
-        elif driver.hungry and not is_closing:
-            self._slots.starve(self)
+        lines = driver.requests(0 if is_closing else self._slots.free_count(), self._clock())
+        if (request := driver.unanswered) and request.claim_count:
+            self._slots.reserve(request.claim_count)
+        elif driver.may_have_tasks and not is_closing:
+            self._slots.add_waiting_shard(self)
         return lines
 
     def answered(self, replies: list[str], log_text: str) -> None:
@@ -146,7 +146,7 @@ class ShardRunner:
             return
         try:
             outcome = self.driver.replies(replies, log_text, self._clock())
-        except Disagrees as error:
+        except EngineDisagrees as error:
             logger.warning("shard %s: %s. Recovering", self.driver.name, error)
             self.fail(None)
         except Exception as error:
@@ -167,21 +167,21 @@ class ShardRunner:
         The next requests are sent before the commit. A commit may block this thread, and the engine
         works in the meantime.
         """
-        self.driver.writes(effects)  # so it keeps its engine until the commit
+        self.driver.begin_commit(effects)  # so it keeps its engine until the commit
         try:
             self._effects.at_once(effects)
             if self._is_due():
                 self._turn()
         finally:
             self._commit(effects, at_once=True)
-        if self._engines.wanted:
+        if self._engines.waiting:
             self._offer()
 
     # -- commits
 
     def keep(self, effects: Effects) -> None:
         """Store effects that no reply of the engine led to."""
-        self.driver.writes(effects)
+        self.driver.begin_commit(effects)
         self._commit(effects, at_once=False)
 
     def _commit(self, effects: Effects, at_once: bool) -> None:
@@ -200,7 +200,7 @@ class ShardRunner:
 
     def failed(self, effects: Effects, fault: BaseException | None) -> None:
         """Handle that a batch is not durable, as far as is known: discard the engine."""
-        was_known = self.driver.is_known
+        was_known = self.driver.is_current
         unanswered = self.driver.failed(effects)
         self._effects.lost(effects)
         self._fail(fault, was_known, unanswered)
@@ -212,37 +212,42 @@ class ShardRunner:
 
     def _settle(self) -> None:
         """Continue if nothing of the shard is being stored any more."""
-        if not self.driver.unwritten:
+        if not self.driver.commits_in_flight:
             if self.driver.state is STALE:
                 self._load_soon()
-            if self.driver.wants_engine:
+            if self.driver.needs_new_engine:
                 self.poke()
-            if self._engines.wanted:
+            if self._engines.waiting:
                 self._offer()
             self._shards.changed(self)
 
     # -- its engine
 
     def _is_due(self) -> bool:
-        may_claim = not (self in self._slots.starved or self._shards.is_closing)
+        may_claim = not (self in self._slots.waiting_shards or self._shards.is_closing)
         return self.driver.is_due(may_claim)
 
     def pending_answers(self) -> int:
         """Return how much its engine is about to reply to."""
         if self.driver.state is not ACTIVE:
             return 0
-        return len(self.driver.reports) + (self.engine.asked if self.engine else 0)
+        return len(self.driver.reports) + (self.engine.unanswered if self.engine else 0)
 
     def owes(self) -> bool:
         """Return whether something is to be stored, and the store accepts it."""
         driver = self.driver
-        has_more = driver.reports or driver.reporting or driver.opens or driver.sent
-        return bool(driver.unwritten or (has_more and not self.fault and not self._pause))
+        has_more = driver.reports or driver.reports_sent or driver.opens or driver.opens_sent
+        return bool(driver.commits_in_flight or (has_more and not self.fault and not self._pause))
 
     def rests(self) -> bool:
         """Return whether its engine may end: nothing is in progress, and all is stored."""
         engine = self.engine
-        if self.driver.state is not ACTIVE or self.driver.unwritten or not engine or engine.asked:
+        if (
+            self.driver.state is not ACTIVE
+            or self.driver.commits_in_flight
+            or not engine
+            or engine.unanswered
+        ):
             return False
         return not self._is_due() or time.monotonic() - self._woke > TURN
 
@@ -260,25 +265,25 @@ class ShardRunner:
         """Give up the engine if it rests, so that another shard may have it."""
         if self.rests():
             self.sleep()
-            self._engines.gone(self)
+            self._engines.release(self)
 
     def sleep(self) -> None:
         """Stop the engine."""
         self._stop_engine()
-        self.driver.to(IDLE)
+        self.driver.set_state(IDLE)
         if self._is_due():
             self._loop.call_soon(self.poke)
 
     def granted(self) -> None:
         """Start an engine, which the pool has granted."""
         if self.driver.state is STALE:
-            self.driver.to(LOADING)
+            self.driver.set_state(LOADING)
             self._parts.spawn(self._load())
         elif self.driver.state is IDLE:
-            self.driver.to(STARTING)
+            self.driver.set_state(STARTING)
             self._parts.spawn(self._start())
         else:
-            self._engines.gone(self)
+            self._engines.release(self)
 
     async def _start(self) -> None:
         """Start an engine on the shard, unless another node has written the shard."""
@@ -295,7 +300,7 @@ class ShardRunner:
         except Exception as error:
             self.fail(named(error))
             return
-        driver.to(ACTIVE)
+        driver.set_state(ACTIVE)
         self.used = self._woke = time.monotonic()
         self.poke()
 
@@ -309,7 +314,7 @@ class ShardRunner:
             return
         if self.driver.state is ACTIVE:
             detail = f"shard {self.driver.name}: {last}"
-            self._parts.teller.tell("engine_died", detail=detail)
+            self._parts.teller.emit("engine_died", detail=detail)
             self.fail(None)
         else:  # while the shard was loaded
             self.engine = self._rows = None
@@ -322,7 +327,7 @@ class ShardRunner:
 
     def fail(self, fault: BaseException | None) -> None:
         """Discard all that is not stored, and load the shard again after a pause."""
-        self._fail(fault, self.driver.is_known, self.driver.fail())
+        self._fail(fault, self.driver.is_current, self.driver.fail())
 
     def _fail(self, fault: BaseException | None, was_known: bool, unanswered: int) -> None:
         self._slots.release(unanswered)
@@ -337,8 +342,8 @@ class ShardRunner:
         """Discard the engine and what it knows beyond the store."""
         self._stop_engine()
         self.engine = self._rows = None
-        self._engines.gone(self)
-        if not self.driver.unwritten:
+        self._engines.release(self)
+        if not self.driver.commits_in_flight:
             self._load_soon()
 
     def _load_soon(self) -> None:
@@ -356,14 +361,14 @@ class ShardRunner:
 
     def _want(self) -> None:
         self._is_coming = False
-        if self.driver.state is STALE and not self.driver.unwritten:
-            self._engines.want(self)
+        if self.driver.state is STALE and not self.driver.commits_in_flight:
+            self._engines.request_engine(self)
 
     async def _load(self) -> None:
         """Read the shard from the store, and start an engine on it."""
         driver = self.driver
         try:
-            rows = await self._parts.store.load(driver.number, driver.epoch, driver.born)
+            rows = await self._parts.store.load(driver.number, driver.epoch, driver.new_shard)
             if driver.state is not LOADING:
                 return
             if rows is not None and (damage := recovery.damage_of(rows, driver)):
@@ -388,7 +393,7 @@ class ShardRunner:
         self._rows, self._overdue = rows, recovery.overdue(rows, self._clock())
         self.engine.ask(recovery.requests(rows, self._overdue))
 
-    def _recover(self, rows: Loaded, replies: list[str], log_text: str) -> None:
+    def _recover(self, rows: LoadedShard, replies: list[str], log_text: str) -> None:
         """Set the driver to the stored state, and continue what was started."""
         self._rows, driver, store = None, self.driver, self._parts.store
         known = self._parts.sagas.by_key
@@ -409,15 +414,15 @@ class ShardRunner:
 
     def stop(self) -> None:
         """Stop the runner and its engine permanently."""
-        self.driver.to(CLOSED)
+        self.driver.set_state(CLOSED)
         self._stop_engine()
-        self._slots.release(self.driver.unask())
-        self._engines.gone(self)
-        self._slots.sate(self)
+        self._slots.release(self.driver.drop_request())
+        self._engines.release(self)
+        self._slots.remove_waiting_shard(self)
 
     def _trouble(self, fault: SagasError) -> None:
         """Handle that the shard could not be loaded; it is tried again."""
         self.fault = fault
         self._shards.trouble(self, fault)
-        self.driver.to(STALE)
+        self.driver.set_state(STALE)
         self._recover_soon()

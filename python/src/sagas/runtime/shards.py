@@ -7,11 +7,11 @@ import contextlib
 import time
 from collections.abc import Callable, Coroutine
 
-from sagas.base.errors import DamagedShard, EngineError, Moved, SagasError, StoreUnavailable
-from sagas.base.events import Teller
+from sagas.base.errors import DamagedShard, EngineError, SagaMoved, SagasError, StoreUnavailable
+from sagas.base.events import EventEmitter
 from sagas.base.logger import logger
 from sagas.core import recovery
-from sagas.core.batch import Batch, Loaded, LogRow, SagaRow, Wanted
+from sagas.core.batch import Batch, LoadedShard, ShardRow, SagaRow, RequestRef
 from sagas.core.effects import Abort
 from sagas.core.model import SagaInstance
 from sagas.core.shard import ShardDriver, ShardIdentity
@@ -62,7 +62,7 @@ class Shards:
         commits: CommitQueue,
         offers: ExternalOffers,
         clock: Callable[[], float],
-        teller: Teller,
+        teller: EventEmitter,
         spawn: Callable[[Coroutine[None, None, None]], asyncio.Task[None]],
         look: Callable[[], None],
         idle: float,
@@ -100,7 +100,7 @@ class Shards:
 
     # -- load
 
-    async def open(self, rows: list[LogRow]) -> None:
+    async def open(self, rows: list[ShardRow]) -> None:
         """Load the shards that are not closed.
 
         Raises:
@@ -110,10 +110,10 @@ class Shards:
         adopted = [runner for runner in self.adopt(rows) if runner.driver.state is STALE]
         self._opening.begin(adopted)
         for runner in adopted:
-            self.engines.want(runner)
+            self.engines.request_engine(runner)
         await self._opening.over()
 
-    def adopt(self, rows: list[LogRow]) -> list[ShardRunner]:
+    def adopt(self, rows: list[ShardRow]) -> list[ShardRunner]:
         """Return runners of shards that this program has taken. They accept no new sagas.
 
         The store may be an older copy, so that tokens of new sagas might be in use already.
@@ -121,7 +121,7 @@ class Shards:
         adopted = []
         for row in rows:
             kinds = self._kinds(row.texts)
-            identity = ShardIdentity(row.log, row.name, ShardDefinitions(kinds))
+            identity = ShardIdentity(row.shard, row.name, ShardDefinitions(kinds))
             state = STALE if row.open else IDLE
             runner = self.run(ShardDriver(identity, state, row.epoch, row.opened))
             runner.note = row.note
@@ -146,14 +146,14 @@ class Shards:
         runner = self.runners[driver.number] = ShardRunner(driver, self._parts, self)
         return runner
 
-    def taken(self, rows: list[LogRow]) -> None:
+    def taken(self, rows: list[ShardRow]) -> None:
         """Continue shards that another node had."""
         if self.closed:
             return
-        for runner in self.adopt([row for row in rows if row.log not in self.runners]):
-            self._teller.tell("shard_taken", detail=runner.driver.name)
+        for runner in self.adopt([row for row in rows if row.shard not in self.runners]):
+            self._teller.emit("shard_taken", detail=runner.driver.name)
             if runner.driver.state is STALE:
-                self.engines.want(runner)
+                self.engines.request_engine(runner)
             else:
                 self.close_if_over(runner)
 
@@ -178,7 +178,7 @@ class Shards:
         self._spawn(self._report(runner, error))
         self._placement.forget(runner)
         driver.is_full = True
-        sent, unsent = recovery.unopened(driver, None, self._sagas.by_key)
+        sent, unsent = recovery.take_unopened(driver, None, self._sagas.by_key)
         for saga in sent:
             unsure = "It is unknown whether the saga was started"
             self.refuse(saga, StoreUnavailable(f"shard {driver.name}: {error}. {unsure}"))
@@ -195,13 +195,13 @@ class Shards:
         await self._note(runner, str(error))
         driver = runner.driver
         detail = f"shard {driver.number} ({driver.name}): {error}. {REMEDY}"
-        self._teller.tell("shard_damaged", detail=detail, error=error.__cause__)
+        self._teller.emit("shard_damaged", detail=detail, error=error.__cause__)
 
     async def _note(self, runner: ShardRunner, why: str | None) -> None:
         """Store why no program can open a shard. If that fails, the next try stores it."""
         driver = runner.driver
         batch = Batch(driver.number, self._parts.clock(), epoch=driver.epoch)
-        batch.more.set_aside = (why,)
+        batch.rare_rows.set_aside = (why,)
         with contextlib.suppress(SagasError):
             await self._commits.kept(batch)
             runner.note = why
@@ -217,9 +217,9 @@ class Shards:
             return
         if isinstance(error, StoreUnavailable):
             detail = f"shard {name} is not open yet: {error}"
-            self._teller.tell("commit_failed", detail=detail)
+            self._teller.emit("commit_failed", detail=detail)
         else:
-            self._teller.tell("engine_died", detail=f"shard {name}: {error}")
+            self._teller.emit("engine_died", detail=f"shard {name}: {error}")
         self.changed(runner)
         is_named = isinstance(error, (EngineError, StoreUnavailable))
         self._opening.fail(error if is_named else EngineError(str(error)))
@@ -252,17 +252,17 @@ class Shards:
 
     def coming(self) -> int:
         """Return how many replies of engines, and how many new sagas, are expected."""
-        pending = sum(runner.pending_answers() for runner in self.engines.up())
+        pending = sum(runner.pending_answers() for runner in self.engines.borrowers())
         return pending + len(self._placement.waiting)
 
-    def abort(self, saga: SagaInstance, command: Wanted = None) -> asyncio.Future[bool]:
+    def abort(self, saga: SagaInstance, command: RequestRef = None) -> asyncio.Future[bool]:
         """Ask to abort a saga; return a future of whether this command aborts it."""
         abort, runner = Abort(saga, command), self.runner(saga.shard) if saga.shard else None
         future = self._sagas.aborted(abort)
         if runner:
             runner.abort(abort)
         else:
-            self._sagas.fail_abort(abort, Moved("this node does not execute the saga"))
+            self._sagas.fail_abort(abort, SagaMoved("this node does not execute the saga"))
         return future
 
     # -- new sagas
@@ -288,7 +288,7 @@ class Shards:
     def refuse(self, saga: SagaInstance, error: SagasError) -> None:
         """Refuse the start of a saga, and notify its callers."""
         self._sagas.leave(saga, error, error)
-        if saga.start is not None:
+        if saga.client_start is not None:
             self.doubt()
 
     def doubt(self) -> None:
@@ -308,17 +308,17 @@ class Shards:
 
     # -- recovery
 
-    async def find_elsewhere(self, driver: ShardDriver, rows: Loaded) -> None:
+    async def find_elsewhere(self, driver: ShardDriver, rows: LoadedShard) -> None:
         """Withdraw unconfirmed starts whose keys other sagas have."""
         await self._relocation.find_elsewhere(driver, rows)
 
-    def reopen(self, driver: ShardDriver, rows: Loaded | None, fault: BaseException | None) -> None:
+    def reopen(self, driver: ShardDriver, rows: LoadedShard | None, fault: BaseException | None) -> None:
         """Open sagas again whose start in a shard was not stored.
 
         If that failed, or the shard could not be read, refuse them. A server may still receive a
         late commit of them, until the shard is loaded.
         """
-        sent, new = recovery.unopened(driver, rows, self._sagas.by_key)
+        sent, new = recovery.take_unopened(driver, rows, self._sagas.by_key)
         if fault is None:
             for saga in sent + new:
                 self.assign(saga) if driver.is_full else driver.open(saga)
@@ -346,7 +346,7 @@ class Shards:
         If the store is older than what was acknowledged, no shard accepts further sagas. Otherwise,
         they would get the tokens of lost sagas.
         """
-        self._teller.tell("lease_expired")
+        self._teller.emit("lease_expired")
         if is_older:
             self._placement.current.clear()
             self._forget_closing()
@@ -354,7 +354,7 @@ class Shards:
                 runner.driver.is_full = True
             self.doubt()  # the older store may have claimed starts that were finished
         for runner in list(self.runners.values()):
-            if runner.driver.is_known:
+            if runner.driver.is_current:
                 runner.fail(None)
 
     def _forget_closing(self) -> None:
@@ -371,9 +371,9 @@ class Shards:
     def lose(self, runner: ShardRunner) -> None:
         """Release a shard that another node has."""
         driver = runner.driver
-        self._teller.tell("shard_lost", detail=driver.name)
-        moved = Moved("the saga moved to another node")
-        for abort in (*driver.aborts, *driver.aborting):
+        self._teller.emit("shard_lost", detail=driver.name)
+        moved = SagaMoved("the saga moved to another node")
+        for abort in (*driver.aborts, *driver.aborts_sent):
             self._sagas.fail_abort(abort, moved)
         self._stop(runner)
         self._relocation.stop_shard(driver)
@@ -402,9 +402,9 @@ class Shards:
             return
         is_current = self._placement.is_current(runner)
         takes_more = is_current and not driver.is_full and driver.opened < self._definitions.room
-        if self.closed or driver.born or takes_more:
+        if self.closed or driver.new_shard or takes_more:
             return
-        for abort in (*driver.aborts, *driver.aborting):  # all its sagas had ended before
+        for abort in (*driver.aborts, *driver.aborts_sent):  # all its sagas had ended before
             abort.done = False
             self._sagas.answer_abort(abort)
         self._stop(runner)
@@ -432,8 +432,8 @@ class Shards:
                 runner.engine.process.kill()  # handled as if it had died by itself
             if runner.is_idle(now, self._idle):
                 runner.sleep()
-                self.engines.gone(runner)
-        self.engines.turn()
+                self.engines.release(runner)
+        self.engines.lend()
 
     def offer_unread(self) -> None:
         """Offer shards with unreadable values to other nodes."""

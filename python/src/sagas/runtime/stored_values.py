@@ -78,7 +78,7 @@ class ValueReader:
 
         If the attempt waits after that, its values are released.
         """
-        is_same, fault = attempt.pausing(), None
+        is_same, fault = attempt.pause_guard(), None
         async with self._slots:
             try:
                 await self._fill(attempt)
@@ -89,7 +89,7 @@ class ValueReader:
             attempt.instance.release()
 
     async def _fill(self, attempt: Attempt) -> None:
-        if not attempt.lacks():
+        if not attempt.lacks_values():
             return
         self.count += 1
         instance = attempt.instance

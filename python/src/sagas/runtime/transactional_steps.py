@@ -15,7 +15,7 @@ from typing import TYPE_CHECKING, Any
 
 import psycopg
 
-from sagas.base.errors import Lost, Unknown
+from sagas.base.errors import ShardLost, Unknown
 from sagas.core import outcomes
 from sagas.core.batch import Tail
 from sagas.core.model import RUNNING
@@ -34,7 +34,7 @@ if TYPE_CHECKING:
     from concurrent.futures import Executor
 
     from sagas.core.model import Attempt
-    from sagas.core.step_transactions import Take
+    from sagas.core.step_transactions import TakeConnection
 
 PLAIN = frozenset((type(None), bool, int, float, str, dict, list))
 """Types of results that are never awaitable."""
@@ -68,7 +68,7 @@ async def _called(function: Function, task: Task[Any]) -> Any:
 
 def text_of(attempt: Attempt, value: Any) -> str:
     """Return the result of a function as it is stored."""
-    return outcomes.stored(attempt.instance.kind.payloads, outcomes.succeeded(value).value)
+    return outcomes.encode_result(attempt.instance.kind.payloads, outcomes.succeeded(value).value)
 
 
 @dataclasses.dataclass(slots=True)
@@ -90,10 +90,10 @@ class Record:
     again: bool = False
     """The server did not know that statement and rolled back, so the function is called again."""
 
-    def lost(self) -> Lost | None:
+    def lost(self) -> ShardLost | None:
         """Return the error of an unknown commit, or None if the outcome is known."""
         return (
-            Lost(f"{self.location}: it is unknown whether {self.attempt.token()} was committed")
+            ShardLost(f"{self.location}: it is unknown whether {self.attempt.token()} was committed")
             if self.was_sent and not self.done
             else None
         )
@@ -131,16 +131,16 @@ class Record:
         """
         shard = self.attempt.instance.shard
         assert shard
-        epoch, self.line = shard.known
+        epoch, self.line = shard.fence
         return Fence(shard.number, self.node, epoch, self.line, self.tail)
 
     def check(self) -> None:
-        """Raise `Lost` if the attempt was forgotten when its shard was loaded again.
+        """Raise `ShardLost` if the attempt was forgotten when its shard was loaded again.
 
         A function that ended before that, and whose commit is sent later, has the earlier epoch.
         """
         if self.attempt.state is not RUNNING:
-            raise Lost(f"{self.location}: {self.attempt.token()} does not exist any more")
+            raise ShardLost(f"{self.location}: {self.attempt.token()} does not exist any more")
 
     def text(self, link: AsyncStepLink | StepLink, value: str) -> str:
         """Return the statements that write the record and commit."""
@@ -168,7 +168,7 @@ class Transactions:
         self._pool = Pool(url, max_connections, self._prepares)
         self._timer: asyncio.TimerHandle | None = None
         self._entered: Attempt | None = None
-        self._take: Take = self._taken_at_once
+        self._take: TakeConnection = self._taken_at_once
 
     async def close(self) -> None:
         """Close the connections."""
@@ -198,7 +198,7 @@ class Transactions:
         """Call a function as `invocation.call` does, and commit its transaction.
 
         If the function did nothing over its connection, nothing is committed, and no record is
-        written. Raises `Lost` if it is unknown whether the transaction was committed, or if another
+        written. Raises `ShardLost` if it is unknown whether the transaction was committed, or if another
         node owns the shard. Then the record is looked up.
         """
         function = manner.function
@@ -234,7 +234,7 @@ class Transactions:
         finally:
             loan.leave()
 
-    def enter(self, attempt: Attempt) -> Take | None:
+    def enter(self, attempt: Attempt) -> TakeConnection | None:
         """Provide a connection for an async function that is called now.
 
         A function that asks for no connection before it first waits costs little more than one

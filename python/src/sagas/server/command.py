@@ -322,7 +322,7 @@ def listen_of(text: str) -> tuple[str, int]:
 def loaded(option: str, location: str) -> Any:
     """Return the value of a name in a module. Raises `Trouble`."""
     try:
-        return module_values.loaded(option, location)
+        return module_values.load_reference(option, location)
     except ValueError as error:
         raise Trouble(str(error)) from error
 

@@ -17,7 +17,7 @@ from typing import TYPE_CHECKING, Any, cast
 
 from sagas.base.errors import SagasError
 from sagas.base.logger import logger
-from sagas.core.batch import Batch, Born, Known, Loaded, SagaRow
+from sagas.core.batch import Batch, NewShard, StoredSaga, LoadedShard, SagaRow
 from sagas.definition.blobs import HEAD, BlobStore, BlobUnavailable, Reference
 from sagas.definition.payloads import ABSENT, Payloads
 from sagas.storage.blob_marks import Location, Marks
@@ -328,7 +328,7 @@ class BlobDatabase:
         else:
             self._inner.commit(batches, committed, True)
 
-    async def load(self, shard: int, epoch: int, born: Born | None) -> Loaded | None:
+    async def load(self, shard: int, epoch: int, born: NewShard | None) -> LoadedShard | None:
         """Load a shard. See `Database.load`.
 
         The large values of open sagas are fetched when a function needs them.
@@ -340,15 +340,15 @@ class BlobDatabase:
             loaded.results = cast(Any, await self.blobs.rows(held))
         return loaded
 
-    async def known(self, row: SagaRow) -> Known:
+    async def known(self, row: SagaRow) -> StoredSaga:
         """See `StoreReader.known`."""
         return await self._whole(await self._inner.known(row))
 
-    async def history(self, row: SagaRow) -> Known:
+    async def history(self, row: SagaRow) -> StoredSaga:
         """See `StoreReader.history`."""
         return await self._whole(await self._inner.history(row))
 
-    async def _whole(self, known: Known) -> Known:
+    async def _whole(self, known: StoredSaga) -> StoredSaga:
         shape = known.shape and await self.blobs.text(known.shape)
         results = cast(Any, await self.blobs.rows(known.results))
         return known._replace(results=results, shape=shape)

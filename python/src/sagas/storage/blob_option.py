@@ -5,7 +5,7 @@ from __future__ import annotations
 import pathlib
 from typing import Any
 
-from sagas.base.module_values import loaded
+from sagas.base.module_values import load_reference
 from sagas.storage.folder_blobs import FolderBlobStore
 
 
@@ -16,7 +16,7 @@ def blobs_of(location: str) -> Any:
         ValueError: It is neither a folder nor something that a module has.
     """
     if ":" in location:
-        return loaded("--blobs", location)
+        return load_reference("--blobs", location)
     if pathlib.Path(location).exists() and not pathlib.Path(location).is_dir():
         raise ValueError(f"--blobs {location}: this is a file; pass a directory, or MODULE:NAME")
     return FolderBlobStore(location)

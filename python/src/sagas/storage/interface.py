@@ -22,14 +22,14 @@ from typing import TYPE_CHECKING, Any, Optional, Protocol
 from sagas.base.errors import InvalidStore
 from sagas.core.batch import (
     Batch,
-    Born,
+    NewShard,
     Grant,
-    Known,
-    Loaded,
-    LogRow,
-    Request,
+    StoredSaga,
+    LoadedShard,
+    ShardRow,
+    PendingRequest,
     SagaRow,
-    Start,
+    PendingStart,
     Tail,
 )
 from sagas.core.step_transactions import StepTransactions
@@ -122,7 +122,7 @@ class Watcher(Protocol):
         the server may lack commits that were acknowledged.
         """
 
-    def taken(self, rows: list[LogRow]) -> None:
+    def taken(self, rows: list[ShardRow]) -> None:
         """This node owns these shards from now on."""
 
     def slots_freed(self) -> None:
@@ -199,10 +199,10 @@ class StoreReader(Protocol):
     async def text(self, shard: int) -> str:
         """Return a shard's event log, which may have many megabytes."""
 
-    async def known(self, row: SagaRow) -> Known:
+    async def known(self, row: SagaRow) -> StoredSaga:
         """Return what the store has of a saga. Raises `NoSuchSaga` if it was deleted."""
 
-    async def history(self, row: SagaRow) -> Known:
+    async def history(self, row: SagaRow) -> StoredSaga:
         """As `known`, with the chunks of the event log that name the saga."""
 
     def reader(self) -> Reader:
@@ -243,7 +243,7 @@ class Database(CommitWriter, StoreReader, Protocol):
 
     # -- opening and closing
 
-    async def open(self, check_functions: FunctionCheck) -> list[LogRow]:
+    async def open(self, check_functions: FunctionCheck) -> list[ShardRow]:
         """Create or migrate the tables, and return the open shards that this program drives.
 
         The shards are in order. Raises `StoreLocked`, `StoreUnavailable`, `StoreSchemaTooNew`,
@@ -300,7 +300,7 @@ class Database(CommitWriter, StoreReader, Protocol):
     async def find(self, key: str) -> SagaRow | None:
         """Return the saga with this key. Its input may be a reference to a blob."""
 
-    async def load(self, shard: int, epoch: int, born: Born | None) -> Loaded | None:
+    async def load(self, shard: int, epoch: int, born: NewShard | None) -> LoadedShard | None:
         """Return a shard as a runner loads it; None if another node owns it, or it is gone.
 
         Any commit of the shard that is on its way is in the result, or will never be written.
@@ -325,12 +325,12 @@ class Database(CommitWriter, StoreReader, Protocol):
         may be on its way.
         """
 
-    async def requests(self, after: int, limit: int) -> list[Request]:
+    async def requests(self, after: int, limit: int) -> list[PendingRequest]:
         """Return up to `limit` unanswered requests of this program's shards, after an id."""
 
     async def starts(
         self, limit: int, under_way: Sequence[int] | None, left: Sequence[int] = ()
-    ) -> list[Start]:
+    ) -> list[PendingStart]:
         """Return up to `limit` sagas that clients started, for this program to open.
 
         With `under_way`, also return those that this program took before and that are not among

@@ -12,8 +12,8 @@ from typing import Any
 
 from sagas.base.errors import NoSuchSaga
 from sagas.core import undo_check
-from sagas.core.batch import Known, LogRow, SagaRow
-from sagas.core.held_values import LARGE
+from sagas.core.batch import StoredSaga, ShardRow, SagaRow
+from sagas.core.held_values import LARGE_VALUE
 from sagas.core.undo_check import CompletedChild
 from sagas.definition import arguments
 from sagas.definition.capacity import SHARD_CAPACITY
@@ -32,7 +32,7 @@ def small(column: str) -> str:
 
     Large values of open sagas are read when a function needs them.
     """
-    return f"CASE WHEN length({column}) > {LARGE} THEN '{ABSENT}' ELSE {column} END"
+    return f"CASE WHEN length({column}) > {LARGE_VALUE} THEN '{ABSENT}' ELSE {column} END"
 
 
 OPEN = "s.id >= ? AND s.id < ? AND s.phase IS NULL"
@@ -285,12 +285,12 @@ class Rows:
         """Return the rows of a query."""
         raise NotImplementedError
 
-    def open_logs(self) -> list[LogRow]:
+    def open_logs(self) -> list[ShardRow]:
         """Return the shards that are not closed, in order."""
         rows = self.rows(f"{LOGS} WHERE closed = 0 ORDER BY shard")
         texts = texts_of(self.rows(TEXTS, rows[0][0], rows[-1][0]) if rows else [])
         return [
-            LogRow(shard, name, texts.get(shard, []), opened, open, note=note)
+            ShardRow(shard, name, texts.get(shard, []), opened, open, note=note)
             for shard, name, note, opened, open in rows
         ]
 
@@ -301,7 +301,7 @@ class Rows:
     def completed_children(self) -> dict[int, list[CompletedChild]]:
         """Return the completed children below the open sagas of each shard."""
         rows = self.rows(COMPLETED_IN_FILE)
-        return undo_check.by_shard(rows, self.rows(ALL_DEFINITIONS)) if rows else {}
+        return undo_check.children_by_shard(rows, self.rows(ALL_DEFINITIONS)) if rows else {}
 
     def find_now(self, key: str) -> SagaRow | None:
         """Return the saga with this key."""
@@ -334,7 +334,7 @@ def known_query(id: int, history: bool) -> tuple[Any, ...]:
     return HISTORY, id, id, id, shard, f'%"saga":{number},%', f'%"saga":{number}}}%'
 
 
-def known(rows: Sequence[tuple[Any, ...]], key: str) -> Known:
+def known(rows: Sequence[tuple[Any, ...]], key: str) -> StoredSaga:
     """Return what these rows contain. Raises `NoSuchSaga` if the saga was deleted."""
     parts: tuple[list[Any], ...] = [], [], [], []
     for row in sorted(rows, key=lambda row: row[:4]):
@@ -344,7 +344,7 @@ def known(rows: Sequence[tuple[Any, ...]], key: str) -> Known:
     ((*_, text, _),) = parts[0]
     chunks = [(at, chunk) for _, _, _, _, chunk, at in parts[2]]
     shape = parts[3][0][4] if parts[3] else None
-    return Known(text, parts[1], chunks, shape)
+    return StoredSaga(text, parts[1], chunks, shape)
 
 
 class Questions:
@@ -366,10 +366,10 @@ class Questions:
         """Return a shard's event log."""
         return joined(await self.read_long(LINES, shard))[0]
 
-    async def known(self, row: SagaRow) -> Known:
+    async def known(self, row: SagaRow) -> StoredSaga:
         """Return what the store has of a saga. Raises `NoSuchSaga` if it was deleted."""
         return known(await self.read(*known_query(row.id, history=False)), row.key)
 
-    async def history(self, row: SagaRow) -> Known:
+    async def history(self, row: SagaRow) -> StoredSaga:
         """As `known`, with the chunks of the event log that name the saga."""
         return known(await self.read_long(*known_query(row.id, history=True)), row.key)

@@ -9,7 +9,7 @@ from collections.abc import Callable
 from typing import Any, Protocol
 
 from sagas.base.errors import WrongStore
-from sagas.core.dispatch import Begun, Order, Position, id_of
+from sagas.core.dispatch import AttemptTexts, Order, Position, saga_id
 from sagas.core.outcomes import Outcome
 from sagas.definition.payloads import PLAIN
 from sagas.definition.step import Function
@@ -32,7 +32,7 @@ OPEN = (None, "unknown", "suspended")
 class WorkerSession(Protocol):
     """A worker's connection to the store, for one thread."""
 
-    def begin(self, order: Order) -> Begun | None:
+    def begin(self, order: Order) -> AttemptTexts | None:
         """Return the texts of an attempt.
 
         Return None if the attempt is closed: the message is late, or arrived twice. Raises
@@ -66,7 +66,7 @@ def open_worker_session(store: str) -> WorkerSession:
 
 def fetched(
     order: Order, rows: list[tuple[Any, ...]], read_text: Callable[..., str], store_name: str
-) -> Begun | None:
+) -> AttemptTexts | None:
     """Return the result of `BEGIN`, with the texts that the order does not contain."""
     if not rows:
         raise WrongStore(
@@ -77,7 +77,7 @@ def fetched(
     shard, attempt, outcome = rows[0]
     if attempt is None or outcome not in OPEN:
         return None
-    id = id_of(shard, order.number)
+    id = saga_id(shard, order.number)
 
     def whole(text: str | Position) -> str:
         return stored(RESULT, id, text.step) if isinstance(text, Position) else text
@@ -86,7 +86,7 @@ def fetched(
         return PLAIN.decode(read_text(*query))
 
     results = {name: whole(text) for name, text in order.results.items()}
-    return Begun(
+    return AttemptTexts(
         stored(INPUT, id) if order.input is None else order.input,
         results,
         None if order.result is None else whole(order.result),

@@ -13,7 +13,7 @@ class Engine:
     """A process `sagas drive` for one definition, for use by `with`."""
 
     def __init__(self, definition: str) -> None:
-        self._texts = program.Texts([definition])
+        self._texts = program.TextFiles([definition])
         try:
             command = [program.path(), "drive", *self._texts.paths]
             self._process = subprocess.Popen(
@@ -26,7 +26,7 @@ class Engine:
         except BaseException:
             self._texts.close()
             raise
-        self._texts.given()
+        self._texts.close_passed_files()
 
     def __enter__(self) -> Engine:
         return self

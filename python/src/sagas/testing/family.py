@@ -87,7 +87,7 @@ class Family:
         simulation, kind, _ = self._members[key]
         if trial.phase == SagaPhase.STUCK:  # as if an operator had resolved it
             trial = dataclasses.replace(trial, phase=SagaPhase.RESOLVED.value)
-        outcome = children.outcome(trial, kind, simulation.saga.results)
+        outcome = children.child_outcome(trial, kind, simulation.saga.results)
         assert outcome
         return Outcome(SUCCEEDED, "null") if attempt.undo and outcome.kind is SUCCEEDED else outcome
 
@@ -97,7 +97,7 @@ class Family:
             return children.child_input(attempt)()
         simulation, kind, token = self._members[key]
         saga_instance = simulation.saga
-        undone = children.left_by(self.trials[key].states, ())
+        undone = children.undone_steps(self.trials[key].states, ())
         text, results = saga_instance.text, saga_instance.results
         return children.undo_input(key, token, kind, text, results, undone)
 

@@ -21,11 +21,11 @@ from sagas.core import early_reports, outcomes, protocol
 from sagas.core.attempts import AttemptMachine
 from sagas.core.decisions import Decision, Do
 from sagas.core.effects import Abort, Effects
-from sagas.core.exhaustion import FAILED_BEFORE
-from sagas.core.history import STANDS, fan_of
+from sagas.core.exhaustion import AFTER_FAILURE
+from sagas.core.history import EFFECT_STATES, fan_of
 from sagas.core.model import RUNNING, SUSPENDED, Attempt, SagaInstance
 from sagas.core.outcomes import Outcome
-from sagas.core.shard import MOST_CLAIMS, ShardDriver, ShardIdentity
+from sagas.core.shard import MAX_CLAIMS, ShardDriver, ShardIdentity
 from sagas.core.shard_definitions import ShardDefinitions
 from sagas.core.states import Action, OutcomeKind, Suspension, saga_phase, step_state
 from sagas.core.suspensions import SuspensionRow
@@ -213,7 +213,7 @@ class Simulation:
         """Return how many tasks may be claimed."""
         maximum = self._scenario.concurrency
         if maximum is None:
-            return MOST_CLAIMS
+            return MAX_CLAIMS
         return maximum - sum(attempt.state is RUNNING for attempt in self._saga.busy.values())
 
     def _drain(self, saga: SagaInstance) -> None:
@@ -222,7 +222,7 @@ class Simulation:
 
     def _commit(self, effects: Effects) -> None:
         """Apply effects as if the store had committed them."""
-        self._driver.writes(effects)
+        self._driver.begin_commit(effects)
         self._driver.committed(effects)
         for attempt in effects.reported:
             declared = self._kind.declared_name(attempt.step)
@@ -250,9 +250,9 @@ class Simulation:
                 self._note(attempt, attempt.outcome)
             self._driver.report(attempt)
         elif decision.do is Do.ASK:
-            assert decision.question
-            attempt.rare.returned |= decision.question.answers()
-            self._do(attempt, self._machine.go_on(attempt, self._clock()))
+            assert decision.option_calls
+            attempt.rare.returned |= decision.option_calls.answers()
+            self._do(attempt, self._machine.decide_again(attempt, self._clock()))
         elif decision.do is Do.OFFER:
             self._put(self._clock(), Due.ANSWER, attempt)
         elif decision.do is Do.FOLLOW and attempt not in self._followed:
@@ -266,9 +266,9 @@ class Simulation:
     def _suspend(self, attempt: Attempt, row: SuspensionRow) -> None:
         if row.reason is Suspension.CANNOT_DECODE:
             raise CannotDecode(row.error)
-        if row.reason in FAILED_BEFORE and attempt.outcome:
+        if row.reason in AFTER_FAILURE and attempt.outcome:
             self._note(attempt, attempt.outcome)
-        attempt.has_row, attempt.pending = True, row
+        attempt.has_row, attempt.pending_row = True, row
         self._commit(self._driver.suspended(attempt, row, self._clock()))
 
     def _stored(self, attempt: Attempt) -> None:
@@ -308,8 +308,8 @@ class Simulation:
         outcome = await self._call(attempt)
         if outcome.kind is not OutcomeKind.SUCCEEDED:
             return outcome
-        self._returns[attempt.word] += 1
-        error = self._scenario.rule("unknown", attempt, self._returns[attempt.word])
+        self._returns[attempt.action_key] += 1
+        error = self._scenario.rule("unknown", attempt, self._returns[attempt.action_key])
         return outcome if error is None else outcomes.unknown(str(error))
 
     async def _call(self, attempt: Attempt) -> Outcome:
@@ -395,7 +395,7 @@ class Simulation:
     def _trial(self, engine: Engine) -> Trial:
         reply = json.loads(engine.ask([protocol.show_line(0)])[0])
         names, answer = self._kind.names, self._saga.answer or {}
-        committed = [n for n, state in enumerate(reply["states"]) if step_state(state) in STANDS]
+        committed = [n for n, state in enumerate(reply["states"]) if step_state(state) in EFFECT_STATES]
         return Trial(
             phase=saga_phase(reply["phase"], answer.get("kind") == "plan", None).value,
             states={name: step_state(text).value for name, text in zip(names, reply["states"])},

@@ -7,7 +7,7 @@ import datetime
 from typing import Any
 
 from sagas.core.outcomes import FAILED, PERMANENT, SUCCEEDED
-from sagas.core.results import Answering
+from sagas.core.results import EndQueries
 from sagas.definition.control import Progress
 from sagas.definition.fan import FIXED, Fan
 
@@ -66,7 +66,7 @@ class Call:
 
 
 @dataclasses.dataclass(frozen=True, slots=True)
-class Trial(Answering):
+class Trial(EndQueries):
     """Hold the result of a saga in a test. Made by `run`.
 
     Attributes:

@@ -17,7 +17,7 @@ import json
 from collections.abc import Callable, Iterable, Mapping, Sequence
 from typing import Any
 
-from sagas.core.batch import Batch, Ended, HeldRow, Opened, Rare, Tail
+from sagas.core.batch import Batch, EndedRow, StoredSuspension, OpenedRow, RareRows, Tail
 from sagas.core.states import EarlyReason
 from sagas.definition import tokens
 from sagas.definition.capacity import SHARD_CAPACITY
@@ -132,7 +132,7 @@ def _free(name: str) -> str:
     return f"NOT EXISTS (SELECT 1 FROM taken WHERE taken.shard = {name}.shard)"
 
 
-def _attempts(rare: Rare, part: str) -> Sequence[Sequence[Any]]:
+def _attempts(rare: RareRows, part: str) -> Sequence[Sequence[Any]]:
     """Return the rows of a part, each of which is about an external attempt."""
     if part not in EXTERNAL:
         return ()
@@ -142,7 +142,7 @@ def _attempts(rare: Rare, part: str) -> Sequence[Sequence[Any]]:
     return rows
 
 
-def _undone(row: HeldRow) -> HeldRow:
+def _undone(row: StoredSuspension) -> StoredSuspension:
     """Return the row of a report for which nothing is left to be undone."""
     is_report = row[3] == 0 and row[4] == EarlyReason.RESULT
     return (*row[:4], EarlyReason.UNDONE.value, *row[5:]) if is_report else row
@@ -182,7 +182,7 @@ EXTERNAL = ("offers", "suspended", "withdrawn", "settled")
 Only the last row of an attempt counts, since a statement changes a row once, whatever the order of
 its parts. `settled` is always the last.
 """
-PLAIN: dict[str, Callable[[int, Rare], Iterable[Any]]] = {
+PLAIN: dict[str, Callable[[int, RareRows], Iterable[Any]]] = {
     "shapes": lambda shard, rare: rare.shapes,
     "labels": lambda shard, rare: rare.labels,
     "children": lambda shard, rare: rare.children,
@@ -219,11 +219,11 @@ class Commit:
     ) -> None:
         self.batches = batches
         self.tails = tails
-        self.epochs = {batch.log: batch.epoch for batch in batches if batch.log >= 0}
+        self.epochs = {batch.shard: batch.epoch for batch in batches if batch.shard >= 0}
         self.events: dict[int, int] = {}
         self._before = events
         self.parts: dict[str, Sequence[Any]] = {}
-        self.rare: list[tuple[int, Rare]] = []
+        self.rare: list[tuple[int, RareRows]] = []
         self.has_moved = False
         if len(batches) == 1:
             self._put_one(batches[0])
@@ -251,16 +251,16 @@ class Commit:
     def _put_one(self, batch: Batch) -> None:
         rows = self.parts
         if batch.text:
-            rows["lines"] = [(batch.log, self._lines(batch), batch.at, batch.text, batch.epoch)]
+            rows["lines"] = [(batch.shard, self._lines(batch), batch.at, batch.text, batch.epoch)]
         if batch.opened or batch.ended:
             self._put_sagas(batch.opened, batch.ended)
         if batch.results:
             rows["results"] = batch.results
-        if batch.guessed:
-            rows["guessed"] = [(batch.log, key) for key in batch.guessed]
+        if batch.unchecked_keys:
+            rows["guessed"] = [(batch.shard, key) for key in batch.unchecked_keys]
         if batch.rare:
-            self.rare.append((batch.log, batch.rare))
-        if batch.rare or batch.born:
+            self.rare.append((batch.shard, batch.rare))
+        if batch.rare or batch.new_shard:
             self._others()
 
     def _put_many(self, batches: Sequence[Batch]) -> None:
@@ -268,25 +268,25 @@ class Commit:
         for batch in batches:
             if batch.text:
                 had = self._lines(batch)
-                chunks.setdefault(batch.log, (had, batch.at, []))[2].append(batch.text)
+                chunks.setdefault(batch.shard, (had, batch.at, []))[2].append(batch.text)
         rows: dict[str, Sequence[Any]] = {
             "lines": [
                 (shard, first, at, "".join(texts), self.epochs[shard])
                 for shard, (first, at, texts) in chunks.items()
             ],
             "results": [row for batch in batches for row in batch.results],
-            "guessed": [(batch.log, key) for batch in batches for key in batch.guessed],
+            "guessed": [(batch.shard, key) for batch in batches for key in batch.unchecked_keys],
         }
         self.parts.update(
             (part, rows_of_part) for part, rows_of_part in rows.items() if rows_of_part
         )
         opened = [row for batch in batches for row in batch.opened]
         self._put_sagas(opened, [row for batch in batches for row in batch.ended])
-        self.rare += [(batch.log, batch.rare) for batch in batches if batch.rare]
-        if self.rare or any(batch.born for batch in batches):
+        self.rare += [(batch.shard, batch.rare) for batch in batches if batch.rare]
+        if self.rare or any(batch.new_shard for batch in batches):
             self._others()
 
-    def _put_sagas(self, opened: Sequence[Opened], ended: Sequence[Ended]) -> None:
+    def _put_sagas(self, opened: Sequence[OpenedRow], ended: Sequence[EndedRow]) -> None:
         ends = {row[-1]: row for row in ended} if opened else {}
         if over := [(*row, *ends[row[0]][:-1]) for row in opened if row[0] in ends]:
             self.parts["opened_over"] = over
@@ -296,7 +296,7 @@ class Commit:
         self._put_opened(opened)
         self._put_ended(ended)
 
-    def _put_opened(self, rows: Sequence[Opened]) -> None:
+    def _put_opened(self, rows: Sequence[OpenedRow]) -> None:
         for row in rows:
             if row[6] is not None or row[7] is not None:
                 self.parts["opened_with"] = rows
@@ -304,7 +304,7 @@ class Commit:
         if rows:
             self.parts["opened"] = [row[:6] for row in rows]
 
-    def _put_ended(self, rows: Sequence[Ended]) -> None:
+    def _put_ended(self, rows: Sequence[EndedRow]) -> None:
         for row in rows:
             if row[2] or row[3]:
                 self.parts["ended_with"] = rows
@@ -314,7 +314,7 @@ class Commit:
 
     def _lines(self, batch: Batch) -> int:
         """Return the number of events of its shard before it."""
-        shard = batch.log
+        shard = batch.shard
         had = self.events[shard] if shard in self.events else self._before(shard)
         if batch.first != had:
             raise ValueError(f"shard {shard}: event {batch.first} follows event {had}")
@@ -323,7 +323,7 @@ class Commit:
 
     def _held(self) -> None:
         """Put the last state of each suspended attempt."""
-        held: dict[tuple[int, int, str], dict[int, HeldRow]] = {}
+        held: dict[tuple[int, int, str], dict[int, StoredSuspension]] = {}
         freed: dict[tuple[int, int, str], int] = {}
         for _, rare in self.rare:
             for row in rare.held:
@@ -357,7 +357,7 @@ class Commit:
         has = {part for _, rare in self.rare for part in rare.parts}
         if "held" in has or "freed" in has:
             self._held()
-        if "defined" in has or any(batch.born for batch in self.batches):
+        if "defined" in has or any(batch.new_shard for batch in self.batches):
             self._definitions()
         if "cancelled" in has or not has.isdisjoint(EXTERNAL):
             self._external()
@@ -373,7 +373,7 @@ class Commit:
             self.parts[part] = rows
 
     def _definitions(self) -> None:
-        born = {batch.log: batch.born for batch in self.batches if batch.born}
+        born = {batch.shard: batch.new_shard for batch in self.batches if batch.new_shard}
         self._put("born", [(shard, name) for shard, (name, _) in born.items()])
         defined = {(shard, *row) for shard, (_, rows) in born.items() for row in rows}
         defined |= {(shard, *row) for shard, rare in self.rare for row in rare.defined}

@@ -10,7 +10,7 @@ from collections.abc import Callable, Coroutine, Sequence
 from typing import Any
 
 from sagas.base.errors import NoSuchSaga, StoreUnavailable
-from sagas.core.batch import Known, SagaRow
+from sagas.core.batch import StoredSaga, SagaRow
 from sagas.storage import queries
 from sagas.storage.postgresql.connections import Asker
 
@@ -36,16 +36,16 @@ class Lookups:
 
     def __init__(self, asker: Asker, spawn: Callable[[Coroutine[Any, Any, None]], object]) -> None:
         self._asker, self._spawn = asker, spawn
-        self._wanted: dict[int, list[asyncio.Future[Known | None]]] = {}
+        self._wanted: dict[int, list[asyncio.Future[StoredSaga | None]]] = {}
         self._texts: dict[str, str] = {}
         self._is_looking = False
 
-    async def known(self, row: SagaRow) -> Known:
+    async def known(self, row: SagaRow) -> StoredSaga:
         """Return what the store has of a saga.
 
         Raises `NoSuchSaga` if it was deleted since its row was read, and `StoreUnavailable`.
         """
-        future: asyncio.Future[Known | None] = asyncio.get_running_loop().create_future()
+        future: asyncio.Future[StoredSaga | None] = asyncio.get_running_loop().create_future()
         self._wanted.setdefault(row.id, []).append(future)
         if not self._is_looking:
             self._is_looking = True
@@ -72,7 +72,7 @@ class Lookups:
             self._is_looking = False
 
     def _resolve(
-        self, futures: dict[int, list[asyncio.Future[Known | None]]], known: dict[int, Known]
+        self, futures: dict[int, list[asyncio.Future[StoredSaga | None]]], known: dict[int, StoredSaga]
     ) -> None:
         for id, waiting in futures.items():
             for future in waiting:
@@ -80,7 +80,7 @@ class Lookups:
                     future.set_result(known.get(id))
 
     def _fail(
-        self, futures: dict[int, list[asyncio.Future[Known | None]]], error: BaseException
+        self, futures: dict[int, list[asyncio.Future[StoredSaga | None]]], error: BaseException
     ) -> None:
         """Fail these lookups.
 
@@ -94,7 +94,7 @@ class Lookups:
                 if not future.done():
                     future.set_exception(error)
 
-    async def _ask(self, ids: Sequence[int]) -> dict[int, Known]:
+    async def _ask(self, ids: Sequence[int]) -> dict[int, StoredSaga]:
         digests_and_shapes: dict[int, tuple[str, str | None]] = {}
         results: dict[int, list[Any]] = {id: [] for id in ids}
         for id, step, action, attempt, event, value, at in await self._asker.read(KNOWN, ids=ids):
@@ -104,7 +104,7 @@ class Lookups:
                 results[id].append((step, action, attempt, event, value, at))
         await self._fetch({digest for digest, _ in digests_and_shapes.values()})
         return {
-            id: Known(self._texts[digest], sorted(results[id], key=lambda row: row[:3]), [], shape)
+            id: StoredSaga(self._texts[digest], sorted(results[id], key=lambda row: row[:3]), [], shape)
             for id, (digest, shape) in digests_and_shapes.items()
         }
 

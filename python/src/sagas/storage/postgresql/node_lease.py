@@ -22,7 +22,7 @@ import tomllib
 from sagas.base.logger import logger
 from sagas.base.wording import number
 from sagas.core import undo_check
-from sagas.core.batch import LogRow
+from sagas.core.batch import ShardRow
 from sagas.core.undo_check import CompletedChild
 from sagas.definition.capacity import SHARD_CAPACITY
 from sagas.definition.compiled import version_of
@@ -321,7 +321,7 @@ class Lease:
         self._has_reported_codec = True
         logger.error("%s. This node does nothing more", missing(self._asker.store_name))
 
-    async def take(self, check_functions: FunctionCheck, mine: list[int]) -> list[LogRow] | None:
+    async def take(self, check_functions: FunctionCheck, mine: list[int]) -> list[ShardRow] | None:
         """Take a batch of the shards without a node, if this program has their functions.
 
         Return None if there are no more, or if other nodes take them.
@@ -361,9 +361,9 @@ class Lease:
         if not rows:
             return {}
         digests = [*{digest for _, _, parent, _, child in rows for digest in (parent, child)}]
-        return undo_check.by_shard(rows, await self._asker.read(TEXTS_OF, digests=digests))
+        return undo_check.children_by_shard(rows, await self._asker.read(TEXTS_OF, digests=digests))
 
-    async def _has(self, check_functions: FunctionCheck, taken: list[int]) -> list[LogRow]:
+    async def _has(self, check_functions: FunctionCheck, taken: list[int]) -> list[ShardRow]:
         """Return the shards that were just taken.
 
         A saga that was opened before the takeover may need a function that this program does not
@@ -374,7 +374,7 @@ class Lease:
             for (text,) in await self._asker.read(TAKEN, node=self.node, shards=taken)
         ]
         fit = await self._fit(check_functions, [(row[0], row[2], row[6], row[5]) for row in rows])
-        return [LogRow(*row[:6], *row[7:]) for row in rows if row[0] in fit]
+        return [ShardRow(*row[:6], *row[7:]) for row in rows if row[0] in fit]
 
     async def end(self) -> None:
         """Release all that this node has."""

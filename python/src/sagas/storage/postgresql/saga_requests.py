@@ -8,7 +8,7 @@ from collections.abc import Sequence
 from typing import Any
 
 from sagas.base.errors import NoSuchSaga, StoreUnavailable
-from sagas.core.batch import Request, SagaRow, Start
+from sagas.core.batch import PendingRequest, SagaRow, PendingStart
 from sagas.core.pending import check_refused
 from sagas.definition.capacity import SHARD_CAPACITY
 from sagas.definition.payloads import Payloads
@@ -57,7 +57,7 @@ FIND_NOW = queries.named(FIND_ONE.replace("$1", "?"), "key", "key")
 
 async def pending_requests(
     asker: connections.Asker, node: str, after: int, limit: int
-) -> list[Request]:
+) -> list[PendingRequest]:
     """Return the unanswered requests of a node's shards, and those for any node.
 
     See `Database.requests`.
@@ -73,7 +73,7 @@ async def take_starts(
     limit: int,
     under_way: Sequence[int] | None,
     left: Sequence[int],
-) -> list[Start]:
+) -> list[PendingStart]:
     """Take starts of these sagas that clients added, for a node to open."""
     mine = None if under_way is None else list(under_way)
     parameters = {"node": node, "sagas": [*sagas], "most": limit, "mine": mine, "left": [*left]}

@@ -14,7 +14,7 @@ from typing import Any, NamedTuple
 import psycopg
 
 from sagas.base.errors import StoreUnavailable
-from sagas.core.batch import Born, HeldRow, Loaded, OpenRow, Result, Tail
+from sagas.core.batch import NewShard, StoredSuspension, LoadedShard, OpenSagaRow, ResultRow, Tail
 from sagas.definition.capacity import SHARD_CAPACITY
 from sagas.storage import queries
 from sagas.storage.postgresql import connections
@@ -91,10 +91,10 @@ class LoadRequest(NamedTuple):
 
     shard: int
     epoch: int
-    born: Born | None
-    loaded_shard: asyncio.Future[Loaded | None]
+    born: NewShard | None
+    loaded_shard: asyncio.Future[LoadedShard | None]
 
-    def resolve(self, loaded: Loaded | None, failure: Exception | None = None) -> None:
+    def resolve(self, loaded: LoadedShard | None, failure: Exception | None = None) -> None:
         """Answer the caller, if it still waits."""
         if not self.loaded_shard.done():
             self.loaded_shard.set_exception(failure) if failure else self.loaded_shard.set_result(
@@ -164,7 +164,7 @@ class ShardLoader:
             self._record.read((shard, epoch, timeline), read.events, read.text)
         return read
 
-    async def load(self, shard: int, epoch: int, born: Born | None) -> Loaded | None:
+    async def load(self, shard: int, epoch: int, born: NewShard | None) -> LoadedShard | None:
         """See `Database.load`."""
         request = LoadRequest(shard, epoch, born, asyncio.get_running_loop().create_future())
         if born:
@@ -176,7 +176,7 @@ class ShardLoader:
                 self._spawn(self._load())
         loaded = await request.loaded_shard
         if loaded and self._record:
-            self._record.took((shard, loaded.epoch, loaded.line), loaded.events, loaded.text)
+            self._record.took((shard, loaded.epoch, loaded.timeline), loaded.events, loaded.text)
         return loaded
 
     async def _load(self) -> None:
@@ -239,8 +239,8 @@ class ShardLoader:
                 loaded = None
                 if shard in epochs:
                     loaded = _loaded(text or "", opened, json.loads(sagas or "[]"))
-                    loaded.epoch, loaded.line = epochs[shard], timeline
-                    loaded.definitions = defined
+                    loaded.epoch, loaded.timeline = epochs[shard], timeline
+                    loaded.definition_count = defined
                     if tail is not None:
                         first, at, lines = json.loads(tail)
                         loaded.tail = Tail(first, float(at))
@@ -252,7 +252,7 @@ class ShardLoader:
             request.resolve(None)
         return locked
 
-    async def _alone(self, request: LoadRequest) -> Loaded | None:
+    async def _alone(self, request: LoadRequest) -> LoadedShard | None:
         """Load a shard row by row, for any size."""
         low, high = queries.bounds(request.shard)
         parameters = {
@@ -285,13 +285,15 @@ class ShardLoader:
                 await rows(query)
                 for query in (queries.OPEN_SAGAS, queries.OPEN_RESULTS, queries.OPEN_HELD)
             ]
-        loaded = Loaded(text, events, opened, open, results, held, definitions=defined, tail=tail)
+        loaded = LoadedShard(
+            text, events, opened, open, results, held, definition_count=defined, tail=tail
+        )
         loaded.damage = queries.damage_of(text, events)
-        ((loaded.epoch, loaded.line),) = taken
+        ((loaded.epoch, loaded.timeline),) = taken
         return loaded
 
 
-def _born(born: Born) -> dict[str, Any]:
+def _born(born: NewShard) -> dict[str, Any]:
     """Return a shard's name and definitions as parameters of `BORN`."""
     name, defined = born
     places, digests, texts = zip(*defined) if defined else ((), (), ())
@@ -304,14 +306,14 @@ def _was_answered(failure: Exception) -> bool:
     return isinstance(cause, TimeoutError) or getattr(cause, "sqlstate", None) is not None
 
 
-def _loaded(text: str, opened: int, sagas: Sequence[Any]) -> Loaded:
+def _loaded(text: str, opened: int, sagas: Sequence[Any]) -> LoadedShard:
     """Return a shard from its cells. JSON may have whole numbers of seconds."""
-    results: list[Result] = [
+    results: list[ResultRow] = [
         (id, step, action, attempt, outcome, value, float(at))
         for saga in sagas
         for id, step, action, attempt, outcome, value, at in saga[5] or ()
     ]
-    held: list[HeldRow] = [
+    held: list[StoredSuspension] = [
         (
             id,
             step,
@@ -326,7 +328,7 @@ def _loaded(text: str, opened: int, sagas: Sequence[Any]) -> Loaded:
         for saga in sagas
         for id, step, action, attempt, reason, count, since, until, error in saga[6] or ()
     ]
-    open: list[OpenRow] = [
+    open: list[OpenSagaRow] = [
         (
             id,
             key,
@@ -338,4 +340,4 @@ def _loaded(text: str, opened: int, sagas: Sequence[Any]) -> Loaded:
         )
         for id, key, definition_index, text, deadline, _, _, traceparent, shape in sagas
     ]
-    return Loaded(text, text.count("\n"), opened, open, results, held)
+    return LoadedShard(text, text.count("\n"), opened, open, results, held)

@@ -9,7 +9,17 @@ from typing import Any
 
 from sagas.base.errors import StoreUnavailable
 from sagas.base.logger import logger
-from sagas.core.batch import Batch, Born, Grant, Known, Loaded, LogRow, Request, SagaRow, Start
+from sagas.core.batch import (
+    Batch,
+    NewShard,
+    Grant,
+    StoredSaga,
+    LoadedShard,
+    ShardRow,
+    PendingRequest,
+    SagaRow,
+    PendingStart,
+)
 from sagas.definition.payloads import Payloads
 from sagas.definition.serialization import cleaned
 from sagas.definition.step import Bounds
@@ -159,7 +169,7 @@ class PostgreSQL(queries.Questions):
 
     # -- opening and closing
 
-    async def open(self, check_functions: FunctionCheck) -> list[LogRow]:
+    async def open(self, check_functions: FunctionCheck) -> list[ShardRow]:
         """Migrate older tables, and return the shards that this node takes over.
 
         It keeps the lease from now on.
@@ -175,9 +185,9 @@ class PostgreSQL(queries.Questions):
         self._spawn(self._keep())
         if self.record:
             self.record.moved(self._timeline)
-        rows: list[LogRow] = []
+        rows: list[ShardRow] = []
         while (
-            taken := await self.lease.take(check_functions, [row.log for row in rows])
+            taken := await self.lease.take(check_functions, [row.shard for row in rows])
         ) is not None:
             rows += taken
         await self._numbers.fill()
@@ -292,7 +302,7 @@ class PostgreSQL(queries.Questions):
             rows = await self.lease.take(self._check_functions, self._watcher.logs())
             if rows is not None:  # the next heartbeat takes the next batch
                 for row in rows:
-                    self._writer.forget(row.log)
+                    self._writer.forget(row.shard)
                 self._watcher.taken(rows)
                 self._turn.set()
         if has_requests:
@@ -451,7 +461,7 @@ class PostgreSQL(queries.Questions):
         """See `KeyFinder.find`."""
         return await self._keys.find(key)
 
-    async def load(self, shard: int, epoch: int, born: Born | None) -> Loaded | None:
+    async def load(self, shard: int, epoch: int, born: NewShard | None) -> LoadedShard | None:
         """Load a shard under a new epoch, which fences commits under way.
 
         Return None if another node owns it, or it is gone.
@@ -459,7 +469,7 @@ class PostgreSQL(queries.Questions):
         timeline = self._timeline
         loaded = await self._loader.load(shard, epoch, born)
         self._check_line(
-            loaded.line if loaded else timeline
+            loaded.timeline if loaded else timeline
         )  # its connection may be to a former server
         await self._continuity.compare(shard, loaded.events if loaded else None)
         if loaded:
@@ -491,13 +501,13 @@ class PostgreSQL(queries.Questions):
         self._writer.reached(shard, event_log.events, event_log.tail)
         return event_log.text, event_log.events
 
-    async def requests(self, after: int, limit: int) -> list[Request]:
+    async def requests(self, after: int, limit: int) -> list[PendingRequest]:
         """Return unanswered requests of this node's shards."""
         return await saga_requests.pending_requests(self.asker, self.lease.node, after, limit)
 
     async def starts(
         self, limit: int, under_way: Sequence[int] | None, left: Sequence[int] = ()
-    ) -> list[Start]:
+    ) -> list[PendingStart]:
         """Return sagas that clients started, for this node to open."""
         node, sagas = self.lease.node, self._sagas
         return await saga_requests.take_starts(self.asker, node, sagas, limit, under_way, left)
@@ -528,7 +538,7 @@ class PostgreSQL(queries.Questions):
         """Return the rows of a query."""
         return await self._questions.rows(queries.for_postgresql(query), *cleaned(parameters))
 
-    async def known(self, row: SagaRow) -> Known:
+    async def known(self, row: SagaRow) -> StoredSaga:
         """Return what the store has of a saga, in one lookup with other callers."""
         return await self._lookups.known(row)
 

@@ -13,7 +13,7 @@ from psycopg.rows import tuple_row
 
 from sagas.base.errors import StoreUnavailable, Unknown
 from sagas.core import outcomes
-from sagas.core.dispatch import Begun, Order, Settled
+from sagas.core.dispatch import AttemptTexts, Order, AlreadyReported
 from sagas.core.outcomes import Outcome
 from sagas.definition import awaitables
 from sagas.definition.step import Function
@@ -55,7 +55,7 @@ class PostgreSQLWorkerSession:
             self.close()
             raise
 
-    def begin(self, order: Order) -> Begun | None:
+    def begin(self, order: Order) -> AttemptTexts | None:
         """Return the texts that the order does not contain.
 
         Return None if the attempt is closed. Raises `WrongStore`, `StoreUnavailable`.
@@ -110,7 +110,7 @@ class PostgreSQLWorkerSession:
                 value = awaitables.plain_result(function(task))
                 recorded = connection.execute(RECORD, record(connection, value), prepare=False)
                 if not recorded.fetchall():
-                    raise Settled(order.token)
+                    raise AlreadyReported(order.token)
                 connection.end(COMMIT, _nothing)
                 connection.begun, connection.is_set = None, False
             except BaseException as error:  # the state of its transaction is unknown
@@ -134,7 +134,7 @@ class PostgreSQLWorkerSession:
                     RECORD, record(connection, value), prepare=False
                 )
                 if not await recorded.fetchall():
-                    raise Settled(order.token)
+                    raise AlreadyReported(order.token)
                 await connection.end("COMMIT", _nothing)
             except psycopg.OperationalError as error:
                 raise Unknown(str(error)) from error

@@ -228,9 +228,9 @@ class Writer:
         lost: set[int] = set()
         failure: Exception | None = None
         try:
-            for shard in dict.fromkeys(batch.log for batch in batches):
+            for shard in dict.fromkeys(batch.shard for batch in batches):
                 lost |= await self._written(
-                    shard, [batch for batch in batches if batch.log == shard]
+                    shard, [batch for batch in batches if batch.shard == shard]
                 )
         except Exception as error:
             failure = error

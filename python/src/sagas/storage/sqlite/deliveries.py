@@ -28,7 +28,7 @@ class SqliteDeliveries:
         def work(db: sqlite3.Connection) -> None:
             rows[:] = db.execute(*self._form(text, parameters)).fetchall()
 
-        batch.more.work.append(work)
+        batch.rare_rows.work.append(work)
         await self._write(batch)
         return rows
 

@@ -166,7 +166,7 @@ class SqliteExternalAttempts:
         def run(db: sqlite3.Connection) -> None:
             result[:] = [work(db)]
 
-        batch.more.work.append(run)
+        batch.rare_rows.work.append(run)
         await self.write(batch)
         return result[0]
 

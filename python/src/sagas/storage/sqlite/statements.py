@@ -7,7 +7,7 @@ import sqlite3
 from collections.abc import Callable, Iterable, Sequence
 from typing import Any
 
-from sagas.core.batch import Defined, Rare, Withdrawal
+from sagas.core.batch import DefinitionRow, RareRows, Withdrawal
 from sagas.definition.serialization import clean, cleaned
 from sagas.storage import external
 from sagas.storage.sqlite.deliveries import DELIVERIES
@@ -62,7 +62,7 @@ WHERE id = ? AND step = ? AND action = 'run' AND number = 0 AND reason = 'early_
 """
 CLOSED = "UPDATE shards SET closed = ?, audit = ? WHERE shard = ?"
 SET_ASIDE = "UPDATE shards SET audit = ? WHERE shard = ? AND closed = 0"
-RowsOf = Callable[[int, Rare], Sequence[Sequence[Any]]]
+RowsOf = Callable[[int, RareRows], Sequence[Sequence[Any]]]
 """The parameters of a part of a batch, by the number of its shard."""
 PARTS: dict[str, tuple[str, RowsOf]] = {
     "held": (HELD, lambda shard, rare: [cleaned(row) for row in rare.held]),
@@ -98,7 +98,7 @@ PARTS: dict[str, tuple[str, RowsOf]] = {
 """
 
 
-def define(db: sqlite3.Connection, shards: Iterable[tuple[int, Sequence[Defined]]]) -> None:
+def define(db: sqlite3.Connection, shards: Iterable[tuple[int, Sequence[DefinitionRow]]]) -> None:
     """Insert the definitions of shards that are not stored yet."""
     rows = [(shard, *row) for shard, defined in shards for row in defined]
     if rows:

@@ -22,9 +22,17 @@ from sagas.base.errors import (
     StoreLocked,
     StoreUnavailable,
 )
-from sagas.base.fork_guard import private
+from sagas.base.fork_guard import private_descriptors
 from sagas.base.logger import logger
-from sagas.core.batch import Born, Grant, Loaded, LogRow, Request, SagaRow, Start
+from sagas.core.batch import (
+    NewShard,
+    Grant,
+    LoadedShard,
+    ShardRow,
+    PendingRequest,
+    SagaRow,
+    PendingStart,
+)
 from sagas.definition.payloads import Payloads
 from sagas.definition.serialization import cleaned
 from sagas.definition.step import Bounds
@@ -105,7 +113,7 @@ class Sqlite(queries.Questions, queries.Rows):
 
     # -- opening and closing
 
-    async def open(self, check_functions: FunctionCheck) -> list[LogRow]:
+    async def open(self, check_functions: FunctionCheck) -> list[ShardRow]:
         """Take the lock and create the tables.
 
         Raises `StoreLocked`, `StoreUnavailable`, `InvalidStore` or `MissingStep`.
@@ -120,8 +128,8 @@ class Sqlite(queries.Questions, queries.Rows):
         rows = self.open_logs()
         completed = self.completed_children()
         for row in rows:
-            below = completed.get(row.log, [])
-            missing = check_functions(row.texts, self.places(row.log), below) if row.open else None
+            below = completed.get(row.shard, [])
+            missing = check_functions(row.texts, self.places(row.shard), below) if row.open else None
             if missing:
                 count = sum(row.open for row in rows)
                 hint = (
@@ -251,7 +259,7 @@ class Sqlite(queries.Questions, queries.Rows):
             self._lock = lock
             self._give_up(f"{error} The lock file was deleted while this program held it")
         else:
-            private.discard(lock)
+            private_descriptors.discard(lock)
             os.close(lock)
 
     def _give_up(self, reason: str) -> None:
@@ -359,7 +367,7 @@ class Sqlite(queries.Questions, queries.Rows):
         text, self._writer.events[shard] = queries.joined(self.rows(queries.LINES, shard))
         return text, self._writer.events[shard]
 
-    async def load(self, shard: int, epoch: int, born: Born | None) -> Loaded:
+    async def load(self, shard: int, epoch: int, born: NewShard | None) -> LoadedShard:
         """Load a shard. No batch of it may be on its way."""
         within = queries.bounds(shard)
         text, events = await self.take_up(shard, epoch)
@@ -368,8 +376,8 @@ class Sqlite(queries.Questions, queries.Rows):
             self.rows(query, *within)
             for query in (queries.OPEN_SAGAS, queries.OPEN_RESULTS, queries.OPEN_HELD)
         )
-        loaded = Loaded(text, events, opened, open, results, held, epoch)  # type: ignore[arg-type]
-        loaded.definitions = self.rows(queries.DEFINITIONS, shard)[0][0]
+        loaded = LoadedShard(text, events, opened, open, results, held, epoch)  # type: ignore[arg-type]
+        loaded.definition_count = self.rows(queries.DEFINITIONS, shard)[0][0]
         loaded.damage = queries.damage_of(text, events)
         return loaded
 
@@ -377,13 +385,13 @@ class Sqlite(queries.Questions, queries.Rows):
         """Return the saga with this key."""
         return self.find_now(key)
 
-    async def requests(self, after: int, limit: int) -> list[Request]:
+    async def requests(self, after: int, limit: int) -> list[PendingRequest]:
         """Return the requests without an answer."""
         return self.rows(queries.REQUESTS, after, limit)  # type: ignore[return-value]
 
     async def starts(
         self, limit: int, under_way: Sequence[int] | None, left: Sequence[int] = ()
-    ) -> list[Start]:
+    ) -> list[PendingStart]:
         """Return no starts: a program that starts a saga has the store open."""
         return []
 

@@ -12,7 +12,7 @@ import time
 from typing import Any
 
 from sagas.base.errors import InvalidStore, StoreSchemaTooNew, StoreUnavailable
-from sagas.base.fork_guard import private
+from sagas.base.fork_guard import private_descriptors
 from sagas.definition.serialization import cleaned
 from sagas.storage.sqlite.schema import STARTED, VERSION, statements
 from sagas.storage.sqlite.writer import BUSY, CHECKPOINT, LONG
@@ -146,7 +146,7 @@ def open_lock(path: str, access: int) -> int:
         raise StoreUnavailable(f"{path}: {remedy}") from error
     except OSError as error:
         raise StoreUnavailable(f"{path}: {error.strerror}") from error
-    private.add(lock)
+    private_descriptors.add(lock)
     return lock
 
 
@@ -190,7 +190,7 @@ def holder_of(path: str) -> str:
 
 def close_lock(lock: int) -> None:
     """Release a lock. A process that was just forked may still have it open."""
-    private.discard(lock)
+    private_descriptors.discard(lock)
     with contextlib.suppress(OSError):
         fcntl.flock(lock, fcntl.LOCK_UN)
     os.close(lock)

@@ -9,7 +9,7 @@ from typing import Any
 from urllib.parse import quote
 
 from sagas.base.errors import StoreUnavailable, WrongStore
-from sagas.core.dispatch import Begun, Order
+from sagas.core.dispatch import AttemptTexts, Order
 from sagas.core.outcomes import Outcome
 from sagas.definition.step import Function
 from sagas.storage.sqlite.external_attempts import REPORT
@@ -45,7 +45,7 @@ class SqliteWorkerSession:
                 ) from error
             raise StoreUnavailable(f"{self.path}: {error}") from error
 
-    def begin(self, order: Order) -> Begun | None:
+    def begin(self, order: Order) -> AttemptTexts | None:
         """Return the texts that the order does not contain.
 
         Return None if the attempt is closed. Raises `WrongStore`, `StoreUnavailable`.

@@ -18,7 +18,7 @@ import time
 from collections.abc import Callable, Iterable, Sequence
 from typing import Any
 
-from sagas.core.batch import Batch, Ended, Rare
+from sagas.core.batch import Batch, EndedRow, RareRows
 from sagas.storage.interface import CommitCallback
 from sagas.storage.sqlite import statements
 
@@ -244,10 +244,10 @@ class Writer:
         try:
             self._roll_back()
             self._begin(patient)
-            lost = frozenset(batch.log for batch in batches if self._is_refused(batch))
+            lost = frozenset(batch.shard for batch in batches if self._is_refused(batch))
             if not lost:
                 raise error
-            rest = [batch for batch in batches if batch.log not in lost]
+            rest = [batch for batch in batches if batch.shard not in lost]
             return self._put_rows(rest), lost
         except BaseException:
             self._roll_back()
@@ -262,7 +262,7 @@ class Writer:
         settled = batch.rare.settled if batch.rare else ()
         tokens = [token for token, _, outcome in settled if outcome is None]
         is_done = (self._db.execute(statements.DONE, (token,)).fetchone() for token in tokens)
-        return any(map(self._has, batch.guessed)) or any(is_done)
+        return any(map(self._has, batch.unchecked_keys)) or any(is_done)
 
     def _has(self, key: str) -> bool:
         """Whether a saga has the key."""
@@ -314,7 +314,7 @@ class Writer:
             ended = [row for batch in batches for row in batch.ended]
             shards: dict[int, list[Batch]] = {}
             for batch in batches:
-                shards.setdefault(batch.log, []).append(batch)
+                shards.setdefault(batch.shard, []).append(batch)
             for of in shards.values():
                 self._put_lines(of, events)
         if opened:
@@ -325,7 +325,7 @@ class Writer:
             self._put_ended(ended)
         for batch in batches:
             if batch.rare:
-                self._put_rare([(batch.log, batch.rare) for batch in batches if batch.rare])
+                self._put_rare([(batch.shard, batch.rare) for batch in batches if batch.rare])
                 break
         return events
 
@@ -334,11 +334,11 @@ class Writer:
 
         The shard's new number of events goes into `events`.
         """
-        shard = batches[0].log
+        shard = batches[0].shard
         had = has = self.events.get(shard, 0)
         for batch in batches:
-            if batch.born:
-                name, defined = batch.born
+            if batch.new_shard:
+                name, defined = batch.new_shard
                 statements.define(self._db, [(shard, defined)])
                 self._execute(
                     "INSERT OR IGNORE INTO shards(shard, name) VALUES(?, ?)", (shard, name)
@@ -352,7 +352,7 @@ class Writer:
             self._execute(statements.LINES, (shard, had, batch.at, text))
             events[shard] = has
 
-    def _put_ended(self, rows: Sequence[Ended]) -> None:
+    def _put_ended(self, rows: Sequence[EndedRow]) -> None:
         """Update ended sagas. Most of them ended in the same way, and at the same time."""
         if len(rows) == 1:
             self._execute(statements.of_rows(statements.ENDED, 1, 1), rows[0])
@@ -363,7 +363,7 @@ class Writer:
         for way, ids in ways.items():
             self._put_many(statements.ENDED, 1, ids, way)
 
-    def _put_rare(self, rare: Sequence[tuple[int, Rare]]) -> None:
+    def _put_rare(self, rare: Sequence[tuple[int, RareRows]]) -> None:
         """Write the rare parts of shards with these numbers."""
         has = {part for _, parts in rare for part in parts.parts}
         if "defined" in has:
