@@ -67,8 +67,12 @@ class Rules:
         self.exceptions = [(name, files) for name, files, _ in rows]
 
     def is_exception(self, name: str, file: str) -> bool:
-        """Return whether a file may have a name."""
+        """Return whether a file may have a name, or a word in its texts."""
         return any(name == other and fnmatch(file, files) for other, files in self.exceptions)
+
+    def wordings_of(self, file: str) -> list[avoided.Avoided]:
+        """Return the words that a file of code may not have."""
+        return [word for word in self.code if not self.is_exception(word.word, file)]
 
     def instead_of(self, name: str) -> str | None:
         """Return what to write instead of a name, or None if the name is fine."""
@@ -80,6 +84,7 @@ class Rules:
 
 def wrong_names(file: str, text: str, rules: Rules) -> Iterator[Finding]:
     """Yield the names of a Python file that say nothing, each once with its first line."""
+    refused = rules.wordings_of(file)
     uses: Counter[str] = Counter()
     lines: dict[str, int] = {}
     for token in tokenize.generate_tokens(io.StringIO(text).readline):
@@ -88,7 +93,7 @@ def wrong_names(file: str, text: str, rules: Rules) -> Iterator[Finding]:
             lines.setdefault(token.string, token.start[0])
     for name, line in lines.items():
         if name.startswith("test_"):  # it is a sentence
-            yield from wrong_wordings(file, line, name[5:].replace("_", " "), rules.code)
+            yield from wrong_wordings(file, line, name[5:].replace("_", " "), refused)
             continue
         instead = rules.instead_of(name)
         if instead and not rules.is_exception(name, file):
@@ -144,11 +149,12 @@ def wrong_in_python(file: str, text: str, rules: Rules) -> Iterator[Finding]:
             yield Finding(file, number, f"{len(line)} columns", f"at most {COLUMNS}")
         if LAYOUT_OFF.search(line):
             yield Finding(file, number, "a part that Black does not lay out", "the comment goes")
+    refused = rules.wordings_of(file)
     yield from wrong_names(file, text, rules)
     for first, last, string in strings(ast.parse(text)):
-        yield from wrong_wordings(file, first, string, rules.code, last)
+        yield from wrong_wordings(file, first, string, refused, last)
     for first, comment in comments(text):
-        yield from wrong_wordings(file, first, comment, rules.code)
+        yield from wrong_wordings(file, first, comment, refused)
 
 
 def wrong_in_openapi(file: str, text: str, rules: Rules) -> Iterator[Finding]:
