@@ -468,7 +468,7 @@ INSERT INTO sagas.shards(shard, name, owner, epoch, closed, audit)
 INSERT INTO sagas.shard_definitions
     SELECT {to}, place, definition FROM sagas.shard_definitions WHERE shard = {log};
 INSERT INTO sagas.event_log
-    SELECT {to}, first_seq, committed_at, text FROM sagas.event_log WHERE shard = {log};
+    SELECT {to}, first_seq, committed_at, text, epoch FROM sagas.event_log WHERE shard = {log};
 INSERT INTO sagas.sagas(
         id, key, saga, definition_index, input, at, phase, outcome, ended, note
     )

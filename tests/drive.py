@@ -68,18 +68,18 @@ class State:
             (self.folder / f"{name}.toml").write_text(text, encoding="utf-8")
 
     def defined(self, *names):
-        """The files of definitions."""
+        """Return the files of definitions."""
         return [
             self.folder / f"{name}.toml" if name in DEFINITIONS else EXAMPLES / f"{name}.toml"
             for name in names
         ]
 
     def fail(self, *why):
-        """Notes what is wrong."""
+        """Note what is wrong."""
         self.wrong.append(" ".join(map(str, why)))
 
     def expect(self, what, found, wanted):
-        """Notes what is wrong where two values differ."""
+        """Note what is wrong where two values differ."""
         if found != wanted:
             found, wanted = str(found), str(wanted)
             alike = len(os.path.commonprefix([found, wanted]))
@@ -92,7 +92,7 @@ class State:
         return [self.program, "drive", *(["--log", log] if log else []), *definitions]
 
     def ran(self, definitions, log, text, settings=None, seconds=60):
-        """A whole run on some input: its status, what it replied and what it said on standard error."""
+        """Return a whole run on some input: its status, what it replied and what it said on standard error."""
         done = subprocess.run(
             self.command(definitions, log),
             input=text,
@@ -104,7 +104,7 @@ class State:
         return done.returncode, done.stdout, done.stderr
 
     def audited(self, log, definitions):
-        """Looks whether the audit says yes of the whole lines of a log."""
+        """Look whether the audit says yes of the whole lines of a log."""
         whole = log.with_name(f"{log.name}.whole")
         whole.write_bytes(b"".join(whole_lines(log)))
         done = subprocess.run(
@@ -124,7 +124,7 @@ class Driven:
         )
 
     def send(self, *requests):
-        """Sends requests together; gives whether they were taken."""
+        """Send requests together, and return whether they were taken."""
         try:
             self.child.stdin.write(b"".join(line_of(request) for request in requests))
             self.child.stdin.flush()
@@ -133,7 +133,7 @@ class Driven:
             return False
 
     def reply(self):
-        """The next reply, or none where the program has ended."""
+        """Return the next reply, or none where the program has ended."""
         line = self.child.stdout.readline()
         return json.loads(line) if line.endswith(b"\n") else None
 
@@ -141,7 +141,7 @@ class Driven:
         return self.reply() if self.send(request) else None
 
     def replies(self, count):
-        """So many replies, while the program waits for more requests; fewer where they do not come within a minute, and it is killed."""
+        """Return so many replies, while the program waits for more requests; fewer where they do not come within a minute, and it is killed."""
         late = threading.Timer(60, self.child.kill)
         late.start()
         found = list(
@@ -153,7 +153,7 @@ class Driven:
         return found
 
     def rest(self):
-        """All replies that are still to come."""
+        """Return all replies that are still to come."""
         return [
             json.loads(line)
             for line in self.child.stdout.read().splitlines(True)
@@ -161,7 +161,7 @@ class Driven:
         ]
 
     def end(self):
-        """Ends the requests, and gives the status and the lines on standard error."""
+        """End the requests, and gives the status and the lines on standard error."""
         try:
             self.child.stdin.close()
         except BrokenPipeError:
@@ -172,7 +172,7 @@ class Driven:
         return self.child.wait(60), said
 
     def kill(self):
-        """Kills it; gives the replies that had come."""
+        """Kill it, and return the replies that had come."""
         self.child.send_signal(signal.SIGKILL)
         replies = self.rest()
         self.end()
@@ -180,17 +180,17 @@ class Driven:
 
 
 def written(value):
-    """A value as the program writes it."""
+    """Return a value as the program writes it."""
     return json.dumps(value, separators=(",", ":"), sort_keys=True)
 
 
 def line_of(request):
-    """A request's line; bytes are sent as they are."""
+    """Return a request's line; bytes are sent as they are."""
     return request if isinstance(request, bytes) else written(request).encode() + b"\n"
 
 
 def whole_lines(log):
-    """The lines of a file that end with a line feed."""
+    """Return the lines of a file that end with a line feed."""
     return (
         [line for line in log.read_bytes().splitlines(True) if line.endswith(b"\n")]
         if log.exists()
@@ -199,7 +199,7 @@ def whole_lines(log):
 
 
 def events_of(reply):
-    """The lines of the events that a reply tells of."""
+    """Return the lines of the events that a reply tells of."""
     if reply is None:
         return []
     if "tasks" in reply:
@@ -219,7 +219,7 @@ def events_of(reply):
 
 
 def told(replies):
-    """The lines of the events that replies tell of."""
+    """Return the lines of the events that replies tell of."""
     return [line for reply in replies for line in events_of(reply)]
 
 
@@ -236,7 +236,7 @@ def aborting(saga):
 
 
 def report(saga, step, outcome, attempted=None):
-    """A report, which names the attempt of a task where one is given."""
+    """Return a report, which names the attempt of a task where one is given."""
     named = (
         {} if attempted is None else {"attempt": attempted["attempt"], "task": attempted["task"]}
     )
@@ -248,7 +248,7 @@ def many(most):
 
 
 def named(name, saga):
-    """An opening by name, as the saga of a number."""
+    """Return an opening by name, as the saga of a number."""
     return {"do": "open", "name": name, "saga": saga}
 
 
@@ -497,12 +497,12 @@ LINES = [
 
 
 def seen(driven, sagas):
-    """All that can be seen of a book without a change."""
+    """Return all that can be seen of a book without a change."""
     return [driven.ask(shown(saga)) for saga in range(sagas)] + [driven.ask(BUSY)]
 
 
 def converse(state, name, definitions, pairs):
-    """Holds a conversation with a log, request by request: what is refused changes nothing, and the log has what was told."""
+    """Hold a conversation with a log, request by request: what is refused changes nothing, and the log has what was told."""
     log = state.folder / f"said.{name}.log"
     driven = Driven(state, state.defined(*definitions), log)
     replies = []
@@ -553,7 +553,7 @@ WORDS = {"outcome": ("ok", "fail"), "task": ("run", "undo"), "phase": follower.P
 
 
 def is_of_type(key, value):
-    """Whether a request may have this value at a key."""
+    """Return whether a request may have this value at a key."""
     if key in WORDS:
         return value in WORDS[key]
     if key in ("name", "definition"):
@@ -562,7 +562,7 @@ def is_of_type(key, value):
 
 
 def fault_of(line):
-    """The first fault of a line, by docs/FORMATS.md; none of a request."""
+    """Return the first fault of a line, by docs/FORMATS.md; none of a request."""
     try:
         value = json.loads(line.decode("utf-8"))
     except ValueError:
@@ -583,7 +583,7 @@ def fault_of(line):
 
 
 def hostile(state):
-    """Each prefix of each request, each request with one byte changed, and objects of random keys and values, in their usual spelling and in
+    """Return each prefix of each request, each request with one byte changed, and objects of random keys and values, in their usual spelling and in
     another one: the fault that has to come."""
     draw = random.Random(state.seed)
     asked = [
@@ -698,7 +698,7 @@ def in_pieces(state):
 
 
 def together(state):
-    """Requests that are taken together: as many bytes as a read takes, with no more behind them; and 4,000 in one write, of which the replies are more
+    """Return requests that are taken together: as many bytes as a read takes, with no more behind them; and 4,000 in one write, of which the replies are more
     than may wait. Each is answered while the program waits for more, once and in order."""
     whole = Driven(state, state.defined("pair"))
     asked = [{"do": "status"}] * (AT_ONCE // len(line_of({"do": "status"})))
@@ -738,7 +738,7 @@ def together(state):
 
 
 def said(state):
-    """Conversations: with a log and without, line by line and at once; the last line without its line feed."""
+    """Return conversations: with a log and without, line by line and at once; the last line without its line feed."""
     begun = [UNDONE[0], UNDONE[1]]
     lines = ("lines", ["pair"], begun + [(line + b"\n", wanted) for line, wanted in LINES])
     for name, definitions, pairs in CONVERSATIONS + [lines]:
@@ -827,7 +827,7 @@ CLOSED = [
 
 
 def starts(state):
-    """Logs at the start, good and bad, and words that are not of the form: the line, the status, and a refused log left as it was."""
+    """Return logs at the start, good and bad, and words that are not of the form: the line, the status, and a refused log left as it was."""
     pair = state.defined("pair")
     log = state.folder / "starts.log"
     for text, status, line in LOGS:
@@ -903,7 +903,7 @@ def starts(state):
 
 
 def random_definition(draw, path):
-    """A definition with some steps, whose needs go back."""
+    """Return a definition with some steps, whose needs go back."""
     lines = ['format = 2\nname = "drawn"\n']
     for number in range(draw.randint(1, 6)):
         lines.append(f'[[step]]\nname = "s{number}"')
@@ -918,7 +918,7 @@ def random_definition(draw, path):
 
 
 def random_report(draw, book):
-    """A report on a busy step, mostly of the attempt that is on its way, or on any step."""
+    """Return a report on a busy step, mostly of the attempt that is on its way, or on any step."""
     busy, outcome = book.busy()["busy"], draw.choice(["ok", "ok", "ok", "fail"])
     if not busy or draw.random() < 0.1:
         other = task(draw.choice(["run", "undo"]), 0, 0, "", draw.randint(1, 3))
@@ -936,7 +936,7 @@ def random_report(draw, book):
 
 
 def random_request(draw, book):
-    """A request, mostly one that is accepted."""
+    """Return a request, mostly one that is accepted."""
     number, sagas, definitions = draw.random(), len(book.sagas), book.definitions
     if sagas == 0 or number < 0.06:
         opening_of_one = opening(draw.randrange(len(definitions) + (number < 0.005)))
@@ -971,7 +971,7 @@ def random_request(draw, book):
 
 
 def random_conversation(state, seed):
-    """A conversation of 150 requests, which the rules answer, and as many questions; then another start on its log, and on a copy of it."""
+    """Return a conversation of 150 requests, which the rules answer, and as many questions; then another start on its log, and on a copy of it."""
     draw = random.Random(seed)
     name = f"random {seed}"
     folder = state.folder / f"random{seed}"
@@ -1021,7 +1021,7 @@ def random_conversation(state, seed):
 
 
 def random_ones(state):
-    """Random conversations: the log has just what was told, it is legal, and another start goes on with the same book."""
+    """Return random conversations: the log has just what was told, it is legal, and another start goes on with the same book."""
     with concurrent.futures.ThreadPoolExecutor(PROCESSORS) as pool:
         return (
             sum(
@@ -1038,7 +1038,7 @@ def random_ones(state):
 
 
 def ran_with_lines(state, definitions, text, begun=None):
-    """A whole run that shows its lines, from a log that comes by a pipe, where there is one: its status, the lines without their `+`, the
+    """Return a whole run that shows its lines, from a log that comes by a pipe, where there is one: its status, the lines without their `+`, the
     replies, and what it said on standard error."""
     out, into = os.pipe()
     known = [] if begun is None else ["--from", f"/dev/fd/{out}"]
@@ -1067,7 +1067,7 @@ def ran_with_lines(state, definitions, text, begun=None):
 
 
 def drawn_lines(draw, book, driven, added):
-    """Random requests as lines, each with its reply if it asks for a definition. Such a request puts the next of the added definitions on
+    """Return random requests as lines, each with its reply if it asks for a definition. Such a request puts the next of the added definitions on
     the shelf, or has a fault if there is no next one; it is refused where the shelf is fixed. The drive has these definitions from the start,
     and is asked the other requests."""
     asked, coming = [], list(added)
@@ -1085,7 +1085,7 @@ def drawn_lines(draw, book, driven, added):
 
 
 def with_places(asked, replies, more):
-    """The replies to all requests: those to the others, and those to requests for a definition, over a shelf with so many more."""
+    """Return the replies to all requests: those to the others, and those to requests for a definition, over a shelf with so many more."""
     others = iter(replies.splitlines(True))
     placed = [
         reply | {"def": reply["def"] + more} if reply and "def" in reply else reply
@@ -1095,7 +1095,7 @@ def with_places(asked, replies, more):
 
 
 def lines_of_a_conversation(state, seed):
-    """Random requests: with lines they have the replies and the log that they have with a file, from nothing and from each of some
+    """Return random requests: with lines they have the replies and the log that they have with a file, from nothing and from each of some
     beginnings of the log. A definition that a request puts on the shelf serves as one that was there from the start.
     """
     draw = random.Random(seed)
@@ -1132,7 +1132,7 @@ def lines_of_a_conversation(state, seed):
 
 
 def lines(state):
-    """What is shown of a log, and a log that is only read, which comes by a pipe."""
+    """Return what is shown of a log, and a log that is only read, which comes by a pipe."""
     with concurrent.futures.ThreadPoolExecutor(PROCESSORS) as pool:
         return (
             sum(
@@ -1156,7 +1156,7 @@ EDGES = [((1020, 8159), (662, 5735), True), ((1024, 8175), (802, 3750), False)]
 
 
 def large(state, name, steps, needs, first="", tries=""):
-    """A definition of that size, of the greatest costs to run: each step needs some of those right before it."""
+    """Return a definition of that size, of the greatest costs to run: each step needs some of those right before it."""
     each = f"run = 1_000_000_000\n{tries}"
     lines = [f'format = 2\nname = "{name}"\n[[step]]\nname = "s0"\n{each}{first}']
     for step in range(1, steps):
@@ -1185,11 +1185,11 @@ class Followed:
         self.start()
 
     def start(self):
-        """Starts the program on the log."""
+        """Start the program on the log."""
         self.driven = Driven(self.state, self.definitions, self.log)
 
     def ask(self, *requests):
-        """Sends requests together; gives the last reply."""
+        """Send requests together, and return the last reply."""
         self.driven.send(*requests)
         for request in requests:
             reply = self.driven.reply() or {}
@@ -1198,7 +1198,7 @@ class Followed:
         return self.pairs[-1][1]
 
     def fill(self, definition):
-        """Opens sagas until one is refused; gives how many there were. What is refused changes nothing."""
+        """Open sagas until one is refused, and return how many there were. What is refused changes nothing."""
         before = len(self.book.sagas)
         while not self.state.wrong and self.ask(opening(definition)) != LOG_FULL:
             pass
@@ -1212,12 +1212,12 @@ class Followed:
         return len(self.book.sagas) - before
 
     def abort(self, saga):
-        """Aborts a saga that has not begun, and plans it: it is ended, or stuck."""
+        """Abort a saga that has not begun, and plans it: it is ended, or stuck."""
         self.ask(aborting(saga), opening(0))  # until it is planned it may write
         return self.ask({"do": "take", "saga": saga}).get("phase")
 
     def end(self):
-        """Ends the program; the log is what was told, and legal."""
+        """End the program; the log is what was told, and legal."""
         self.state.expect(f"{self.name}: the end", self.driven.end(), (0, ""))
         self.state.expect(
             f"{self.name}: the log",
@@ -1228,7 +1228,7 @@ class Followed:
 
 
 def room(state):
-    """Sagas are opened as long as the log has room for their ends: until it has none, and again once one is ended, also after a kill and another
+    """Return sagas are opened as long as the log has room for their ends: until it has none, and again once one is ended, also after a kill and another
     start; lines that are shown are counted as those of a file, and without a log there is no such limit.
     """
     definitions = [
@@ -1290,7 +1290,7 @@ def shown_from(state, one, begun, before):
 
 
 def edges(state):
-    """The last byte of the room is used, and no more; a log has room for four sagas of the greatest definition that there is."""
+    """Return the last byte of the room is used, and no more; a log has room for four sagas of the greatest definition that there is."""
     for number, (first, second, fits) in enumerate(EDGES):
         one = Followed(
             state,
@@ -1315,7 +1315,7 @@ ITEMS = 50
 
 
 def crowded(state):
-    """The definition of such a saga."""
+    """Return the definition of such a saga."""
     items = "".join(
         f'[[step]]\nname = "item{item}"\nneeds = ["start"]\nskip = 1_000_000\n'
         for item in range(ITEMS)
@@ -1328,7 +1328,7 @@ def crowded(state):
 
 
 def failing(saga):
-    """The requests by which a saga of a crowd ends in the worst way: each item but one fails, one after the other, each failure is planned, it is aborted,
+    """Return the requests by which a saga of a crowd ends in the worst way: each item but one fails, one after the other, each failure is planned, it is aborted,
     and the compensation of its start fails too."""
     take, planned = {"do": "take", "saga": saga}, [{"do": "take", "saga": saga}]
     failed = [
@@ -1344,7 +1344,7 @@ def failing(saga):
 
 
 def crowd(state):
-    """A thousand sagas of 52 steps are open in one log. All of them fail in the worst way, in turn, and end: the log takes every line."""
+    """Return a thousand sagas of 52 steps are open in one log. All of them fail in the worst way, in turn, and end: the log takes every line."""
     definition, log = crowded(state), state.folder / "crowd.log"
     requests = [
         line_of(opening(0)) * 1000,
@@ -1380,7 +1380,7 @@ PLANS = 8192
 
 
 def filled(state, log, left):
-    """A log of two sagas, of which plans of the first were begun and dropped, with blanks before the first event, until so many bytes are left of the
+    """Return a log of two sagas, of which plans of the first were begun and dropped, with blanks before the first event, until so many bytes are left of the
     most that a log may have. Gives its bytes."""
     begun = b"".join(
         event.encode() + b"\n"
@@ -1401,14 +1401,14 @@ def filled(state, log, left):
 
 
 def behind(log, size):
-    """What a log has behind so many bytes."""
+    """Return what a log has behind so many bytes."""
     with log.open("rb") as file:
         file.seek(size)
         return file.read()
 
 
 def full(state):
-    """A log that is filled to its last byte: what fits is written and told, and what does not is neither, not in part."""
+    """Return a log that is filled to its last byte: what fits is written and told, and what does not is neither, not in part."""
     pair = state.defined("pair")
     log = state.folder / "full.log"
     line = line_of({"event": "abort", "saga": 1})
@@ -1469,7 +1469,7 @@ class Disk:
         self.image.unlink(missing_ok=True)
 
     def settings(self, stop=0):
-        """What lets a program note it, and end before a call."""
+        """Return what lets a program note it, and end before a call."""
         return {
             "LD_PRELOAD": str(self.library),
             "LOG": str(self.log),
@@ -1478,7 +1478,7 @@ class Disk:
         }
 
     def beside_wrong(self, wanted):
-        """What is wrong with the file of definitions, which is there as a whole or not at all, and is on the disk before an event."""
+        """Return what is wrong with the file of definitions, which is there as a whole or not at all, and is on the disk before an event."""
         words = self.known.read_text().split()
         found = beside(self.log).read_bytes() if beside(self.log).exists() else None
         if words[7] != "0":
@@ -1486,7 +1486,7 @@ class Disk:
         return "" if found == wanted or found is None and words[5] == "0" else f"it is {found}"
 
     def may_be(self):
-        """All that the log may be if power goes off now: what is on the disk, with each beginning of what was not synced; the same of
+        """Return all that the log may be if power goes off now: what is on the disk, with each beginning of what was not synced; the same of
         what it was before a cut that was not synced; and no file, where its name is not on the disk.
         """
         words = self.known.read_text().split()
@@ -1506,12 +1506,12 @@ class Disk:
 
 
 def beside(log):
-    """The file of definitions beside a log."""
+    """Return the file of definitions beside a log."""
     return log.with_name(f"{log.name}.definitions")
 
 
 def file_of(definitions):
-    """What that file has."""
+    """Return what that file has."""
     texts = [pathlib.Path(path).read_bytes() for path in definitions]
     return b"".join(b"definition of %d bytes\n%b\n" % (len(text), text) for text in texts)
 
@@ -1523,7 +1523,7 @@ OF_A_BOOK = 24
 
 
 def outcome_of(one):
-    """How a task ends: by its saga, step, action and attempt alone."""
+    """Return how a task ends: by its saga, step, action and attempt alone."""
     key = f"{one['saga']} {one['step']} {one['task']} {one['attempt']}"
     return "fail" if zlib.crc32(key.encode()) % 4 == 0 else "ok"
 
@@ -1540,7 +1540,7 @@ class Load:
         self.disk = Disk(state, log) if state.libraries else None
 
     def start(self):
-        """Starts the program on what is in the log, and takes up what was begun."""
+        """Start the program on what is in the log, and takes up what was begun."""
         before = whole_lines(self.log)
         while (
             before and b'"start_plan"' in before[-1]
@@ -1559,7 +1559,7 @@ class Load:
         self.started = False
 
     def batch(self):
-        """Requests that are sent together."""
+        """Return requests that are sent together."""
         if not self.started:
             return [BUSY]
         requests = [
@@ -1571,7 +1571,7 @@ class Load:
         return requests
 
     def take(self, replies):
-        """Takes replies, in their order."""
+        """Take replies, in their order."""
         for reply in replies:
             self.told += events_of(reply)
             if "busy" in reply:
@@ -1600,7 +1600,7 @@ class Load:
         self.take(filter(None, (self.child.reply() for _ in requests)))
 
     def killed(self):
-        """Sends one batch more, kills the program at some moment of it, and looks at the log."""
+        """Send one batch more, kills the program at some moment of it, and looks at the log."""
         if self.draw.random() < 0.9:
             self.child.send(*self.batch())
             time.sleep(self.draw.choice([0, 0.0002, 0.001, 0.003]) * self.draw.random())
@@ -1620,7 +1620,7 @@ class Load:
         self.state.audited(self.log, self.definitions)
 
     def end(self):
-        """Ends the program; gives each saga's story and how it stands."""
+        """End the program, and return each saga's story and how it stands."""
         stands = [self.child.ask(shown(saga)) for saga in range(OF_A_BOOK)]
         self.state.expect("kills: the end of a book", self.child.end(), (0, self.line))
         self.look(self.base + self.told)
@@ -1632,7 +1632,7 @@ class Load:
 
 
 def driven_to_its_end(state, log, draw, kills):
-    """Drives a book, with at most so many kills; gives how many there were, and how the sagas stand and their stories."""
+    """Drive a book, with at most so many kills, and return how many there were, and how the sagas stand and their stories."""
     load = Load(state, log, draw)
     load.start()
     count = 0
@@ -1649,7 +1649,7 @@ def driven_to_its_end(state, log, draw, kills):
 
 
 def kills(state):
-    """Kills at random moments, also while requests are under way: nothing that was told is lost, and all sagas end as without kills."""
+    """Kill at random moments, also while requests are under way: nothing that was told is lost, and all sagas end as without kills."""
     draw = random.Random(state.seed)
     folder = state.folder / "kills"
     folder.mkdir()
@@ -1677,7 +1677,7 @@ def kills(state):
 
 
 def stopped(state, disk, requests, stop):
-    """The program is ended before a call, or ends with the requests, each of which is sent once the one before is replied to; gives the
+    """Return the program is ended before a call, or ends with the requests, each of which is sent once the one before is replied to, and return the
     replies, and whether it was ended."""
     driven = Driven(state, state.defined("pair"), disk.log, disk.settings(stop))
     replies = []
@@ -1696,7 +1696,7 @@ def stopped(state, disk, requests, stop):
 
 
 def left_whole(state, disk, name, sure):
-    """Whatever power leaves of the log, another start makes of it a log that begins with these lines; gives how many were tried."""
+    """Whatever power leaves of the log, another start makes of it a log that begins with these lines, and return how many were tried."""
     left = disk.may_be()
     for number, text in enumerate(left):
         place = disk.log.with_name(f"{disk.log.name}.left")
@@ -1710,7 +1710,7 @@ def left_whole(state, disk, name, sure):
 
 
 def settled_lines(log):
-    """The events that a start goes on with: without what was cut off, and without the plans that the last ones begin."""
+    """Return the events that a start goes on with: without what was cut off, and without the plans that the last ones begin."""
     lines = whole_lines(log)[1:]
     while lines and b'"start_plan"' in lines[-1]:
         lines.pop()
@@ -1771,7 +1771,7 @@ def power(state):
 
 
 def gone_on(state, definitions, log):
-    """Drives a book on from its log: its sagas can be settled, and the log is legal then."""
+    """Drive a book on from its log: its sagas can be settled, and the log is legal then."""
     name = f"cuts: {log.read_bytes()[-60:]}: gone on"
     driven = Driven(state, definitions, log)
     tasks = driven.ask(BUSY)["busy"]
@@ -1787,7 +1787,7 @@ def gone_on(state, definitions, log):
 
 
 def cuts(state):
-    """A log cut at each byte, and with each byte changed: refused and left as it was, or taken up to its last whole line."""
+    """Return a log cut at each byte, and with each byte changed: refused and left as it was, or taken up to its last whole line."""
     pair = state.defined("pair")
     whole = state.folder / "cuts.log"
     pairs = UNDONE + [
@@ -1804,7 +1804,7 @@ def cuts(state):
     books = {}
 
     def taken(end):
-        """Where the lines end that are gone on with: a last line that begins a plan is taken away with what was cut off."""
+        """Return where the lines end that are gone on with: a last line that begins a plan is taken away with what was cut off."""
         last = text.rfind(b"\n", 0, max(end - 1, 0)) + 1
         return last if b'"start_plan"' in text[last:end] else end
 
@@ -1864,13 +1864,13 @@ def cuts(state):
 
 
 def calls_of(path):
-    """What a library told: how many calls were refused, -1 where it told nothing; and its last number."""
+    """Return what a library told: how many calls were refused, -1 where it told nothing; and its last number."""
     words = path.read_text().split() if path.exists() else ["", "0", "", "-1", "", "0"]
     return int(words[3]), int(words[5])
 
 
 def story(state, log, settings, at_once):
-    """A saga of `pair` is driven until the program ends, or no task is left; gives the replies, the status and the lines."""
+    """Return a saga of `pair` is driven until the program ends, or no task is left, and return the replies, the status and the lines."""
     driven = Driven(state, state.defined("pair"), log, settings)
     requests = [request for request, _ in UNDONE] + [
         report(0, 0, "ok"),
@@ -1900,14 +1900,14 @@ DEFINING = {"write": [1], "half": [1], "sync": [1, 2], "folder": [1]}
 
 
 def refusal(log, kind, number, error):
-    """The line on a refused call: on the definitions beside the log, on the log, or a read of standard input."""
+    """Return the line on a refused call: on the definitions beside the log, on the log, or a read of standard input."""
     if kind != "read":
         return f"sagas: cannot write {beside(log) if number in DEFINING.get(kind, ()) else log}\n"
     return "sagas: out of memory\n" if error == errno.ENOMEM else "sagas: cannot read -\n"
 
 
 def refused_once(state, kind, number, error, at_once, cut):
-    """A run in which a call on the log, or a read of requests, is refused: nothing was told that is not in the log. Gives whether there
+    """Return a run in which a call on the log, or a read of requests, is refused: nothing was told that is not in the log. Gives whether there
     was such a call."""
     name = f"writes: {kind} {number} {errno.errorcode[error]}{' at once' if at_once else ''}"
     log = state.folder / f"writes.{kind}.{number}.{error}.{at_once}"
@@ -1962,7 +1962,7 @@ CALLS = {("folder", False): 2, ("sync", True): 5}
 
 
 def writes(state):
-    """Each write, sync and cut of the log's file, the sync of its folder and each read of requests is refused in turn, with one request at
+    """Return each write, sync and cut of the log's file, the sync of its folder and each read of requests is refused in turn, with one request at
     a time and with all at once."""
     refused = 0
     cases = [
@@ -1996,12 +1996,12 @@ def writes(state):
 
 
 def events_in(log):
-    """What a log has behind its header, which may not be there yet."""
+    """Return what a log has behind its header, which may not be there yet."""
     return log.read_bytes().removeprefix(HEADER) if log.exists() else b""
 
 
 def memory_once(state, number, the_rest, wanted):
-    """A run in which a growth of memory is refused, or all from it on: each reply is right, or says so and changes nothing."""
+    """Return a run in which a growth of memory is refused, or all from it on: each reply is right, or says so and changes nothing."""
     name = f"memory: growth {number}{' and the rest' if the_rest else ''}"
     log = state.folder / f"memory.{number}.{the_rest}"
     told_by = log.with_name(f"{log.name}.told")
@@ -2051,7 +2051,7 @@ TOGETHER = 12
 
 
 def many_refused_once(state, number, the_rest):
-    """A run in which a growth of memory is refused, or all from it on, while many tasks are asked for at once: those that have begun are
+    """Return a run in which a growth of memory is refused, or all from it on, while many tasks are asked for at once: those that have begun are
     told, and each once. Gives whether there was such a growth, and whether it came in the middle.
     """
     name = f"memory: many tasks, growth {number}{' and the rest' if the_rest else ''}"
@@ -2097,7 +2097,7 @@ def many_refused_once(state, number, the_rest):
 
 
 def many_refused(state):
-    """Each growth of memory is refused in turn while many tasks are asked for at once, alone and with all behind it; gives how many were."""
+    """Return each growth of memory is refused in turn while many tasks are asked for at once, alone and with all behind it, and return how many were."""
     refused, cut = 0, False
     with concurrent.futures.ThreadPoolExecutor(PROCESSORS) as pool:
         for the_rest in (False, True):
@@ -2117,7 +2117,7 @@ def many_refused(state):
 
 
 def memory(state):
-    """Each growth of memory is refused in turn, alone and with all behind it."""
+    """Return each growth of memory is refused in turn, alone and with all behind it."""
     requests = [request for request, _ in UNDONE] + [
         report(0, 0, "ok"),
         opening(0),
@@ -2154,7 +2154,7 @@ LOCKED = (4, b"", b"sagas: log: locked\n")
 
 
 def lock(state):
-    """A second process on the same log is refused, and the first goes on; then another one may have it."""
+    """Return a second process on the same log is refused, and the first goes on; then another one may have it."""
     pair, log = state.defined("pair"), state.folder / "lock.log"
     driven = Driven(state, pair, log)
     state.expect("lock: the first", driven.ask(opening(0)), opened(0))
@@ -2177,7 +2177,7 @@ def lock(state):
 
 
 def run_of(state, log, definitions):
-    """Runs definitions with a log; gives status, output and errors."""
+    """Run definitions with a log, and return status, output and errors."""
     done = subprocess.run(
         [state.program, "run", "--log", log, *definitions],
         capture_output=True,
@@ -2188,7 +2188,7 @@ def run_of(state, log, definitions):
 
 
 def refused_runs(state, pair, log):
-    """A run whose log a drive or a reader holds is refused, by its path or by a link, before anything is run or written."""
+    """Return a run whose log a drive or a reader holds is refused, by its path or by a link, before anything is run or written."""
     driven = Driven(state, pair, log)
     # (its first answer says that it holds the log)
     state.expect(
@@ -2223,7 +2223,7 @@ def refused_runs(state, pair, log):
 
 
 def full_pipe():
-    """A pipe that takes no more until it is read."""
+    """Return a pipe that takes no more until it is read."""
     out, into = os.pipe()
     os.set_blocking(into, False)
     with contextlib.suppress(BlockingIOError):
@@ -2234,13 +2234,13 @@ def full_pipe():
 
 
 def is_held(log):
-    """Whether a process holds a log; asked of the kernel, since to try its lock would refuse it to others."""
+    """Return whether a process holds a log; asked of the kernel, since to try its lock would refuse it to others."""
     held = pathlib.Path("/proc/locks").read_text().split("\n")
     return any("FLOCK" in line and f":{log.stat().st_ino} " in line for line in held)
 
 
 def held_by_a_run(state, pair, log):
-    """A run holds its log until it has written it: a drive and another run are refused, and the file is as it was until then."""
+    """Return a run holds its log until it has written it: a drive and another run are refused, and the file is as it was until then."""
     before = log.read_bytes() + b"{"
     log.write_bytes(before)
     out, into = full_pipe()
@@ -2309,7 +2309,7 @@ main(process.argv[2]);
 
 
 def serve(state, service, folder, lines=None):
-    """Runs the service in a folder, and kills it, with its child, once it has printed so many lines; gives what it printed."""
+    """Run the service in a folder, and kills it, with its child, once it has printed so many lines, and return what it printed."""
     settings = os.environ | {"SAGAS": str(state.program), "PYTHONDONTWRITEBYTECODE": "1"}
     child = subprocess.Popen(
         [*service, folder], env=settings, stdout=subprocess.PIPE, text=True, start_new_session=True
@@ -2337,7 +2337,7 @@ def late(state, service, wanted):
 
 
 def service_at(state, service, lines, wanted):
-    """The service is killed after some lines and started again: nothing is done twice, and the end is the same."""
+    """Return the service is killed after some lines and started again: nothing is done twice, and the end is the same."""
     folder = state.folder / f"{service[1].suffix}{lines}"
     folder.mkdir()
     serve(state, service, folder, lines)
@@ -2352,7 +2352,7 @@ def service_at(state, service, lines, wanted):
 
 
 def service(state):
-    """The examples: killed after each line that they print, they end as without it, and book nothing twice."""
+    """Return the examples: killed after each line that they print, they end as without it, and book nothing twice."""
     runs = []
     for one, answers_late in zip(SERVICES, LATE, strict=True):
         if not shutil.which(one[0]):

@@ -80,7 +80,7 @@ class Service:
     def ask(
         self, who: str | None, method: str, path: str, body: Any = None, timeout: float = 60
     ) -> tuple[int, Any]:
-        """The status of an answer, and the answer."""
+        """Return the status of an answer, and the answer."""
         link = http.client.HTTPConnection(*self.address, timeout=timeout)
         headers = {"Authorization": f"Bearer {self.tokens[who]}"} if who else {}
         data = (
@@ -95,7 +95,7 @@ class Service:
         return answer.status, json.loads(told) if told.startswith((b"{", b"[")) else told
 
     def tried(self, who: str | None, path: str) -> str:
-        """What comes of a request, and in how many seconds."""
+        """Return what comes of a request, and in how many seconds."""
         began = time.monotonic()
         try:
             found: object = self.ask(who, "GET", path, timeout=20)[0]
@@ -104,7 +104,7 @@ class Service:
         return f"{found} in {time.monotonic() - began:.1f} s"
 
     def open(self, text: bytes, buffer: int | None = None) -> socket.socket:
-        """A connection with these bytes sent."""
+        """Return a connection with these bytes sent."""
         one = socket.socket()
         if buffer:
             one.setsockopt(socket.SOL_SOCKET, socket.SO_RCVBUF, buffer)
@@ -114,7 +114,7 @@ class Service:
         return one
 
     def head(self, line: str, who: str | None = None, more: str = "") -> bytes:
-        """A request without a body."""
+        """Return a request without a body."""
         right = f"Authorization: Bearer {self.tokens[who]}\r\n" if who else ""
         return f"{line} HTTP/1.1\r\nHost: h\r\n{right}{more}\r\n".encode()
 
@@ -215,7 +215,7 @@ KINDS: dict[str, Callable[[Service], None]] = {
 
 
 def main(names: list[str]) -> int:
-    """The status of the command."""
+    """Return the status of the command."""
     hard = resource.getrlimit(resource.RLIMIT_NOFILE)[1]
     resource.setrlimit(resource.RLIMIT_NOFILE, (min(hard, 8192) if hard > 0 else 8192, hard))
     for name in names or KINDS:

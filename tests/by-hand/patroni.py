@@ -37,7 +37,7 @@ Json = dict[str, Any]
 
 
 async def node(url: str, socket: str, name: str) -> None:
-    """A program that starts sagas and waits for them, until it is asked to end."""
+    """Return a program that starts sagas and waits for them, until it is asked to end."""
     witness, saga, over = Witness(socket), sagas.Saga("pair"), asyncio.Event()
 
     @saga.step
@@ -96,7 +96,7 @@ class Cluster:
         os.chown(path, OTHER, OTHER)
 
     def patroni(self, number: int) -> Json:
-        """The settings of a member. JSON is YAML, too."""
+        """Return the settings of a member. JSON is YAML, too."""
         rest, port = f"127.0.0.1:{self.rests[number]}", f"127.0.0.1:{self.ports[number]}"
         dcs = {
             "ttl": TTL,
@@ -186,13 +186,13 @@ class Cluster:
         self.processes[name].wait(LONG)
 
     def postmaster(self, number: int) -> int | None:
-        """The process of a member's PostgreSQL."""
+        """Return the process of a member's PostgreSQL."""
         with contextlib.suppress(OSError, ValueError):
             return int((self.folder / f"data{number}" / "postmaster.pid").read_text().split()[0])
         return None
 
     def asks(self, number: int, path: str) -> bool:
-        """Whether a member's Patroni says yes."""
+        """Return whether a member's Patroni says yes."""
         try:
             with urllib.request.urlopen(
                 f"http://127.0.0.1:{self.rests[number]}/{path}", timeout=2
@@ -205,7 +205,7 @@ class Cluster:
         return next((number for number in range(MEMBERS) if self.asks(number, "primary")), None)
 
     def is_whole(self) -> bool:
-        """Whether there are a primary, its synchronous standby and all others."""
+        """Return whether there are a primary, its synchronous standby and all others."""
         others = sum(self.asks(number, "replica") for number in range(MEMBERS))
         return (
             self.primary() is not None
@@ -309,7 +309,7 @@ def frozen(cluster: Cluster) -> None:
 
 
 def longest_pause(notes: list[Json], begin: float, end: float) -> float:
-    """Seconds in which no caller was told anything."""
+    """Return seconds in which no caller was told anything."""
     times = [
         begin,
         *sorted(
@@ -321,7 +321,7 @@ def longest_pause(notes: list[Json], begin: float, end: float) -> float:
 
 
 def faults_of(url: str, notes: list[Json], files: list[pathlib.Path]) -> list[str]:
-    """What a caller was told, and the database does not have."""
+    """Return what a caller was told, and the database does not have."""
     rows, faults = records.read(url).sagas, list[str]()
     for note in notes:
         row = rows.get(note["key"])
@@ -402,7 +402,7 @@ def main(events: list[str]) -> int:
 
 
 def read(path: pathlib.Path) -> list[Json]:
-    """The witness's notes, as far as they are whole."""
+    """Return the witness's notes, as far as they are whole."""
     text = path.read_text()
     return [json.loads(line) for line in text[: text.rfind("\n") + 1].splitlines()]
 

@@ -49,7 +49,7 @@ KINDS = {
 def ask(
     link: http.client.HTTPConnection, token: str, method: str, path: str, body: bytes = b""
 ) -> int:
-    """The status of an answer, which is read to its end."""
+    """Return the status of an answer, which is read to its end."""
     headers = {"Authorization": f"Bearer {token}", "Content-Type": "application/json"}
     link.request(method, path, body, headers)
     answer = link.getresponse()
@@ -58,14 +58,14 @@ def ask(
 
 
 def attack(address: tuple[str, int], token: str, request: tuple[str, str, bytes]) -> None:
-    """Asks the same again and again, until it is ended."""
+    """Ask the same again and again, until it is ended."""
     link = http.client.HTTPConnection(*address, timeout=60)
     while True:
         assert ask(link, token, *request) in (200, 429, 503)
 
 
 def median(address: tuple[str, int], token: str, seconds: float) -> float:
-    """The median of a small GET, in milliseconds."""
+    """Return the median of a small GET, in milliseconds."""
     link, found = http.client.HTTPConnection(*address, timeout=60), []
     end = time.monotonic() + seconds
     while time.monotonic() < end:
@@ -77,7 +77,7 @@ def median(address: tuple[str, int], token: str, seconds: float) -> float:
 
 
 def measured(address: tuple[str, int], tokens: dict[str, str], seconds: float) -> bool:
-    """Whether each median is within its limit."""
+    """Return whether each median is within its limit."""
     link, is_good = http.client.HTTPConnection(*address, timeout=60), True
     items = [
         {"undo": random.randrange(10**9), "keep": random.randrange(10**9)} for _ in range(1020)
@@ -108,7 +108,7 @@ def measured(address: tuple[str, int], tokens: dict[str, str], seconds: float) -
 
 
 def main(seconds: float) -> int:
-    """The status of the command."""
+    """Return the status of the command."""
     with tempfile.TemporaryDirectory() as room:
         folder = pathlib.Path(room)
         (folder / "starving.py").write_text(APP)

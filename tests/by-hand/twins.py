@@ -41,7 +41,7 @@ class Case:
 
 
 def script(chance: random.Random, count: int) -> str:
-    """How actions end."""
+    """Return how actions end."""
     lines = []
     for step in range(count):
         if chance.random() < 0.4:
@@ -55,7 +55,7 @@ def script(chance: random.Random, count: int) -> str:
 
 
 def requests(chance: random.Random, count: int) -> str:
-    """A conversation: sagas are opened, tasks are asked for and reported, in an order that may
+    """Return a conversation: sagas are opened, tasks are asked for and reported, in an order that may
     be wrong."""
     lines: list[dict[str, object]] = [{"def": 0, "do": "open"}]
     for _ in range(chance.randrange(1, 40)):
@@ -84,7 +84,7 @@ def requests(chance: random.Random, count: int) -> str:
 
 
 def case(number: int, seed: int) -> Case:
-    """What a number comes to."""
+    """Return what a number comes to."""
     chance = random.Random(f"{seed} {number}")
     definition, count = same.definition(chance)
     texts = {"def": definition.encode(), "case": same.case(chance, count).encode()}
@@ -128,7 +128,7 @@ def case(number: int, seed: int) -> Case:
 
 
 def answered(program: list[str], made: Case) -> tuple[int, bytes, bytes, dict[str, bytes]]:
-    """What a program answers, and the files that are there then."""
+    """Return what a program answers, and the files that are there then."""
     with tempfile.TemporaryDirectory(
         dir="/dev/shm" if os.path.isdir("/dev/shm") else None
     ) as folder:
@@ -147,14 +147,14 @@ def answered(program: list[str], made: Case) -> tuple[int, bytes, bytes, dict[st
 
 
 def words_of(text: str) -> list[str]:
-    """The words that start a program, with paths from the root."""
+    """Return the words that start a program, with paths from the root."""
     return [
         str(Path(word).resolve()) if os.path.exists(word) else word for word in shlex.split(text)
     ]
 
 
 def main() -> int:
-    """Compares; gives the status."""
+    """Compare, and return the status."""
     parser = argparse.ArgumentParser(description=(__doc__ or "").splitlines()[0])
     parser.add_argument("first")
     parser.add_argument("second")

@@ -55,7 +55,7 @@ class Tally:
     lock: threading.Lock = field(default_factory=threading.Lock)
 
     def add_script(self, ran: scripts.Ran, *, may_skip: bool) -> None:
-        """Adds a script."""
+        """Add a script."""
         with self.lock:
             self.costs[f"tests/{ran.name}.sh"] = ran.cost
             if ran.status == 0:
@@ -66,13 +66,13 @@ class Tally:
                 self.fail(f"tests/{ran.name}.sh")
 
     def fail(self, fault: str) -> None:
-        """Adds something that failed."""
+        """Add something that failed."""
         self.failed += 1
         self.faults.append(fault)
         print(f"failed: {fault}", flush=True)
 
     def add_proofs(self, proofs: Proofs) -> None:
-        """Adds what `rt ci` came to."""
+        """Add what `rt ci` came to."""
         self.passed += proofs.passed
         self.failed += proofs.failed
         self.faults += proofs.faults
@@ -81,7 +81,7 @@ class Tally:
             self.crates.setdefault(crate, {}).update(kinds)
 
     def last_lines(self) -> str:
-        """The lines that end a run."""
+        """Return the lines that end a run."""
         lines = [f"failed: {fault}" for fault in self.faults]
         if self.skipped:
             reasons = "; ".join(f"{name}: {why}" for name, why in self.skipped.items())
@@ -93,7 +93,7 @@ class Tally:
 
 
 def table(tally: Tally) -> str:
-    """What everything cost, as text."""
+    """Return what everything cost, as text."""
     lines = [f"{'':28}{'processor minutes':>20}{'wall minutes':>15}"]
     for name, cost in tally.costs.items():
         lines.append(f"{name:28}{cost.processor / 60:20.1f}{cost.wall / 60:15.1f}")
@@ -125,7 +125,7 @@ class Suite:
         self.proofs: Proofs | None = None
 
     def run(self) -> Tally:
-        """Runs the cheap scripts, and then everything else side by side."""
+        """Run the cheap scripts, and then everything else side by side."""
         for name in scripts.FIRST:
             self.run_script(name)
             if name == "release" and self.tally.failed:
@@ -155,7 +155,7 @@ class Suite:
         return self.tally
 
     def fill(self) -> None:
-        """Adds the scripts, and the rounds of mutants, as jobs."""
+        """Add the scripts, and the rounds of mutants, as jobs."""
         for name in scripts.names(self.tree.top):
             if name not in scripts.FIRST:
                 self.add_script(name)
@@ -164,7 +164,7 @@ class Suite:
                 self.add_round(crate, round_)
 
     def add_script(self, name: str) -> None:
-        """Adds a script as a job. One over what `rt ci` builds waits for it."""
+        """Add a script as a job. One over what `rt ci` builds waits for it."""
         self.schedule.add(
             Job(
                 name,
@@ -176,14 +176,14 @@ class Suite:
         )
 
     def may_run(self, name: str) -> bool:
-        """Whether a script may begin: what `rt ci` builds is there once it has passed."""
+        """Return whether a script may begin: what `rt ci` builds is there once it has passed."""
         proofs = self.proofs
         if proofs is None or not proofs.is_over:
             return name not in (*scripts.TIMED, *scripts.LAST)
         return name not in scripts.LAST or not proofs.failed
 
     def add_round(self, crate: str, round_: Round) -> None:
-        """Adds a round as a job that waits for its crate."""
+        """Add a round as a job that waits for its crate."""
 
         def is_ready() -> bool:
             return self.proofs is not None and self.proofs.has(crate)
@@ -191,11 +191,11 @@ class Suite:
         self.schedule.add(Job(f"mutants of {crate}", lambda: self.try_round(round_), is_ready))
 
     def run_script(self, name: str) -> None:
-        """Runs a script. In the full suite none may be skipped."""
+        """Run a script. In the full suite none may be skipped."""
         self.tally.add_script(scripts.run(self.tree.top, name, is_quick=False), may_skip=False)
 
     def try_round(self, round_: Round) -> None:
-        """Tries a round; what is unclear becomes rounds of one."""
+        """Try a round; what is unclear becomes rounds of one."""
         tried = mutants.try_round(self.tree, self.toolchain, round_)
         with self.tally.lock:
             self.report.add(round_.crate, tried)
@@ -206,7 +206,7 @@ class Suite:
             self.add_round(round_.crate, mutants.with_control([mutant], twins))
 
     def sum_up(self, proofs: Proofs) -> None:
-        """Adds the proofs and the mutants to the tally, and names what never began."""
+        """Add the proofs and the mutants to the tally, and names what never began."""
         self.tally.add_proofs(proofs)
         add_mutants(self.tally, self.plan, self.report)
         for job in self.schedule.waiting:
@@ -219,7 +219,7 @@ class Suite:
 
 
 def add_mutants(tally: Tally, plan: trials.Plan, report: trials.Report) -> None:
-    """Adds the rounds that were tried to a tally."""
+    """Add the rounds that were tried to a tally."""
     wrong = report.wrong()
     tally.passed += len(report.outcomes) - len(wrong)
     for outcome in wrong:
@@ -238,7 +238,7 @@ def add_mutants(tally: Tally, plan: trials.Plan, report: trials.Report) -> None:
 
 
 def quick(tree: Tree, names: list[str], has_toolchain: bool) -> Tally:
-    """Runs scripts over what is built."""
+    """Run scripts over what is built."""
     tally = Tally()
     for name in names or scripts.names(tree.top):
         tally.add_script(scripts.run(tree.top, name, is_quick=True), may_skip=True)
@@ -248,7 +248,7 @@ def quick(tree: Tree, names: list[str], has_toolchain: bool) -> Tally:
 
 
 def lacks_library(tree: Tree, crates: list[str]) -> list[str]:
-    """The crates below some others whose library is missing or older than its sources."""
+    """Return the crates below some others whose library is missing or older than its sources."""
     lower = {name for crate in crates for name in tree.below(crate)}
     lacking: list[str] = []
     for name in tree.crates:
@@ -262,7 +262,7 @@ def lacks_library(tree: Tree, crates: list[str]) -> list[str]:
 
 
 def try_chosen(tree: Tree, toolchain: Toolchain, chosen: list[str]) -> Tally:
-    """Tries the mutants and twins of crates, or single ones, over what is built."""
+    """Try the mutants and twins of crates, or single ones, over what is built."""
     tally, report, plan = Tally(), trials.Report(), trials.Plan()
     crates = [*dict.fromkeys(it.partition("/")[0] for it in chosen)]
     if lacking := lacks_library(tree, crates):
@@ -289,7 +289,7 @@ def try_chosen(tree: Tree, toolchain: Toolchain, chosen: list[str]) -> Tally:
 def add_chosen(
     schedule: Schedule, tree: Tree, toolchain: Toolchain, report: trials.Report, round_: Round
 ) -> None:
-    """Adds a round as a job; what is unclear becomes rounds of one."""
+    """Add a round as a job; what is unclear becomes rounds of one."""
 
     def run() -> None:
         tried = mutants.try_round(tree, toolchain, round_)
@@ -305,7 +305,7 @@ def add_chosen(
 
 
 def run_since(tree: Tree, toolchain: Toolchain | None, revision: str) -> Tally:
-    """Runs what a change needs, and says what it leaves out."""
+    """Run what a change needs, and says what it leaves out."""
     needs = since.needs_of(tree, since.changed_files(tree.top, revision))
     print(f"test: {len(needs.files)} files changed since {revision}", flush=True)
     print(f"test: crates: {' '.join(needs.crates) or 'none'}", flush=True)
@@ -336,7 +336,7 @@ def run_since(tree: Tree, toolchain: Toolchain | None, revision: str) -> Tally:
 
 
 def arguments(tree: Tree) -> argparse.Namespace:
-    """The words of the command line."""
+    """Return the words of the command line."""
     names = scripts.names(tree.top)
     parser = argparse.ArgumentParser(
         prog="./test",
@@ -379,7 +379,7 @@ def arguments(tree: Tree) -> argparse.Namespace:
 
 
 def run(tree: Tree, words: argparse.Namespace) -> Tally:
-    """Runs what the words ask for."""
+    """Run what the words ask for."""
     toolchain = Toolchain.find()
     if words.since:
         return run_since(tree, toolchain, words.since)
@@ -401,7 +401,7 @@ def run(tree: Tree, words: argparse.Namespace) -> Tally:
 
 
 def read_mutants(tree: Tree) -> Tally:
-    """Reads all mutants and twins, and the ledger, and tries none."""
+    """Read all mutants and twins, and the ledger, and tries none."""
     tally = Tally()
     crates = mutants.crates_with_mutants(tree)
     ledger.check(tree, crates)
@@ -419,7 +419,7 @@ def read_mutants(tree: Tree) -> Tally:
 
 
 def main() -> int:
-    """Runs the suite; gives its status."""
+    """Run the suite, and return its status."""
     tree = Tree()
     words = arguments(tree)
     if words.install:

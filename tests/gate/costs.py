@@ -44,7 +44,7 @@ class Process:
 
 
 def processes() -> Iterator[Process]:
-    """All processes of the machine."""
+    """Yield all processes of the machine."""
     for name in os.listdir("/proc"):
         if name.isdigit():
             try:
@@ -79,7 +79,7 @@ class Watch:
             before = now
 
     def look(self) -> set[str]:
-        """Samples each process once; gives the kinds of work that are under way."""
+        """Samples each process once, and return the kinds of work that are under way."""
         seen = {process.number: process for process in processes()}
         kinds: set[str] = set()
         running = 0
@@ -98,7 +98,7 @@ class Watch:
         return kinds
 
     def kind_of(self, number: int) -> tuple[str, str]:
-        """What a process works for: a kind of work, and a crate."""
+        """Return what a process works for: a kind of work, and a crate."""
         try:
             command = Path(f"/proc/{number}/cmdline").read_bytes().decode(errors="replace")
         except OSError:
@@ -112,13 +112,13 @@ class Watch:
         return ("proofs" if crate in self.below_the_program or not crate else "programs"), crate
 
     def stop(self) -> None:
-        """Stops sampling."""
+        """Stop sampling."""
         self.ended.set()
         self.thread.join()
         self.running = 0
 
     def costs(self) -> dict[str, Cost]:
-        """What each kind of work cost."""
+        """Return what each kind of work cost."""
         costs = {kind: Cost() for kind in ("proofs", "tests", "programs")}
         for key, seconds in self.seconds.items():
             costs[self.kinds[key][0]].processor += seconds
@@ -127,7 +127,7 @@ class Watch:
         return costs
 
     def crates(self) -> dict[str, dict[str, float]]:
-        """The processor seconds of each crate, by kind of work."""
+        """Return the processor seconds of each crate, by kind of work."""
         crates: dict[str, dict[str, float]] = defaultdict(lambda: defaultdict(float))
         for key, seconds in self.seconds.items():
             kind, crate = self.kinds[key]

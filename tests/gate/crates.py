@@ -51,15 +51,15 @@ class Tree:
                 self.crates[name] = Crate(name, line)
 
     def folder(self, name: str) -> Path:
-        """Where a crate is."""
+        """Return where a crate is."""
         return self.top / "crates" / name
 
     def is_program(self, name: str) -> bool:
-        """Whether a crate is a program, and not a library."""
+        """Return whether a crate is a program, and not a library."""
         return (self.folder(name) / "src/main.rt").exists()
 
     def below(self, name: str) -> list[str]:
-        """The crates of the repository that a crate stands on, lowest first."""
+        """Return the crates of the repository that a crate stands on, lowest first."""
         found: list[str] = []
         for library in self.crates[name].libraries:
             if library in self.crates:
@@ -67,12 +67,12 @@ class Tree:
         return found
 
     def above(self, names: set[str]) -> set[str]:
-        """The crates that stand on one of these, and these."""
+        """Return the crates that stand on one of these, and these."""
         return {name for name in self.crates if name in names or names & {*self.below(name)}}
 
     @functools.cache
     def digest(self, name: str, *, is_public: bool) -> str:
-        """A digest of a crate's files: all their bytes, or only what crates above can cite."""
+        """Return a digest of a crate's files: all their bytes, or only what crates above can cite."""
         files = hashlib.sha256()
         for part in PARTS:
             for path in sorted((self.folder(name) / part).rglob("*")):
@@ -86,13 +86,13 @@ class Tree:
 
 
 def words_of(text: str) -> list[str]:
-    """The tokens of a text of Rattle, with neither comments nor white space."""
+    """Return the tokens of a text of Rattle, with neither comments nor white space."""
     tokens = (match[0] for match in TOKEN.finditer(text))
     return [it for it in tokens if not it.startswith(("//", "/*")) and not it.isspace()]
 
 
 def block_end(words: list[str], at: int) -> int:
-    """The place behind the block in braces that begins at a place."""
+    """Return the place behind the block in braces that begins at a place."""
     depth = 0
     while at < len(words):
         depth += (words[at] == "{") - (words[at] == "}")
@@ -103,7 +103,7 @@ def block_end(words: list[str], at: int) -> int:
 
 
 def contracts(text: str) -> str:
-    """A text of Rattle with no comment, and with a semicolon in place of each function's body.
+    """Return a text of Rattle with no comment, and with a semicolon in place of each function's body.
 
     The types, constants and contracts are left: a proof of a caller reads nothing else.
     """
@@ -118,7 +118,7 @@ def contracts(text: str) -> str:
 
 
 def signature_end(words: list[str], kept: list[str], at: int) -> int:
-    """Keeps a function's signature and clauses; gives the place behind its body."""
+    """Keep a function's signature and clauses, and return the place behind its body."""
     depth = 0
     while words[at] != ";" or depth:
         depth += (words[at] in "([") - (words[at] in ")]")
@@ -136,6 +136,6 @@ def signature_end(words: list[str], kept: list[str], at: int) -> int:
 
 
 def declarations(text: str) -> str:
-    """A text of definitions or lemmas with no comment and no blank line."""
+    """Return a text of definitions or lemmas with no comment and no blank line."""
     lines = (re.sub(r"(^|\s)--\s.*", "", line).rstrip() for line in text.splitlines())
     return "\n".join(line for line in lines if line)

@@ -89,7 +89,7 @@ SIGNATURE = re.compile(
 
 
 def functions(file: str, text: str) -> list[Function]:
-    """The functions of a formatted text of Rattle."""
+    """Return the functions of a formatted text of Rattle."""
     found: list[Function] = []
     owner, lines = "", text.split("\n")
     for number, line in enumerate(lines, 1):
@@ -106,7 +106,7 @@ def functions(file: str, text: str) -> list[Function]:
 
 
 def owner_of(line: str) -> str:
-    """What the names of methods begin with: their type, and the trait with its parameters."""
+    """Return what the names of methods begin with: their type, and the trait with its parameters."""
     rest = HEAD.sub("", line).strip()
     own: set[str] = set()
     if rest.startswith("<"):
@@ -121,7 +121,7 @@ def owner_of(line: str) -> str:
 
 
 def bracket_end(text: str) -> int:
-    """The place behind the angle brackets with which a text begins."""
+    """Return the place behind the angle brackets with which a text begins."""
     depth = 0
     for place, letter in enumerate(text):
         depth += (letter == "<") - (letter == ">")
@@ -171,7 +171,7 @@ class Mutant:
 
 
 def read_changes(text: str) -> tuple[tuple[Change, ...], list[str], str]:
-    """The changes of a mutant's text, the functions that it names, and why a twin is refused.
+    """Return the changes of a mutant's text, the functions that it names, and why a twin is refused.
 
     Raises:
         InvalidMutant: a line is out of order.
@@ -200,7 +200,7 @@ def read_changes(text: str) -> tuple[tuple[Change, ...], list[str], str]:
 
 
 def read_mutant(tree: Tree, path: Path) -> Mutant:
-    """Reads a mutant or a twin, and finds the functions that it is about.
+    """Read a mutant or a twin, and finds the functions that it is about.
 
     Raises:
         InvalidMutant: it cannot be applied to the crate as it is.
@@ -224,7 +224,7 @@ def read_mutant(tree: Tree, path: Path) -> Mutant:
 
 
 def function_of(folder: Path, change: Change) -> Function | None:
-    """The function whose body has the old text, or None if it is elsewhere.
+    """Return the function whose body has the old text, or None if it is elsewhere.
 
     Raises:
         InvalidMutant: the file is missing, or the text does not occur in it once.
@@ -246,7 +246,7 @@ def function_of(folder: Path, change: Change) -> Function | None:
 
 
 def function_named(folder: Path, path: str) -> Function:
-    """The function of a path below the crate.
+    """Return the function of a path below the crate.
 
     Raises:
         InvalidMutant: there is none.
@@ -259,7 +259,7 @@ def function_named(folder: Path, path: str) -> Function:
 
 
 def read_all(tree: Tree, crate: str, suffix: str = ".edit") -> list[Mutant]:
-    """The mutants of a crate, or its twins, by name.
+    """Return the mutants of a crate, or its twins, by name.
 
     Raises:
         InvalidMutant: one cannot be applied.
@@ -269,13 +269,13 @@ def read_all(tree: Tree, crate: str, suffix: str = ".edit") -> list[Mutant]:
 
 
 def crates_with_mutants(tree: Tree) -> list[str]:
-    """The crates that have mutants, lowest first."""
+    """Return the crates that have mutants, lowest first."""
     names = [it for it in tree.crates if [*(tree.folder(it) / "mutants").glob("*.edit")]]
     return sorted(names, key=lambda name: (len(tree.below(name)), name))
 
 
 def texts_with(folder: Path, mutants: Iterable[Mutant]) -> dict[str, str]:
-    """The changed files with all changes of these mutants."""
+    """Return the changed files with all changes of these mutants."""
     texts: dict[str, str] = {}
     for change in (change for mutant in mutants for change in mutant.changes):
         text = texts.get(change.file)
@@ -302,7 +302,7 @@ class Round:
 
 
 def fits(mutant: Mutant, others: Sequence[Mutant]) -> bool:
-    """Whether a mutant can share a round with others."""
+    """Return whether a mutant can share a round with others."""
     if not others:
         return True
     if mutant.is_alone or any(other.is_alone for other in others):
@@ -314,7 +314,7 @@ def fits(mutant: Mutant, others: Sequence[Mutant]) -> bool:
 
 
 def with_control(mutants: Sequence[Mutant], twins: Sequence[Mutant]) -> Round:
-    """A round of these mutants, with a twin that fits as its control: `control`, or a small one."""
+    """Return a round of these mutants, with a twin that fits as its control: `control`, or a small one."""
     changed = {change.file for it in mutants for change in it.changes if it.is_alone}
     for twin in sorted(twins, key=lambda it: (it.name != "control", it.size, it.name)):
         if twin in mutants or twin.reason or any(twin.keys & it.keys for it in mutants):
@@ -345,7 +345,7 @@ class Toolchain:
 
     @classmethod
     def find(cls) -> Toolchain | None:
-        """The toolchain whose `rt` is on the path, or None."""
+        """Return the toolchain whose `rt` is on the path, or None."""
         command = shutil.which("rt")
         return cls(Path(command).resolve().parent.parent) if command else None
 
@@ -356,7 +356,7 @@ class Toolchain:
         return words[words.index("logic") + 1]
 
     def command(self, tree: Tree, name: str) -> list[str]:
-        """The command that checks a crate over the libraries in `crates/*/out/rlib`."""
+        """Return the command that checks a crate over the libraries in `crates/*/out/rlib`."""
         crate, below = tree.crates[name], tree.below(name)
         rlib = {it: tree.folder(it) / f"out/rlib/{it}.rlib" for it in below}
         root = "src/main.rt" if tree.is_program(name) else "src/lib.rt"
@@ -392,7 +392,7 @@ class Answer:
 
 
 def check_round(tree: Tree, toolchain: Toolchain, round_: Round) -> Answer:
-    """Checks a copy of the crate with the changes of a round."""
+    """Check a copy of the crate with the changes of a round."""
     source = tree.folder(round_.crate)
     with tempfile.TemporaryDirectory(prefix="mutants-") as name:
         folder = Path(name)
@@ -414,7 +414,7 @@ def check_round(tree: Tree, toolchain: Toolchain, round_: Round) -> Answer:
 
 
 def run(words: list[str], folder: Path) -> tuple[str, int, float]:
-    """Runs a command in a folder; gives what it printed, its status and its processor seconds."""
+    """Run a command in a folder, and return what it printed, its status and its processor seconds."""
     with tempfile.TemporaryFile("w+", errors="replace") as output:
         child = subprocess.Popen(
             words, cwd=folder, stdin=subprocess.DEVNULL, stdout=output, stderr=output
@@ -431,12 +431,12 @@ def run(words: list[str], folder: Path) -> tuple[str, int, float]:
 
 
 def used_seconds(used: resource.struct_rusage) -> float:
-    """The processor seconds of a process and of those that it waited for."""
+    """Return the processor seconds of a process and of those that it waited for."""
     return used.ru_utime + used.ru_stime
 
 
 def verdict_of(crate: str, mutant: Mutant, answer: Answer) -> tuple[Verdict, str]:
-    """What an answer says of a mutant: its verdict, and the line that gives it."""
+    """Return what an answer says of a mutant: its verdict, and the line that gives it."""
     found = [verdict_of_function(crate, it, answer) for it in mutant.functions]
     for verdict in (Verdict.REFUSED, Verdict.UNCLEAR, Verdict.PROVED):
         for given, line in found:
@@ -446,7 +446,7 @@ def verdict_of(crate: str, mutant: Mutant, answer: Answer) -> tuple[Verdict, str
 
 
 def verdict_of_function(crate: str, function: Function, answer: Answer) -> tuple[Verdict, str]:
-    """What an answer says of one function."""
+    """Return what an answer says of one function."""
     path = function.path
     line_of = re.compile(rf"fn {crate}::(?:.*::)?{re.escape(path)}: (.*)")
     states = [match for match in map(line_of.match, answer.lines) if match]
@@ -465,7 +465,7 @@ def verdict_of_function(crate: str, function: Function, answer: Answer) -> tuple
 
 
 def is_goal_of(function: Function, line: str, answer: Answer) -> bool:
-    """Whether a line says that a goal of the function is open, or that the function is refused."""
+    """Return whether a line says that a goal of the function is open, or that the function is refused."""
     at = re.match(r"(?:note: )?(?:\./)?(\S+?):(\d+):\d+: (.*)", line)
     if not at or at[1] != function.file:
         return False
@@ -476,7 +476,7 @@ def is_goal_of(function: Function, line: str, answer: Answer) -> bool:
 
 
 def cannot_read(lines: Iterable[str], mutants: Iterable[Mutant]) -> str:
-    """The first line that says that the prover could not read a changed text, or nothing."""
+    """Return the first line that says that the prover could not read a changed text, or nothing."""
     changed = {change.file for mutant in mutants for change in mutant.changes}
     for line in lines:
         at = re.match(r"(?:\./)?(\S+?):\d+:\d+: error: (?:(`[^`]*`): )?(.*)", line)
@@ -511,7 +511,7 @@ class Tried:
 
 
 def judge(round_: Round, answer: Answer) -> Tried:
-    """Judges each mutant of a round by the prover's answer.
+    """Verify each mutant of a round by the prover's answer.
 
     A round of several of which the prover could read nothing, or whose control was not proved,
     counts for nothing: each of its mutants is tried again alone. If the control of one mutant alone
@@ -539,5 +539,5 @@ def judge(round_: Round, answer: Answer) -> Tried:
 
 
 def try_round(tree: Tree, toolchain: Toolchain, round_: Round) -> Tried:
-    """Tries a round."""
+    """Try a round."""
     return judge(round_, check_round(tree, toolchain, round_))

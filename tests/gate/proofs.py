@@ -22,12 +22,12 @@ jobs takes half as much again of the processors' time."""
 
 
 def processors() -> int:
-    """How many processors this process may use."""
+    """Return how many processors this process may use."""
     return len(os.sched_getaffinity(0))
 
 
 def lanes() -> dict[str, str]:
-    """The setting of `rt ci` for as many proofs side by side as there are processors and memory
+    """Return the setting of `rt ci` for as many proofs side by side as there are processors and memory
     for."""
     found = re.search(r"MemAvailable:\s+(\d+)", Path("/proc/meminfo").read_text())
     is_ample = found is not None and int(found[1]) >= MEMORY * processors()
@@ -68,11 +68,11 @@ class Proofs:
         return self.watch.running
 
     def has(self, crate: str) -> bool:
-        """Whether a crate and all below it are proved, so that its mutants can be tried."""
+        """Return whether a crate and all below it are proved, so that its mutants can be tried."""
         return self.proved.issuperset([*self.tree.below(crate), crate])
 
     def follow(self) -> None:
-        """Prints what `rt ci` says until it ends, and takes its result."""
+        """Print what `rt ci` says until it ends, and takes its result."""
         assert self.child.stdout
         for line in self.child.stdout:
             print(line, end="", flush=True)
@@ -88,7 +88,7 @@ class Proofs:
         self.end(self.child.returncode, used_seconds(used))
 
     def end(self, status: int, seconds: float) -> None:
-        """Takes the status and the cost of the run."""
+        """Take the status and the cost of the run."""
         self.watch.stop()
         if status or not self.passed:
             self.failed = max(self.failed, 1)
@@ -102,6 +102,6 @@ class Proofs:
         self.wake()
 
     def stop(self) -> None:
-        """Ends the run early."""
+        """End the run early."""
         self.child.terminate()
         self.thread.join()

@@ -43,18 +43,18 @@ class Schedule:
         self.changed = threading.Condition()
 
     def add(self, job: Job) -> None:
-        """Adds a job behind those that wait."""
+        """Add a job behind those that wait."""
         with self.changed:
             self.waiting.append(job)
             self.changed.notify_all()
 
     def wake(self) -> None:
-        """Looks again at what may begin."""
+        """Look again at what may begin."""
         with self.changed:
             self.changed.notify_all()
 
     def run(self, proofs: Proofs | None) -> None:
-        """Runs all jobs, and waits for the proofs. Jobs that never become ready are left."""
+        """Run all jobs, and waits for the proofs. Jobs that never become ready are left."""
         idle_since = time.monotonic()
         with self.changed:
             while not self.errors:
@@ -75,7 +75,7 @@ class Schedule:
             raise self.errors[0]
 
     def idle(self, proofs: Proofs | None) -> int:
-        """How many processors nothing uses."""
+        """Return how many processors nothing uses."""
         return (
             processors()
             - (proofs.running if proofs else 0)
@@ -83,7 +83,7 @@ class Schedule:
         )
 
     def next_job(self, idle: int) -> Job | None:
-        """The first job that may begin on so many idle processors."""
+        """Return the first job that may begin on so many idle processors."""
         has_script = any(job.is_script for job in self.running)
         for job in self.waiting:
             fits = job.processors <= idle or not self.running and idle >= processors()
@@ -92,13 +92,13 @@ class Schedule:
         return None
 
     def begin(self, job: Job) -> None:
-        """Begins a job in a thread of its own."""
+        """Begin a job in a thread of its own."""
         self.waiting.remove(job)
         self.running.append(job)
         threading.Thread(target=self.carry_out, args=(job,), daemon=True).start()
 
     def carry_out(self, job: Job) -> None:
-        """Runs a job to its end."""
+        """Run a job to its end."""
         try:
             job.action()
         except BaseException as error:

@@ -71,7 +71,7 @@ class Ran:
 
 
 def names(top: Path) -> list[str]:
-    """The names of all scripts, in the order in which they run one after another."""
+    """Return the names of all scripts, in the order in which they run one after another."""
     every = {path.stem for path in (top / "tests").glob("*.sh")}
     rest = sorted(every - {*FIRST, *LAST, *LONG})
     order = [*FIRST, *LONG, *rest, *LAST]
@@ -79,7 +79,7 @@ def names(top: Path) -> list[str]:
 
 
 def concerned(top: Path, changed: Iterable[str]) -> list[str]:
-    """The scripts that read one of these files. A file that no script names concerns all."""
+    """Return the scripts that read one of these files. A file that no script names concerns all."""
     files = list(changed)
     found: set[str] = set()
     for file in files:
@@ -92,14 +92,14 @@ def concerned(top: Path, changed: Iterable[str]) -> list[str]:
 
 
 def is_below(file: str, place: str) -> bool:
-    """Whether a file is what READS names."""
+    """Return whether a file is what READS names."""
     if place.endswith("/"):
         return file.startswith(place)
     return file == place or "/" not in file and place[:1] == "*" and file.endswith(place[1:])
 
 
 def run(top: Path, name: str, *, is_quick: bool) -> Ran:
-    """Runs a script. One that takes too long is stopped, with all that it started.
+    """Run a script. One that takes too long is stopped, with all that it started.
 
     Args:
         is_quick: whether it may build nothing, and may be skipped.
@@ -132,7 +132,7 @@ def run(top: Path, name: str, *, is_quick: bool) -> Ran:
 
 
 def wait_for(child: subprocess.Popen[bytes], until: float) -> tuple[int | None, float]:
-    """Waits for a process; gives its status, None if it was stopped, and its processor seconds."""
+    """Wait for a process, and return its status, None if it was stopped, and its processor seconds."""
     handle = os.pidfd_open(child.pid)
     try:
         ended, _, _ = select.select([handle], [], [], max(0.0, until - time.monotonic()))

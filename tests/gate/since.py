@@ -23,7 +23,7 @@ class Needs:
 
 
 def changed_files(top: Path, revision: str) -> list[str]:
-    """The files that differ from a revision, with those that git does not track yet."""
+    """Return the files that differ from a revision, with those that git does not track yet."""
     listed: list[str] = []
     for words in (
         ["diff", "--name-only", revision],
@@ -35,7 +35,7 @@ def changed_files(top: Path, revision: str) -> list[str]:
 
 
 def needs_of(tree: Tree, files: list[str]) -> Needs:
-    """What a change of these files needs."""
+    """Return what a change of these files needs."""
     touched = {
         parts[1]
         for parts in (file.split("/") for file in files)
@@ -55,5 +55,5 @@ def needs_of(tree: Tree, files: list[str]) -> Needs:
 
 
 def tops(tree: Tree, crates: list[str]) -> list[str]:
-    """Those of some crates that none of the others stands on."""
+    """Return those of some crates that none of the others stands on."""
     return [name for name in crates if tree.above({name}) & {*crates} == {name}]

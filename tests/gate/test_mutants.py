@@ -48,7 +48,7 @@ def tree(tmp_path: Path) -> Tree:
 
 
 def mutant(tree: Tree, name: str, *changes: tuple[str, str], only: str = "") -> Mutant:
-    """Writes and reads a mutant, or a twin."""
+    """Write and reads a mutant, or a twin."""
     path = tree.folder("book") / "mutants" / name
     lines = [*([f"only: {only}"] if only else []), "file: src/lib.rt"]
     for old, new in changes:
@@ -135,7 +135,7 @@ def test_mutants_of_different_functions_share_a_round(tree: Tree) -> None:
 
 
 def answer(tree: Tree, *lines: str, last: str = "only=2 proved=0") -> Answer:
-    """What the prover says, over the functions of the crate."""
+    """Return what the prover says, over the functions of the crate."""
     known = {it.key: [it] for it in mutants.functions("src/lib.rt", SOURCE)}
     return Answer([*lines, last, ""], 1, 1.0, known)
 

@@ -54,7 +54,7 @@ FIXED = b'{"refused":"fixed-shelf"}\n'
 
 
 def of_rows() -> Iterator[Talk]:
-    """The conversations of the rows: a name, definitions, a log and requests."""
+    """Yield the conversations of the rows: a name, definitions, a log and requests."""
     for path in sorted((rows.ROWS / "drive").glob("*.toml")):
         for row in rows.rows_of(path):
             said = row.keys.get("def")
@@ -73,7 +73,7 @@ def of_rows() -> Iterator[Talk]:
 
 
 def at_random(count: int, chance: random.Random) -> Iterator[Talk]:
-    """Random conversations; each second one goes on from a log that another one wrote, cut anywhere."""
+    """Yield random conversations; each second one goes on from a log that another one wrote, cut anywhere."""
     log = b""
     # (where memory lacks for the second of several tasks, the first is told alone)
     requests_of = [
@@ -97,7 +97,7 @@ def at_random(count: int, chance: random.Random) -> Iterator[Talk]:
 def ran(
     words: list[str], definitions: list[bytes], log: bytes, requests: bytes, **more: str
 ) -> Done:
-    """Runs either program: its words, then the log where there is one, and the definitions."""
+    """Run either program: its words, then the log where there is one, and the definitions."""
     with tempfile.TemporaryDirectory() as folder:
         paths = [Path(folder, str(place)) for place in range(len(definitions))]
         for path, text in zip(paths, definitions):
@@ -115,7 +115,7 @@ def ran(
 
 
 def wanted_of(definitions: list[bytes], log: bytes, requests: bytes) -> Done:
-    """What a coordinator has to print: what the program does with --lines, over a fixed shelf. Without --lines the program has one: so it says itself
+    """Return what a coordinator has to print: what the program does with --lines, over a fixed shelf. Without --lines the program has one: so it says itself
     which requests are refused for it. They change nothing, so the others are answered as they are without them.
     """
     fixed, shown = [rows.program(), "drive"], [rows.program(), "drive", "--lines"]
@@ -140,7 +140,7 @@ def wanted_of(definitions: list[bytes], log: bytes, requests: bytes) -> Done:
 
 
 def with_lines(printed: bytes) -> Iterator[bytes]:
-    """Each reply with the lines of the log before it."""
+    """Yield each reply with the lines of the log before it."""
     before = b""
     for line in printed.splitlines(True):
         before += line
@@ -150,7 +150,7 @@ def with_lines(printed: bytes) -> Iterator[bytes]:
 
 
 def refusals(program: str, size: int, talk: Talk, wanted: bytes) -> Iterator[str]:
-    """Refuses each growth of memory in turn."""
+    """Refuse each growth of memory in turn."""
     name, definitions, log, requests = talk
     growths = int(ran([program, str(size)], definitions, log, requests).stderr.split()[-2])
     for number in range(growths):

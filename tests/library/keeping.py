@@ -18,7 +18,7 @@ CUT = b"sagas: log: cut line taken away: "
 
 
 def keep(engine: str, path: str, words: list[str]) -> int:
-    """Drives with a log; gives the status."""
+    """Drive with a log, and return the status."""
     with open(path, "ab") as log:
         text = ["--from", path] if log.tell() else []
         command = [engine, "drive", "--lines", *text, *words]
@@ -43,7 +43,7 @@ def keep(engine: str, path: str, words: list[str]) -> int:
 
 
 def cut(log: BinaryIO, said: int) -> None:
-    """Cuts the log, where the program has left out its end, and passes on what it says of it."""
+    """Cut the log, where the program has left out its end, and passes on what it says of it."""
     os.set_blocking(said, False)
     try:
         line = os.read(said, 4096)
@@ -56,13 +56,13 @@ def cut(log: BinaryIO, said: int) -> None:
 
 
 def put(to: int, data: bytes) -> None:
-    """Writes all of it."""
+    """Write all of it."""
     while data:
         data = data[os.write(to, data) :]
 
 
 def main() -> int:
-    """Runs the words."""
+    """Run the words."""
     engine, *words = sys.argv[1:]
     if words[:1] != ["drive"] or "--log" not in words:
         os.execv(engine, [engine, *words])

@@ -47,7 +47,7 @@ COMMANDS = {
 
 
 def by_program(question: Question) -> Reply:
-    """What the program answers: its status, and what it prints, or with status 3 its line on standard error."""
+    """Return what the program answers: its status, and what it prints, or with status 3 its line on standard error."""
     call, texts = question
     with tempfile.TemporaryDirectory(
         dir="/dev/shm" if os.path.isdir("/dev/shm") else None
@@ -66,7 +66,7 @@ def by_program(question: Question) -> Reply:
 
 
 def by_library(loaded: ctypes.CDLL, question: Question) -> Reply:
-    """What the library answers."""
+    """Return what the library answers."""
     call, texts = question
     if call != "audit_all":
         return library.call(loaded, f"sagas_{call}", texts)
@@ -87,7 +87,7 @@ def by_library(loaded: ctypes.CDLL, question: Question) -> Reply:
 
 
 def of_rows() -> Iterator[Question]:
-    """The questions of tests/rows."""
+    """Yield the questions of tests/rows."""
     for path in sorted(rows.ROWS.glob("*/*.toml")):
         for row in rows.rows_of(path):
             keys = row.keys
@@ -105,7 +105,7 @@ def of_rows() -> Iterator[Question]:
 
 
 def definition(chance: random.Random) -> tuple[str, int]:
-    """A definition, and how many steps it has."""
+    """Return a definition, and how many steps it has."""
     count = chance.choice([1, 2, 3, 4, 6, 10, 30])
     lines = [f"format = {chance.choice([1, 2])}", 'name = "random"']
     for step in range(count):
@@ -122,13 +122,13 @@ def definition(chance: random.Random) -> tuple[str, int]:
 
 
 def case(chance: random.Random, count: int) -> str:
-    """A case of so many steps."""
+    """Return a case of so many steps."""
     told: dict[str, object] = {"states": chance.choices(STATES, [3, 4, 1, 1, 1], k=count)}
     return json.dumps({**told, "aborted": True} if chance.random() < 0.2 else told)
 
 
 def log(chance: random.Random, count: int) -> str:
-    """A log: events of a saga, most of them in an order that is allowed."""
+    """Return a log: events of a saga, most of them in an order that is allowed."""
     lines: list[dict[str, object]] = [{"def": 0, "event": "open", "saga": 0}]
     for step in range(count):
         lines += [
@@ -148,7 +148,7 @@ def log(chance: random.Random, count: int) -> str:
 
 
 def changed(chance: random.Random, text: bytes) -> bytes:
-    """The text with a byte changed, added or taken away, or cut, or with a piece twice."""
+    """Return the text with a byte changed, added or taken away, or cut, or with a piece twice."""
     at = chance.randrange(len(text) + 1)
     byte = bytes([chance.choice([0, 10, 34, 44, 48, 93, 125, 195, 255, chance.randrange(256)])])
     return chance.choice(
@@ -163,7 +163,7 @@ def changed(chance: random.Random, text: bytes) -> bytes:
 
 
 def deep() -> Iterator[Question]:
-    """Texts that are nested as deep as they can be."""
+    """Yield texts that are nested as deep as they can be."""
     case, chain = making.states(1024, "committed", "failed").encode(), making.chain(1024).encode()
     for said in (
         b"a=" + b"[" * 100000,
@@ -181,7 +181,7 @@ def deep() -> Iterator[Question]:
 
 
 def at_random(chance: random.Random, loaded: ctypes.CDLL) -> Iterator[Question]:
-    """The questions about a random saga."""
+    """Yield the questions about a random saga."""
     said, count = definition(chance)
     texts = [said.encode(), case(chance, count).encode()]
     status, answer = by_library(loaded, ("plan", texts))
@@ -200,7 +200,7 @@ def at_random(chance: random.Random, loaded: ctypes.CDLL) -> Iterator[Question]:
 
 
 def main() -> int:
-    """Compares; gives the status."""
+    """Compare, and return the status."""
     count, seed = (int(word) for word in (*sys.argv[1:], *("2000", "1")[len(sys.argv) - 1 :]))
     place = library.path()
     loaded = library.loaded(place) if place else None

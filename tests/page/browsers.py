@@ -34,18 +34,18 @@ class Browser(ABC):
 
     @abstractmethod
     def go(self, url: str) -> None:
-        """Opens a page."""
+        """Open a page."""
 
     @abstractmethod
     def picture(self, path: Path) -> None:
-        """Takes a picture of the page."""
+        """Take a picture of the page."""
 
     @abstractmethod
     def close(self) -> None:
-        """Ends the browser."""
+        """End the browser."""
 
     def until(self, script: str, *words: Any) -> Any:
-        """Waits until a script gives a value that is true, and gives it."""
+        """Wait until a script gives a value that is true, and gives it."""
         end = time.monotonic() + SECONDS
         while not (found := self.run(script, *words)):
             if time.monotonic() > end:
@@ -54,12 +54,12 @@ class Browser(ABC):
         return found
 
     def open(self, url: str) -> None:
-        """Opens the page, and waits for its first answer."""
+        """Open the page, and waits for its first answer."""
         self.go(url)
         self.until("return document.body.dataset.rounds")
 
     def change(self, script: str, *words: Any) -> dict[str, Any]:
-        """Does something that makes the page answer anew, waits for the answer, and gives what
+        """Do something that makes the page answer anew, waits for the answer, and gives what
         is shown."""
         rounds = self.run("return document.body.dataset.rounds")
         self.run(script, *words)
@@ -67,7 +67,7 @@ class Browser(ABC):
         return self.shown()
 
     def show(self, mode: str, example: int) -> dict[str, Any]:
-        """Chooses a mode and an example, as a user does."""
+        """Choose a mode and an example, as a user does."""
         if self.run("return document.body.dataset.mode") != mode:
             self.change("document.querySelector('input[value=' + arguments[0] + ']').click()", mode)
         return self.change(
@@ -77,7 +77,7 @@ class Browser(ABC):
         )
 
     def put(self, texts: dict[str, str]) -> dict[str, Any]:
-        """Puts texts into fields, as a paste does."""
+        """Put texts into fields, as a paste does."""
         return self.change(
             "for (const [id, text] of Object.entries(arguments[0])) {"
             " const it = document.getElementById(id); it.value = text;"
@@ -86,7 +86,7 @@ class Browser(ABC):
         )
 
     def shown(self) -> dict[str, Any]:
-        """What is told, where a fault stands, and what is in sight."""
+        """Return what is told, where a fault stands, and what is in sight."""
         found: dict[str, Any] = self.run(
             """const text = id => document.getElementById(id).textContent; return { kind:
             document.getElementById('told').className.split(' ').pop(), verdict: text('verdict'),
@@ -103,7 +103,7 @@ class Browser(ABC):
         return found
 
     def calls(self, questions: list[tuple[str, list[bytes]]]) -> list[tuple[int, bytes]]:
-        """What the module in the page answers to calls."""
+        """Return what the module in the page answers to calls."""
         given = []
         for call, texts in questions:
             spans, start = [], 0
@@ -172,15 +172,15 @@ class Chromium(Driven):
         self.driver.set_script_timeout(SCRIPT_SECONDS)
 
     def tell(self, command: str, **words: Any) -> Any:
-        """A command of the browser's own protocol."""
+        """Return a command of the browser's own protocol."""
         return self.driver.execute_cdp_cmd(command, words)
 
     def said(self) -> list[Any]:
-        """What has been written to the browser's log since this was asked."""
+        """Return what has been written to the browser's log since this was asked."""
         return list(self.driver.get_log("browser"))
 
     def look(self, width: int, is_dark: bool) -> None:
-        """Sets the width of the window, and light or dark."""
+        """Set the width of the window, and light or dark."""
         self.tell(
             "Emulation.setDeviceMetricsOverride",
             width=width,
@@ -194,7 +194,7 @@ class Chromium(Driven):
         )
 
     def picture(self, path: Path) -> None:
-        """Takes a picture of the whole page."""
+        """Take a picture of the whole page."""
         width, height = self.run("return [innerWidth, document.documentElement.scrollHeight]")
         made = self.tell(
             "Page.captureScreenshot",
@@ -244,7 +244,7 @@ class WebKit(Browser):
         self._ask("/window/rect", width=1280, height=1000)
 
     def _listens(self, port: int) -> None:
-        """Waits until the driver listens."""
+        """Wait until the driver listens."""
         end = time.monotonic() + SECONDS
         while True:
             try:
@@ -255,7 +255,7 @@ class WebKit(Browser):
                 time.sleep(0.05)
 
     def _ask(self, command: str, method: str = "POST", **words: Any) -> Any:
-        """The value that a command gives."""
+        """Return the value that a command gives."""
         data = json.dumps(words).encode() if method == "POST" else None
         request = urllib.request.Request(
             self.at + command, data, {"Content-Type": "application/json"}, method=method
@@ -323,7 +323,7 @@ class Firefox(Browser):
         )
 
     def _connected(self, told: Path) -> Any:
-        """The connection, once the browser has written its port."""
+        """Return the connection, once the browser has written its port."""
         end = time.monotonic() + SECONDS
         while not (told.exists() and told.read_text().strip()):
             if time.monotonic() > end or self.process.poll() is not None:
@@ -333,7 +333,7 @@ class Firefox(Browser):
         return self.socket.makefile("rwb")
 
     def _read(self) -> Any:
-        """An answer."""
+        """Return an answer."""
         length = b""
         while (byte := self.stream.read(1)) != b":":
             if not byte:
@@ -342,7 +342,7 @@ class Firefox(Browser):
         return json.loads(self.stream.read(int(length)))
 
     def _ask(self, command: str, **words: Any) -> Any:
-        """The value that a command gives."""
+        """Return the value that a command gives."""
         self.count += 1
         asked = json.dumps([0, self.count, command, words]).encode()
         self.stream.write(b"%d:%b" % (len(asked), asked))

@@ -32,7 +32,7 @@ NODE = os.environ.get("NODE") or "node"
 
 
 def answers(questions: list[same.Question], file: Path) -> list[same.Reply]:
-    """What Node answers, by a file for the questions."""
+    """Return what Node answers, by a file for the questions."""
     with file.open("wb") as out:
         out.write(
             json.dumps([[call, list(map(len, texts))] for call, texts in questions]).encode()
@@ -85,12 +85,12 @@ def test_the_module_asks_for_nothing() -> None:
 
 
 def section(kind: int, data: bytes) -> bytes:
-    """A section of a module."""
+    """Return a section of a module."""
     return bytes([kind, len(data)]) + data
 
 
 def with_code(code: bytes) -> bytes:
-    """A module of a function from a number of 64 bits to one, with a memory of 64 bits."""
+    """Return a module of a function from a number of 64 bits to one, with a memory of 64 bits."""
     body = b"\x00" + code + b"\x0b"
     parts = [
         (1, b"\x01\x60\x01\x7e\x01\x7e"),
