@@ -27,7 +27,16 @@ from typing import NamedTuple
 
 import avoided
 
-CLEAN: tuple[str, ...] = ()
+CLEAN: tuple[str, ...] = (
+    "bench",
+    "build",
+    "docs",
+    "examples",
+    "library",
+    "page",
+    "platforms",
+    "tests",
+)
 """The folders, with those below them, and the files in which a finding is an error."""
 
 HERE = Path(__file__).resolve().parent

@@ -15,27 +15,27 @@ from crates import Tree
 from mutants import used_seconds
 
 MEMORY = 4 * 1024 * 1024
-"""How much memory a proof may take, in KiB.
+"""The memory that a proof may take, in KiB.
 
-If there is so much for each processor, `rt ci` gives each proof one of them: a proof by several
-jobs takes half as much again of the processors' time."""
+If each processor has this memory, `rt ci` assigns one processor to each proof. A proof with several
+jobs takes half as much processor time again.
+"""
 
 
 def processors() -> int:
-    """Return how many processors this process may use."""
+    """Return the number of processors that this process may use."""
     return len(os.sched_getaffinity(0))
 
 
 def lanes() -> dict[str, str]:
-    """Return the setting of `rt ci` for as many proofs side by side as there are processors and memory
-    for."""
-    found = re.search(r"MemAvailable:\s+(\d+)", Path("/proc/meminfo").read_text())
-    is_ample = found is not None and int(found[1]) >= MEMORY * processors()
+    """Return the setting of `rt ci` for as many parallel proofs as the machine allows."""
+    available = re.search(r"MemAvailable:\s+(\d+)", Path("/proc/meminfo").read_text())
+    is_ample = available is not None and int(available[1]) >= MEMORY * processors()
     return {"RT_JOBS": str(processors())} if is_ample else {}
 
 
 class Proofs:
-    """A run of `rt ci`: which crates are proved so far, and in the end what it came to."""
+    """A run of `rt ci`: the crates that are proved so far, and its outcome."""
 
     def __init__(self, tree: Tree, wake: Callable[[], None]) -> None:
         self.tree = tree

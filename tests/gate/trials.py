@@ -72,7 +72,7 @@ class Report:
         )
 
     def wrong(self) -> list[Outcome]:
-        """Return the mutants that were not refused, and the twins that were, but for those that say so."""
+        """Return mutants that were not refused, and twins that were refused without a reason."""
         return [it for it in self.outcomes if not it.is_right]
 
 
@@ -83,7 +83,7 @@ def line_of(outcome: Outcome) -> str:
 
 
 def record(tree: Tree, logic: str, report: Report) -> list[str]:
-    """Write a row for each crate all of whose mutants were refused, and return the crates."""
+    """Write a row for each crate whose mutants were all refused, and return these crates."""
     crates = mutants.crates_with_mutants(tree)
     file = ledger.file_of(tree)
     rows = {crate: row for crate, row in ledger.read(file).items() if crate in crates}
