@@ -81,7 +81,9 @@ class Rules:
 
     def wordings_of(self, file: str) -> list[avoided.Avoided]:
         """Return the words that a file of code may not have."""
-        return [word for word in self.code if not self.is_exception(word.word, file)]
+        names = [word.word.replace(" ", "_") for word in self.code]
+        pairs = zip(self.code, names)
+        return [word for word, name in pairs if not self.is_exception(name, file)]
 
     def instead_of(self, name: str) -> str | None:
         """Return what to write instead of a name, or None if the name is fine."""
