@@ -1,10 +1,11 @@
 #!/usr/bin/env python3
-"""Times the calls of a book whose sagas are driven one task after another, and compares with a plain one (peers/book.cpp).
+"""Time the calls of a book, one task after another, against those of a plain one (peers/book.cpp).
 
-The definitions have random needs, eight a step. Either every step succeeds, or the last step of each saga fails, and a plan
-keeps nothing; planning and judging are not counted. Prints the time per event of both in the middle of all runs, and the
-bytes per event, which are the growth of the greatest memory in use over that of a book of one saga. Then the time per
-event of 1,000 sagas, as a ratio to that of 100. The allocator keeps the memory that a run gives back.
+The definitions have random needs, eight a step. Either every step succeeds, or the last step of
+each saga fails, and a plan keeps nothing. The times do not include planning and verification of
+plans. The script prints the median time per event of both, and the bytes per event: the growth of
+the peak memory over that of a book of one saga. Then it prints the time per event of 1,000 sagas as
+a ratio to that of 100. The allocator keeps the memory that a run frees.
 """
 import pathlib
 import subprocess
@@ -18,19 +19,21 @@ NEEDS = 8
 
 
 def definition(steps):
-    """A definition whose least plan keeps nothing."""
+    """Return a definition whose least plan keeps nothing."""
     _, pairs = case_net.made("any", steps, NEEDS * steps, 1)
     return "".join(["s waiting 0 0 0 1\n"] * steps + [f"n {step} {on}\n" for step, on in pairs])
 
 
 def greatest_memory(command):
-    """The most bytes that a command had in use in one of several runs, as the system says while it runs. Runs may be so
-    short that a look comes too early."""
+    """Return the peak memory of a command in bytes, over several runs.
+
+    A run may be so short that every sample is too early.
+    """
     return max(greatest_seen(command) for _ in range(9))
 
 
 def greatest_seen(command):
-    """The most bytes that a look at a running command saw."""
+    """Return the greatest peak memory that the samples of one run show, in bytes."""
     greatest = 0
     with subprocess.Popen(command, stdout=subprocess.DEVNULL, stderr=subprocess.DEVNULL) as process:
         while process.poll() is None:
@@ -45,8 +48,8 @@ def greatest_seen(command):
 
 
 def main():
-    words = runs.options(__doc__)
-    program = runs.built(words)
+    options = runs.options(__doc__)
+    program = runs.built(options)
     with tempfile.TemporaryDirectory() as folder:
         peer = pathlib.Path(folder) / "book"
         subprocess.run(
@@ -57,15 +60,17 @@ def main():
             for kind, fails in [("all succeed", []), ("one failure a saga", [str(steps - 1)])]:
                 load = [file, str(sagas), *fails]
                 (ours, our_time), (theirs, their_time) = runs.timed(
-                    [[*program, "book", *load], [peer, *load]], words.turns, runs.KEPT
+                    [[*program, "book", *load], [peer, *load]], options.turns, runs.KEPT
                 )
                 events = int(ours[1])
                 grown = greatest_memory([*program, "book", *load]) - greatest_memory(
                     [*program, "book", file, "1", *fails]
                 )
+                verdict = "agree" if ours == theirs else "DIFFER"
                 print(
-                    f"{sagas} sagas of {steps} steps, {kind}: {events} events {'agree' if ours == theirs else 'DIFFER'},"
-                    f" {our_time / events * 1e9:.0f} ns an event against {their_time / events * 1e9:.0f} ns,"
+                    f"{sagas} sagas of {steps} steps, {kind}: {events} events {verdict},"
+                    f" {our_time / events * 1e9:.0f} ns an event"
+                    f" against {their_time / events * 1e9:.0f} ns,"
                     f" ratio {our_time / their_time:.2f}, {grown / events:.1f} bytes an event",
                     flush=True,
                 )
@@ -73,7 +78,7 @@ def main():
             commands = [
                 [*program, "book", folder + "/64", sagas, *fails] for sagas in ["100", "1000"]
             ]
-            (few, few_time), (many, many_time) = runs.timed(commands, words.turns, runs.KEPT)
+            (few, few_time), (many, many_time) = runs.timed(commands, options.turns, runs.KEPT)
             ratio = many_time / int(many[1]) / (few_time / int(few[1]))
             print(
                 f"from 100 to 1,000 sagas of 64 steps, {kind}: ratio {ratio:.2f} an event",

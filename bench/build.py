@@ -1,9 +1,9 @@
 #!/usr/bin/env python3
-"""Times `Definition::build` alone at 128, 256, 512 and 1,024 steps.
+"""Time `Definition::build` alone at 128, 256, 512 and 1,024 steps.
 
-The needs are eight a step, random (`any`), or one chain, in which each step needs the one before it in the file (`forward`)
-or the one after it (`backward`). Prints for each size the time, in the middle of the seeds 1, 2 and so on, and its ratio to
-the time at 128 steps.
+The needs are eight a step, random (`any`), or one chain, in which each step needs the previous one
+in the file (`forward`) or the next one (`backward`). The script prints for each size the median
+time over the seeds 1, 2 and so on, and its ratio to the time at 128 steps.
 """
 import statistics
 import tempfile
@@ -20,7 +20,7 @@ def random_needs(steps, seed):
 
 
 def chain(needs):
-    """The text of a case of one chain."""
+    """Return the text of a case of one chain."""
     steps = len(needs) + 1
     return "".join(["s waiting 1 1 1 1\n"] * steps + [f"n {step} {on}\n" for step, on in needs])
 
@@ -34,18 +34,20 @@ def backward(steps, _seed):
 
 
 def main():
-    words = runs.options(__doc__)
-    program = runs.built(words)
+    options = runs.options(__doc__)
+    program = runs.built(options)
     with tempfile.TemporaryDirectory() as folder:
         for kind, made in [("any", random_needs), ("forward", forward), ("backward", backward)]:
-            found = []
-            for seed in range(1, words.seeds + 1):
+            times_by_seed = []
+            for seed in range(1, options.seeds + 1):
                 commands = [
                     [*program, "build", runs.put(folder, str(steps), made(steps, seed))]
                     for steps in SIZES
                 ]
-                found.append([seconds for _, seconds in runs.timed(commands, words.turns)])
-            middles = [statistics.median(times) for times in zip(*found)]
+                times_by_seed.append(
+                    [seconds for _, seconds in runs.timed(commands, options.turns)]
+                )
+            middles = [statistics.median(times) for times in zip(*times_by_seed)]
             for steps, middle in zip(SIZES, middles):
                 print(
                     f"{steps} steps {kind}: {middle * 1e6:.0f} us, ratio {middle / middles[0]:.2f}",

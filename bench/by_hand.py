@@ -1,5 +1,8 @@
-"""The usual thing by hand over PostgreSQL: a state machine in a table, and no coordinator. It keeps what a store keeps of a saga that goes well:
-key, input, the step that is begun, each step's result, the end; no compensations, tries, plans, timeouts or tokens."""
+"""Sagas by hand over PostgreSQL: a state machine in a table, without a coordinator.
+
+It stores what a store has of a saga that completes: key, input, the current step, each result and
+the end. It has no compensations, retries, plans, timeouts or idempotency keys.
+"""
 
 from __future__ import annotations
 
@@ -13,8 +16,14 @@ from typing import Any
 import psycopg
 
 TABLES = """
-CREATE TABLE by_hand(id bigint PRIMARY KEY, key text NOT NULL UNIQUE, input text NOT NULL, step integer NOT NULL, phase text NOT NULL) WITH (fillfactor = 70);
-CREATE TABLE by_hand_result(saga bigint NOT NULL, step integer NOT NULL, value text, at double precision, PRIMARY KEY(saga, step));
+CREATE TABLE by_hand(
+    id bigint PRIMARY KEY, key text NOT NULL UNIQUE, input text NOT NULL,
+    step integer NOT NULL, phase text NOT NULL
+) WITH (fillfactor = 70);
+CREATE TABLE by_hand_result(
+    saga bigint NOT NULL, step integer NOT NULL, value text, at double precision,
+    PRIMARY KEY(saga, step)
+);
 """
 SETTINGS = (
     "SET enable_seqscan = off; SET enable_hashjoin = off; SET enable_mergejoin = off; SET jit = off"
@@ -22,9 +31,15 @@ SETTINGS = (
 OPEN = "INSERT INTO by_hand VALUES(%s, %s, %s, 0, 'going')"
 DONE = """WITH r AS (INSERT INTO by_hand_result VALUES(%(id)s, %(step)s, %(value)s, %(at)s))
 UPDATE by_hand SET step = %(step)s + 1, phase = %(phase)s WHERE id = %(id)s"""
-MANY = """WITH a AS (INSERT INTO by_hand SELECT o.*, 0, 'going' FROM unnest(%s::bigint[], %s::text[], %s::text[]) AS o(id, key, input)),
-b AS (INSERT INTO by_hand_result SELECT d.id, d.step, d.value, d.at FROM unnest(%s::bigint[], %s::int[], %s::text[], %s::float8[]) AS d(id, step, value, at))
-UPDATE by_hand SET step = d.step + 1, phase = d.phase FROM unnest(%s::bigint[], %s::int[], %s::text[]) AS d(id, step, phase) WHERE by_hand.id = d.id"""
+MANY = """WITH a AS (
+    INSERT INTO by_hand SELECT o.*, 0, 'going'
+    FROM unnest(%s::bigint[], %s::text[], %s::text[]) AS o(id, key, input)
+), b AS (
+    INSERT INTO by_hand_result SELECT d.id, d.step, d.value, d.at
+    FROM unnest(%s::bigint[], %s::int[], %s::text[], %s::float8[]) AS d(id, step, value, at)
+)
+UPDATE by_hand SET step = d.step + 1, phase = d.phase
+FROM unnest(%s::bigint[], %s::int[], %s::text[]) AS d(id, step, phase) WHERE by_hand.id = d.id"""
 
 Opened = tuple[int, str, str]
 Done = tuple[int, int, str, float, str]
@@ -32,7 +47,7 @@ Done = tuple[int, int, str, float, str]
 
 
 def columns(rows: Sequence[Sequence[Any]], width: int) -> list[list[Any]]:
-    """The columns of rows."""
+    """Return the columns of rows."""
     return [list(column) for column in zip(*rows)] if rows else [[] for _ in range(width)]
 
 
@@ -43,7 +58,7 @@ class Each:
         self.url, self.count = url, links
 
     async def open(self) -> None:
-        """Makes the tables, and connects."""
+        """Connect, and create the tables."""
         self.links: asyncio.Queue[psycopg.AsyncConnection[Any]] = asyncio.Queue()
         self.all = [
             await psycopg.AsyncConnection.connect(self.url, autocommit=True, prepare_threshold=2)
@@ -55,12 +70,12 @@ class Each:
             self.links.put_nowait(link)
 
     async def close(self) -> None:
-        """Ends the connections."""
+        """Close the connections."""
         for link in self.all:
             await link.close()
 
     async def write(self, opened: Opened | None, done: Done | None) -> None:
-        """Commits one change."""
+        """Commit one change."""
         link = await self.links.get()
         if opened:
             await link.execute(OPEN, opened)
@@ -78,7 +93,7 @@ class Shared(Each):
         self.busy = False
 
     async def write(self, opened: Opened | None, done: Done | None) -> None:
-        """Commits one change, with those of others."""
+        """Commit one change, with those of other sagas."""
         future = asyncio.get_running_loop().create_future()
         self.queue.append((future, opened, done))
         if not self.busy:
@@ -89,12 +104,12 @@ class Shared(Each):
     async def _drain(self) -> None:
         while self.queue:
             batch, self.queue = self.queue, []
-            opened = [one for _, one, _ in batch if one]
-            done = [one for _, _, one in batch if one]
+            opened = [change for _, change, _ in batch if change]
+            done = [change for _, _, change in batch if change]
             ends = [(id, step, phase) for id, step, _, _, phase in done]
             await self.all[0].execute(
                 MANY,
-                (*columns(opened, 3), *columns([one[:4] for one in done], 4), *columns(ends, 3)),
+                (*columns(opened, 3), *columns([row[:4] for row in done], 4), *columns(ends, 3)),
             )
             for future, _, _ in batch:
                 future.set_result(None)
@@ -102,28 +117,31 @@ class Shared(Each):
 
 
 UNDONE = 1000
-"""The number of the row that undoes step 0; a step that fails has such a row, too."""
+"""The number of the row that undoes step 0. A step that fails has such a row too."""
 
 
 class Machine:
-    """Runs the steps of a saga one behind the other. Where one raises `LookupError`, those before it are undone, the last one first,
-    by the first one's function, each by a change of its own, and a line of the log tells of it."""
+    """Run the steps of a saga one after another.
+
+    If a step raises `LookupError`, the steps before it are undone in reverse order, each with its
+    own change, by a call of the first step's function. A line of the log reports the failure.
+    """
 
     def __init__(self, store: Each, steps: Sequence[Callable[[Any], Awaitable[Any]]]) -> None:
         self.store, self.steps, self.next = store, steps, 0
 
-    async def run(self, key: str, given: Any) -> None:
-        """A saga from its start to its end."""
+    async def run(self, key: str, saga_input: Any) -> None:
+        """Run a saga from its start to its end."""
         id, self.next = self.next, self.next + 1
-        await self.store.write((id, key, json.dumps(given)), None)
+        await self.store.write((id, key, json.dumps(saga_input)), None)
         for number, step in enumerate(self.steps):
             try:
-                value = await step(given)
+                value = await step(saga_input)
             except LookupError as error:
                 logging.getLogger("by hand").warning(
                     "step_failed key=%s step=%d detail=%r", key, number, error
                 )
-                await self._back(id, number, given)
+                await self._back(id, number, saga_input)
                 return
             await self.store.write(
                 None,
@@ -136,10 +154,10 @@ class Machine:
                 ),
             )
 
-    async def _back(self, id: int, failed: int, given: Any) -> None:
+    async def _back(self, id: int, failed: int, saga_input: Any) -> None:
         await self.store.write(None, (id, UNDONE + failed, "null", time.time(), "undoing"))
         for number in reversed(range(failed)):
-            await self.steps[0](given)
+            await self.steps[0](saga_input)
             await self.store.write(
                 None, (id, UNDONE + number, "null", time.time(), "undoing" if number else "ended")
             )

@@ -1,10 +1,11 @@
 #!/usr/bin/env python3
-"""Prints a random case as bench/saga_timing reads it, or with `--net` its network in DIMACS form.
+"""Print a random case as bench/saga_timing reads it, or with `--net` its network in DIMACS form.
 
-Each step needs some of the steps before it: any of them, or with `near` some of those just before it. The saga ran in
-order until near its end: the first three quarters of the steps are committed, and of the others some failed, and those
-wait that need what is not committed. Undoing a step and ending without it costs as much as its standing, in the middle.
-With `mixed` each step has any state, and needs any of the steps before it.
+Each step needs some of the steps before it: any of them, or with `near` some of the last ones. The
+saga ran in order until near its end. The first three quarters of the steps are committed. Some of
+the other steps failed, and steps wait if a step that they need is not committed. On average it
+costs as much to undo a step and to end without it as to keep it. With `mixed` each step has any
+state, and needs any of the steps before it.
 """
 import argparse
 import random
@@ -17,7 +18,10 @@ DEAREST = 10**6
 
 
 def made(shape, steps, needs, seed):
-    """The steps, each a state and its prices (run, undo, skip, keep), and the needs, each a step and one before it."""
+    """Return the steps and their needs.
+
+    A step is its state and its costs (run, undo, skip, keep), a need is a pair of steps.
+    """
     draw = random.Random(f"{shape} {steps} {needs} {seed}")
     drawn, pairs = [], []
     for step, count in enumerate(needs_of_each(steps, needs)):
@@ -32,29 +36,29 @@ def made(shape, steps, needs, seed):
             state = "failed"
         else:
             state = "committed"
-        drawn.append((state, [draw.randint(0, most * DEAREST) for most in [1, 1, 1, 2]]))
+        drawn.append((state, [draw.randint(0, factor * DEAREST) for factor in [1, 1, 1, 2]]))
     return drawn, pairs
 
 
-def prices(state, run, undo, skip, keep):
-    """What it costs to leave the step out, and that it stands."""
+def costs_of(state, run, undo, skip, keep):
+    """Return the costs of leaving a step out and of keeping it in effect."""
     if state == "committed":
         return undo + skip, keep
     return skip, run + keep if state == "waiting" else UNBOUNDED
 
 
 def case(drawn, pairs):
-    """The case as a text."""
+    """Return the text of a case."""
     lines = [" ".join(["s", state, *map(str, four)]) for state, four in drawn]
     lines += [f"n {step} {on}" for step, on in pairs]
     return "\n".join(lines) + "\n"
 
 
 def network(drawn, pairs):
-    """The case's network: leave arcs, stand arcs and links."""
-    both = [prices(state, *four) for state, four in drawn]
+    """Return the network of a case: arcs for leaving out, arcs for keeping, and links."""
+    both = [costs_of(state, *four) for state, four in drawn]
     arcs = [(1, 3 + step, leave) for step, (leave, _) in enumerate(both)]
-    arcs += [(3 + step, 2, stand) for step, (_, stand) in enumerate(both)]
+    arcs += [(3 + step, 2, keep) for step, (_, keep) in enumerate(both)]
     arcs += [(3 + step, 3 + on, UNBOUNDED) for step, on in pairs]
     return dimacs(len(drawn) + 2, arcs)
 
@@ -66,9 +70,9 @@ def main():
     parser.add_argument("--seed", type=int, default=1)
     parser.add_argument("--shape", choices=["near", "any", "mixed"], default="near")
     parser.add_argument("--net", action="store_true")
-    words = parser.parse_args()
-    drawn = made(words.shape, words.steps, words.needs, words.seed)
-    print(network(*drawn) if words.net else case(*drawn), end="")
+    options = parser.parse_args()
+    drawn = made(options.shape, options.steps, options.needs, options.seed)
+    print(network(*drawn) if options.net else case(*drawn), end="")
 
 
 if __name__ == "__main__":

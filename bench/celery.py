@@ -1,19 +1,23 @@
 #!/usr/bin/env python3
-"""Times sagas of three empty steps on Celery's workers beside a Celery chain of three empty tasks, over the same broker and workers, in one run.
+"""Time sagas of three empty steps on Celery's workers against a Celery chain of three empty tasks.
 
-    PYTHONPATH=python/src python3 bench/celery.py [--turns N] [--count N] [--open 64] [--workers 2] [--broker redis|rabbitmq] [--store URL]
+    PYTHONPATH=python/src python3 bench/celery.py [--turns N] [--count N] [--open 64]
+        [--workers 2] [--broker redis|rabbitmq] [--store URL]
 
-64 are open at once: when one has ended the next is started. The chain has no result backend either: its last task pushes a word to a list
-in Redis, which this program waits for. The sagas are kept in a SQLite file, which the worker shares, or in the PostgreSQL database of `--store`.
-The broker and the worker are started here, in a folder of their own; Redis keeps nothing on the disk, as it comes. The turns alternate, so that a slower moment of the machine meets both;
-the table has the middle turn. Redis has to be installed, and RabbitMQ where it is asked for.
+Both use the same broker and workers in one run. 64 are open at once: when one has ended, the next
+one starts. The chain has no result backend either: its last task pushes a value to a list in Redis,
+and this program waits for it. The store is a SQLite file, which the worker shares, or the
+PostgreSQL database of `--store`. The program starts the broker and the worker in a temporary
+folder. Redis writes nothing to the disk, which is its default. The turns alternate, so that a
+slower moment of the machine affects both. The table has the medians. The program needs Redis, and
+RabbitMQ for `--broker rabbitmq`.
 """
 
 from __future__ import annotations
 
 import sys
 
-sys.path.pop(0)  # this file is named as the package that it times
+sys.path.pop(0)  # this file has the name of the package that it times
 
 import argparse
 import asyncio
@@ -60,18 +64,18 @@ def last(): done.lpush("done", "1")
 """
 
 
-async def chains(app: Any, done: redis.Redis[bytes], count: int, most: int) -> float:
-    """Seconds for so many chains."""
+async def chains(app: Any, done: redis.Redis[bytes], count: int, together: int) -> float:
+    """Return the seconds that `count` chains take."""
 
     def work() -> None:
         whole = celery.chain(
             app.tasks["empty"].si(), app.tasks["empty"].si(), app.tasks["last"].si()
         )
         for number in range(count):
-            if number >= most:
+            if number >= together:
                 done.brpop("done", 60)
             whole.apply_async()
-        for _ in range(min(most, count)):
+        for _ in range(min(together, count)):
             done.brpop("done", 60)
 
     began = time.perf_counter()
@@ -79,8 +83,10 @@ async def chains(app: Any, done: redis.Redis[bytes], count: int, most: int) -> f
     return time.perf_counter() - began
 
 
-async def of_sagas(store: sagas.Store, saga: sagas.Saga, turn: int, count: int, most: int) -> float:
-    """Seconds for so many sagas."""
+async def of_sagas(
+    store: sagas.Store, saga: sagas.Saga, turn: int, count: int, together: int
+) -> float:
+    """Return the seconds that `count` sagas take."""
     numbers = iter(range(count))
 
     async def one_after_another() -> None:
@@ -88,25 +94,25 @@ async def of_sagas(store: sagas.Store, saga: sagas.Saga, turn: int, count: int, 
             await (await store.start(saga, f"{turn}-{number}")).wait()
 
     began = time.perf_counter()
-    await asyncio.gather(*(one_after_another() for _ in range(most)))
+    await asyncio.gather(*(one_after_another() for _ in range(together)))
     return time.perf_counter() - began
 
 
 @contextlib.contextmanager
-def running(words: argparse.Namespace, folder: pathlib.Path) -> Iterator[Any]:
-    """The broker, a list in Redis, a worker; gives the app's module."""
+def running(options: argparse.Namespace, folder: pathlib.Path) -> Iterator[Any]:
+    """Start the broker, a list in Redis and a worker, and yield the module of the app."""
     for name in ("done", "broker"):
         (folder / name).mkdir()
     with broker_at("redis", folder / "done", False) as done, broker_at(
-        words.broker, folder / "broker", False
+        options.broker, folder / "broker", False
     ) as broker:
         (folder / "bench_app.py").write_text(APP)
-        told = {
+        settings = {
             "BENCH_BROKER": broker.url,
-            "BENCH_STORE": words.store or str(folder / "store.db"),
+            "BENCH_STORE": options.store or str(folder / "store.db"),
             "BENCH_DONE": done.url.removeprefix("redis+socket://"),
         }
-        os.environ.update(told)
+        os.environ.update(settings)
         sys.path.insert(0, str(folder))
         import bench_app  # type: ignore[import]
 
@@ -121,7 +127,7 @@ def running(words: argparse.Namespace, folder: pathlib.Path) -> Iterator[Any]:
             "-Q",
             "bench",
             "-c",
-            str(words.workers),
+            str(options.workers),
             "-l",
             "INFO",
         ]
@@ -138,28 +144,32 @@ def running(words: argparse.Namespace, folder: pathlib.Path) -> Iterator[Any]:
             worker.kill()
 
 
-async def main(words: argparse.Namespace, module: Any) -> None:
-    """The turns, and their table."""
-    found: dict[str, list[float]] = {"chains": [], "sagas": []}
-    name = words.store or module.app.conf.sagas_store
-    async with sagas.open(name, [module.three], concurrency=words.open * 2) as store:
-        for turn in range(words.turns + 1):
-            count = words.count if turn else words.open  # the first turn warms them up
-            took = await chains(module.app, module.done, count, words.open)
-            taken = await of_sagas(store, module.three, time.time_ns(), count, words.open)
+async def main(options: argparse.Namespace, module: Any) -> None:
+    """Run the turns, and print their table."""
+    rates_by_way: dict[str, list[float]] = {"chains": [], "sagas": []}
+    name = options.store or module.app.conf.sagas_store
+    async with sagas.open(name, [module.three], concurrency=options.open * 2) as store:
+        for turn in range(options.turns + 1):
+            count = options.count if turn else options.open  # the first turn warms both up
+            took = await chains(module.app, module.done, count, options.open)
+            taken = await of_sagas(store, module.three, time.time_ns(), count, options.open)
             if turn:
-                found["chains"].append(count / took)
-                found["sagas"].append(count / taken)
+                rates_by_way["chains"].append(count / took)
+                rates_by_way["sagas"].append(count / taken)
                 print(
-                    f"turn {turn}: {count / took:.0f} chains a second, {count / taken:.0f} sagas a second",
+                    f"turn {turn}: {count / took:.0f} chains a second, "
+                    f"{count / taken:.0f} sagas a second",
                     flush=True,
                 )
-    middle = {what: statistics.median(rates) for what, rates in found.items()}
+    middle = {way: statistics.median(rates) for way, rates in rates_by_way.items()}
     print(
-        f"middle of {words.turns}, {words.open} open, {words.workers} processes of a worker, {words.broker}:"
+        f"median of {options.turns}, {options.open} open, "
+        f"{options.workers} processes of a worker, {options.broker}:"
     )
+    ratio = middle["sagas"] / middle["chains"]
     print(
-        f"  chains {middle['chains']:.0f} a second, sagas {middle['sagas']:.0f} a second: {middle['sagas'] / middle['chains']:.2f} of it"
+        f"  chains {middle['chains']:.0f} a second, sagas {middle['sagas']:.0f} a second: "
+        f"ratio {ratio:.2f}"
     )
 
 
@@ -173,7 +183,7 @@ if __name__ == "__main__":
     parser.add_argument("--workers", type=int, default=2)
     parser.add_argument("--broker", default="redis", choices=("redis", "rabbitmq"))
     parser.add_argument("--store", default=None)
-    given = parser.parse_args()
+    arguments = parser.parse_args()
     with tempfile.TemporaryDirectory(prefix="sagas-bench-") as name:
-        with running(given, pathlib.Path(name)) as module:
-            asyncio.run(main(given, module))
+        with running(arguments, pathlib.Path(name)) as module:
+            asyncio.run(main(arguments, module))

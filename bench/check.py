@@ -1,10 +1,11 @@
 #!/usr/bin/env python3
-"""How long `sagas check` takes at best of many runs, and how that is shared among reading the definition, the case and the
-answer, and judging.
+"""Time `sagas check`, the best of many runs, and the shares of its parts.
 
-Each part is measured as the time of a run that ends after it, less that of the run that ends before it: a case that is no JSON
-ends after the definition, an answer that is no JSON after the case, an answer of no shape after the answer was read.
-Prints one line for each size: the whole time, and each part as a share of it.
+The parts are reading the definition, the case and the answer, and the verification. A part is
+measured as the time of a run that ends after it, less that of a run that ends before it. A case
+that is not JSON ends after the definition, an answer that is not JSON after the case, and an answer
+of the wrong shape after the answer was read. The script prints one line for each size: the total
+time, and each part as a share of it.
 """
 import json
 import os
@@ -42,27 +43,30 @@ def case(steps):
 
 
 def answer(steps, needs):
-    """Undoing costs 1 a step and keeping 2, so all committed steps are undone; each sends its 1 straight to the sink."""
-    ones = [1] * (steps - 1) + [0]
+    """Return an answer that undoes all committed steps.
+
+    To undo a step costs 1, and to keep it 2. Each step sends a flow of 1 directly to the sink.
+    """
+    units = [1] * (steps - 1) + [0]
     plan = {
         "cost": steps - 1,
         "kept": [],
         "kind": "plan",
-        "leave": ones,
+        "leave": units,
         "links": [0] * needs,
-        "stand": ones,
+        "stand": units,
     }
     return json.dumps(plan, separators=(",", ":"))
 
 
 def seconds(runs):
-    """For each run, a command and its files, the seconds of the best of many, in turns."""
+    """Return the best time of each run in seconds. A run is a command and its files."""
     best = [float("inf")] * len(runs)
     for _ in range(RUNS):
-        for number, (command, *words) in enumerate(runs):
+        for number, (command, *paths) in enumerate(runs):
             start = time.perf_counter()
             subprocess.run(
-                [PROGRAM, command, *words],
+                [PROGRAM, command, *paths],
                 stdout=subprocess.DEVNULL,
                 stderr=subprocess.DEVNULL,
                 check=False,
@@ -95,11 +99,11 @@ def main():
                 .replace('"kept":[]', '"kept":[0]')
                 .replace('"links":[', '"links":[0,', 1),
             )
-            said = subprocess.run(
+            verdict = subprocess.run(
                 [PROGRAM, "check", saga, states, plan], capture_output=True, text=True, check=False
             ).stdout
-            if said != f"least {steps - 1}\n":
-                sys.exit(f"not least: {said!r}")
+            if verdict != f"least {steps - 1}\n":
+                sys.exit(f"not least: {verdict!r}")
             files = [
                 [none, none, none],
                 [saga, none, none],
@@ -107,7 +111,7 @@ def main():
                 [saga, states, shapeless],
                 [saga, states, plan],
             ]
-            start, read, cased, answered, whole = seconds([["check", *words] for words in files])
+            start, read, cased, answered, whole = seconds([["check", *paths] for paths in files])
             parts = {
                 "start": start,
                 "definition": read - start,

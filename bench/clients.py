@@ -1,5 +1,5 @@
 #!/usr/bin/env python3
-"""Times the workers of all languages against the same service.
+"""Time the workers of all languages against the same service.
 
     PYTHONPATH=python/src:python/tests:clients/contract python3 bench/clients.py
         [--store sqlite|postgresql] [--count N] [--concurrency N] [--turns N] [--languages ...]
@@ -7,8 +7,8 @@
 Each turn starts `sagas serve` with its durable defaults, and N sagas of one step. Then one worker
 process does all tasks. Its function returns at once. The rate is by the time from the worker's
 start to the last saga's end. The worker is the driver of the contract suite (clients/contract), so
-it does what users' workers do. Beside tasks a second stand the processor's microseconds for one
-task, of the worker and of the service. `TMPDIR=/dev/shm` puts SQLite's files into memory.
+it does what users' workers do. The table has tasks a second, and the microseconds of the processor
+for one task, of the worker and of the service. `TMPDIR=/dev/shm` puts SQLite's files into memory.
 """
 
 from __future__ import annotations
@@ -28,9 +28,9 @@ from harness import Driver, commands, languages
 from server import Server, serving
 from serving import Served, served
 
-ONE = {"one.toml": 'format = 2\nname = "one"\n[[step]]\nname = "a"\nundo = "never"\n'}
+DEFINITIONS = {"one.toml": 'format = 2\nname = "one"\n[[step]]\nname = "a"\nundo = "never"\n'}
 STARTERS = 16
-"""How many sagas are started at once: their commits are shared."""
+"""The number of concurrent starts, which share commits."""
 TICKS = os.sysconf("SC_CLK_TCK")
 
 
@@ -43,13 +43,13 @@ class Figure(NamedTuple):
 
 
 def spent(process: int) -> float:
-    """The processor's seconds of a process and its threads."""
+    """Return the processor time of a process and its threads, in seconds."""
     fields = pathlib.Path(f"/proc/{process}/stat").read_text().rpartition(")")[2].split()
     return (int(fields[11]) + int(fields[12])) / TICKS
 
 
 def fill(service: Served, count: int) -> None:
-    """So many sagas, all of which wait for their task."""
+    """Start `count` sagas, which wait for their tasks."""
     with httpx.Client(
         base_url=service.url, trust_env=False, timeout=60
     ) as client, ThreadPoolExecutor(STARTERS) as pool:
@@ -62,16 +62,16 @@ def fill(service: Served, count: int) -> None:
 
 
 def timed(command: list[str], service: Served, count: int, concurrency: int) -> Figure:
-    """One worker, until all sagas have ended."""
+    """Run one worker until all sagas have ended."""
     fill(service, count)
     assert service.process
     driver = Driver(command)
     try:
         driver.ask("open", url=service.url, token=None)
         processes = driver.process.pid, service.process.pid
-        before, began = [spent(one) for one in processes], time.perf_counter()
-        words = {"url": service.url, "token": None, "steps": ["one/a"], "lease": 60, "wait": 1}
-        driver.ask("worker", worker="w", concurrency=concurrency, quiet=True, **words)
+        before, began = [spent(process) for process in processes], time.perf_counter()
+        settings = {"url": service.url, "token": None, "steps": ["one/a"], "lease": 60, "wait": 1}
+        driver.ask("worker", worker="w", concurrency=concurrency, quiet=True, **settings)
         with httpx.Client(base_url=service.url, trust_env=False, timeout=60) as client:
             while (
                 client.get("/v1/definitions").json()["definitions"][0]["sagas"].get("completed", 0)
@@ -79,7 +79,7 @@ def timed(command: list[str], service: Served, count: int, concurrency: int) -> 
             ):
                 time.sleep(0.05)
         seconds = time.perf_counter() - began
-        costs = [1e6 * (spent(one) - old) / count for one, old in zip(processes, before)]
+        costs = [1e6 * (spent(pid) - old) / count for pid, old in zip(processes, before)]
         driver.ask("stop", worker="w")
         driver.end()
         return Figure(count / seconds, *costs)
@@ -88,15 +88,15 @@ def timed(command: list[str], service: Served, count: int, concurrency: int) -> 
 
 
 def turn(command: list[str], server: Server | None, count: int, concurrency: int) -> Figure:
-    """One language at a service of its own."""
+    """Run one language with its own service."""
     with tempfile.TemporaryDirectory(prefix="sagas-bench-") as folder:
         url = server.create() if server else None
-        with served(pathlib.Path(folder), ONE, store=url) as service:
+        with served(pathlib.Path(folder), DEFINITIONS, store=url) as service:
             return timed(command, service, count, concurrency)
 
 
 def main() -> None:
-    """The command."""
+    """Run the command."""
     parser = argparse.ArgumentParser(
         description=__doc__, formatter_class=argparse.RawDescriptionHelpFormatter
     )
@@ -105,25 +105,30 @@ def main() -> None:
     parser.add_argument("--concurrency", type=int, default=4)
     parser.add_argument("--turns", type=int, default=3)
     parser.add_argument("--languages", nargs="*", default=languages())
-    words = parser.parse_args()
-    figures: dict[str, list[Figure]] = {language: [] for language in words.languages}
+    options = parser.parse_args()
+    figures: dict[str, list[Figure]] = {language: [] for language in options.languages}
     with contextlib.ExitStack() as stack:
         server = (
-            stack.enter_context(serving({"fsync": "on"})) if words.store == "postgresql" else None
+            stack.enter_context(serving({"fsync": "on"})) if options.store == "postgresql" else None
         )
         command = stack.enter_context(commands())
-        for _ in range(words.turns):
-            for language in words.languages:
+        for _ in range(options.turns):
+            for language in options.languages:
                 figures[language].append(
-                    turn(command(language), server, words.count, words.concurrency)
+                    turn(command(language), server, options.count, options.concurrency)
                 )
-    print(f"{words.store}, {words.count} tasks, {words.concurrency} at once, {words.turns} turns")
+    print(
+        f"{options.store}, {options.count} tasks, {options.concurrency} at once, "
+        f"{options.turns} turns"
+    )
     print(f"{'':10}{'tasks/s':>10}{'from':>8}{'to':>8}{'worker us':>12}{'service us':>12}")
-    for language, some in figures.items():
-        rates = [one.rate for one in some]
-        worker, service = (statistics.median(one[place] for one in some) for place in (1, 2))
+    for language, turns in figures.items():
+        rates = [figure.rate for figure in turns]
+        worker = statistics.median(figure.worker for figure in turns)
+        service = statistics.median(figure.service for figure in turns)
         print(
-            f"{language:10}{statistics.median(rates):10.0f}{min(rates):8.0f}{max(rates):8.0f}{worker:12.0f}{service:12.0f}"
+            f"{language:10}{statistics.median(rates):10.0f}{min(rates):8.0f}{max(rates):8.0f}"
+            f"{worker:12.0f}{service:12.0f}"
         )
 
 

@@ -26,12 +26,12 @@ import sagas
 from sagas.runtime.function_threads import FunctionThreads
 
 WARM = 3
-"""Sagas of each caller that run before those that are timed."""
+"""Sagas of each caller that run before the timed ones."""
 IN_THREAD = FunctionThreads.call
 
 
 async def in_loop(threads: FunctionThreads, name: str, function: Callable[[], Any]) -> Any:
-    """Call a function where it stands."""
+    """Call a function in the event loop."""
     return function()
 
 
@@ -39,11 +39,11 @@ async def nothing(task: sagas.Task[Any]) -> None:
     """A step that has nothing to do."""
 
 
-def declared(name: str, fair_by: Any = None, until: Any = None, **words: Any) -> sagas.Saga:
+def declared(name: str, fair_by: Any = None, until: Any = None, **options: Any) -> sagas.Saga:
     """Make a saga of three steps."""
     saga = sagas.Saga(name, fair_by=fair_by)
     if until is None:
-        first = saga.step(name="first", undo=0, **words)(nothing)
+        first = saga.step(name="first", undo=0, **options)(nothing)
     else:
         first = saga.wait(name="first", undo=0, until=until)(nothing)
     second = saga.step(name="second", undo=0, needs=[first])(nothing)
@@ -55,15 +55,15 @@ def definitions() -> list[sagas.Saga]:
     """Make a saga for each function."""
     return [
         declared("none"),
-        declared("when", when=lambda given: True),
-        declared("concurrency_by", concurrency=1000, concurrency_by=lambda given: given["of"]),
-        declared("fair_by", fair_by=lambda given: given["of"]),
+        declared("when", when=lambda value: True),
+        declared("concurrency_by", concurrency=1000, concurrency_by=lambda value: value["of"]),
+        declared("fair_by", fair_by=lambda value: value["of"]),
         declared("until", until=lambda task: datetime.timedelta(0)),
     ]
 
 
 async def timed(saga: sagas.Saga, at: int, count: int) -> float:
-    """Run sagas, so many at a time; return the microseconds of each."""
+    """Run `count` sagas, `at` at a time; return the microseconds of each."""
     with tempfile.TemporaryDirectory() as folder:
         path = pathlib.Path(folder) / "store.db"
         async with sagas.open(path, [saga], concurrency=64) as store:
@@ -84,19 +84,19 @@ def main() -> None:
     parser.add_argument("--turns", type=int, default=7)
     parser.add_argument("--at", type=int, default=16)
     parser.add_argument("--sagas", type=int, default=640)
-    words = parser.parse_args()
+    options = parser.parse_args()
     logging.disable(logging.CRITICAL)
-    found: dict[tuple[str, str], list[float]] = {}
-    for turn in range(words.turns):
+    times: dict[tuple[str, str], list[float]] = {}
+    for turn in range(options.turns):
         ways = [("loop", in_loop), ("thread", IN_THREAD)]
         for saga in definitions():
             for way, call in ways if turn % 2 else reversed(ways):
                 FunctionThreads.call = call  # type: ignore[method-assign]
-                took = asyncio.run(timed(saga, words.at, words.sagas))
-                found.setdefault((saga.name, way), []).append(took)
+                took = asyncio.run(timed(saga, options.at, options.sagas))
+                times.setdefault((saga.name, way), []).append(took)
     print("| function | in the loop | in a thread | more |\n|---|---|---|---|")
     for saga in definitions():
-        loop, thread = (statistics.median(found[saga.name, way]) for way in ("loop", "thread"))
+        loop, thread = (statistics.median(times[saga.name, way]) for way in ("loop", "thread"))
         print(f"| {saga.name} | {loop:.0f} µs | {thread:.0f} µs | {thread - loop:+.0f} µs |")
 
 

@@ -1,8 +1,9 @@
 #!/usr/bin/env python3
-"""Times the end of a desk: the comparison of the receipts of 16 seats with the histories of 16 shards.
+"""Time the end of a desk: 16 seats compare their receipts with the histories of 16 shards.
 
-The seats take turns until all is settled, and each has a receipt for each event that it made. Prints the receipts, and the
-milliseconds of the comparison in the middle of all runs, in all and for each million of receipts.
+The seats take turns until all sagas have ended, and each has a receipt for each of its events. The
+script prints the number of receipts, and the median milliseconds of the comparison, in all and for
+a million receipts.
 """
 import tempfile
 
@@ -13,20 +14,20 @@ LOADS = [1600, 16000]
 
 
 def definition():
-    """Steps without needs, each of which costs nothing."""
+    """Return steps without needs and without costs."""
     return "s waiting 0 0 0 0\n" * STEPS
 
 
 def main():
-    words = runs.options(__doc__)
-    program = runs.built(words)
+    options = runs.options(__doc__)
+    program = runs.built(options)
     with tempfile.TemporaryDirectory() as folder:
         file = runs.put(folder, "steps", definition())
         for sagas in LOADS:
-            [(said, took)] = runs.timed(
-                [[*program, "desk", file, str(sagas)]], words.turns, runs.KEPT
+            [(printed, took)] = runs.timed(
+                [[*program, "desk", file, str(sagas)]], options.turns, runs.KEPT
             )
-            receipts = int(said[1])
+            receipts = int(printed[1])
             print(
                 f"{receipts} receipts of 16 seats on 16 shards: {took * 1e3:.1f} ms,"
                 f" {took / receipts * 1e9:.1f} ms a million",

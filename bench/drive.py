@@ -1,16 +1,23 @@
 #!/usr/bin/env python3
-"""Times `sagas drive`: requests with and without a log, one at a time and many together, beside SQLite; and a start on a long log.
+"""Time `sagas drive` against SQLite: requests with and without a log, and a start on a long log.
 
-The requests are nothing but `next` and `report`, each with one event; many together are 64 `next`, then their 64 reports. SQLite,
-through Python, inserts the same events into a table, with `PRAGMA synchronous=FULL`, in its journal modes DELETE and WAL: an event a
-transaction beside requests one at a time, and 64 a transaction beside 64 together. A bare append of each event's line, and an
-`fdatasync`, says what the file system asks for by itself. All parts take turns in one folder (`--folder`), so that a ratio is one of
-one run on one file system. Prints events a second, in the middle of all turns, and ratios of times to those of SQLite's WAL; then the
-seconds of a start on a log of 1,001,000 events, of 1,000 sagas of 500 steps, beside an audit of that log and SQLite reading as many
-rows, and the greatest memory of the start. Last the milliseconds of `ready`, `list` and `status` over 1,000 sagas: of the README's trip, and of
-chains of 16 steps of which half are done, the longest of which a log takes so many at once; and the seconds of a processor that 10,000 tasks take, one and 64 by a request. Ends with
-status 1 where requests with a log take longer than SQLite's WAL, one at a time or together, a start takes more than 10 s, a `ready` over
-1,000 trips takes more than 1 ms, or tasks by 64 take longer than one by one.
+The requests are only `next` and `report`, with one event each. They are sent one at a time, or
+together: 64 `next`, then their 64 reports. SQLite inserts the same events into a table, through
+Python, with `PRAGMA synchronous=FULL`, in its journal modes DELETE and WAL. It has one event a
+transaction, or 64. An append of each event's line with an `fdatasync` is the cost of the file
+system alone. All parts take turns in one folder (`--folder`), so that a ratio is of one run on one
+file system.
+
+The script prints the median of events a second, and ratios of times to those of SQLite's WAL. Then
+it prints the seconds of a start on a log of 1,001,000 events (1,000 sagas of 500 steps), of an
+audit of that log, and of SQLite reading as many rows, and the peak memory of the start. Last come
+the milliseconds of `ready`, `list` and `status` over 1,000 sagas, and the processor time of 10,000
+tasks, one by request and 64 by request. These sagas are the README's trips, and chains of 16 steps
+with the first half done: a log has room for 1,000 chains of this length, and not of a greater one.
+
+The status is 1 if requests with a log take longer than SQLite's WAL, one at a time or together, if
+a start takes more than 10 s, if a `ready` over 1,000 trips takes more than 1 ms, or if tasks by 64
+take longer than one by one.
 """
 import argparse
 import os
@@ -27,38 +34,37 @@ import runs
 
 TOGETHER = 64
 STEPS = 512
-MOST_EVENTS = (
-    4 * 2 * STEPS
-)  # a log has room for the ends of four sagas of so many steps, and refuses a fifth
+# A log has room for the ends of four sagas of this number of steps, and refuses a fifth one.
+MAX_EVENTS = 4 * 2 * STEPS
 LONG_STEPS = 500
 ROOT = runs.HERE.parent
 NEXT = b'{"do":"next"}\n'
 
 
 def options():
-    """The words of this script."""
+    """Return the options of this script."""
     parser = argparse.ArgumentParser(description=__doc__.strip().splitlines()[0])
-    parser.add_argument("--turns", type=int, default=5, help="how often the parts take turns")
+    parser.add_argument("--turns", type=int, default=5, help="the number of turns of each part")
     parser.add_argument(
-        "--events", type=int, default=1024, help="how many events a part has, at most 4,096"
+        "--events", type=int, default=1024, help="the events of a part, at most 4,096"
     )
-    parser.add_argument("--sagas", type=int, default=1000, help="how many sagas the long log has")
+    parser.add_argument("--sagas", type=int, default=1000, help="the sagas of the long log")
     parser.add_argument(
-        "--folder", help="where the files are put, in place of the system's folder for such"
+        "--folder", help="the folder of the files (default: the system's temporary folder)"
     )
     parser.add_argument(
-        "--program", type=pathlib.Path, help="a program, in place of the one that ./sagas starts"
+        "--program", type=pathlib.Path, help="the program (default: the one that ./sagas starts)"
     )
-    words = parser.parse_args()
-    if words.events > MOST_EVENTS:
-        parser.error(f"--events: at most {MOST_EVENTS:,}")
-    return words
+    arguments = parser.parse_args()
+    if arguments.events > MAX_EVENTS:
+        parser.error(f"--events: at most {MAX_EVENTS:,}")
+    return arguments
 
 
-def built(words):
-    """The program, built where its sources changed."""
-    if words.program:
-        return words.program
+def built(arguments):
+    """Return the program, which is built if its sources have changed."""
+    if arguments.program:
+        return arguments.program
     return pathlib.Path(
         subprocess.run(
             [ROOT / "tests" / "program"], capture_output=True, text=True, check=True
@@ -67,26 +73,24 @@ def built(words):
 
 
 def definition(steps):
-    """The text of a definition of steps without needs."""
+    """Return the text of a definition of steps without needs."""
     return 'format = 1\nname = "wide"\n' + "".join(
         f'[[step]]\nname = "s{step}"\n' for step in range(steps)
     )
 
 
 def requests(events, together):
-    """The requests that have so many events after the openings, in groups that are sent together."""
+    """Return requests with this number of events, in groups that are sent together."""
     groups = []
     for first in range(0, events // 2, together):
         steps = [divmod(number, STEPS) for number in range(first, first + together)]
-        reports = [
-            b'{"do":"report","outcome":"ok","saga":%d,"step":%d}\n' % place for place in steps
-        ]
+        reports = [b'{"do":"report","outcome":"ok","saga":%d,"step":%d}\n' % pair for pair in steps]
         groups += [[NEXT] * together, reports]
     return groups
 
 
 def lines_of(events):
-    """The same events as a log has them."""
+    """Return the lines of the same events in a log."""
     lines = []
     for number in range(events // 2):
         saga, step = divmod(number, STEPS)
@@ -96,7 +100,7 @@ def lines_of(events):
 
 
 def exchanged(child, lines):
-    """Sends lines together, and waits for as many replies."""
+    """Send lines together, and wait for as many replies."""
     os.write(child.stdin.fileno(), b"".join(lines))
     left = len(lines)
     while left:
@@ -105,10 +109,10 @@ def exchanged(child, lines):
 
 
 def drive(program, file, log, events, together):
-    """The seconds of requests."""
-    words = [program, "drive", *(["--log", log] if log else []), file]
+    """Return the seconds that the requests take."""
+    command = [program, "drive", *(["--log", log] if log else []), file]
     groups = requests(events, together)
-    with subprocess.Popen(words, stdin=subprocess.PIPE, stdout=subprocess.PIPE) as child:
+    with subprocess.Popen(command, stdin=subprocess.PIPE, stdout=subprocess.PIPE) as child:
         exchanged(child, [b'{"def":0,"do":"open"}\n'] * -(-events // 2 // STEPS))
         begin = time.perf_counter()
         for lines in groups:
@@ -119,7 +123,7 @@ def drive(program, file, log, events, together):
 
 
 def table(path, mode):
-    """A new table of events."""
+    """Create a table of events, and return its connection."""
     base = sqlite3.connect(path, isolation_level=None)
     base.execute(f"PRAGMA journal_mode={mode}")
     base.execute("PRAGMA synchronous=FULL")
@@ -128,7 +132,7 @@ def table(path, mode):
 
 
 def sqlite(path, mode, lines, together):
-    """The seconds in which SQLite inserts events, so many a transaction."""
+    """Return the seconds in which SQLite inserts events, `together` in a transaction."""
     base = table(path, mode)
     begin = time.perf_counter()
     for first in range(0, len(lines), together):
@@ -142,7 +146,7 @@ def sqlite(path, mode, lines, together):
 
 
 def bare(path, lines, together):
-    """The seconds of appending lines to a file, with an fdatasync each time."""
+    """Return the seconds of appends to a file, each with an fdatasync."""
     file = os.open(path, os.O_WRONLY | os.O_CREAT | os.O_APPEND, 0o644)
     begin = time.perf_counter()
     for first in range(0, len(lines), together):
@@ -154,12 +158,12 @@ def bare(path, lines, together):
 
 
 def parts(program, file, folder, events):
-    """Each part: its name, and what gives its seconds for a new file."""
+    """Return each part: its name, and a function that times it on a new file."""
     lines = lines_of(events)
-    found = []
+    timings = []
     for together in [1, TOGETHER]:
         how = "one at a time" if together == 1 else f"{TOGETHER} together"
-        found += [
+        timings += [
             (f"drive, {how}", lambda path, k=together: drive(program, file, None, events, k)),
             (
                 f"drive with a log, {how}",
@@ -169,20 +173,20 @@ def parts(program, file, folder, events):
             (f"SQLite WAL, {how}", lambda path, k=together: sqlite(path, "WAL", lines, k)),
             (f"append and fdatasync, {how}", lambda path, k=together: bare(path, lines, k)),
         ]
-    return found
+    return timings
 
 
 def medians(timed, folder, turns):
-    """The seconds of each part in the middle of all turns."""
+    """Return the median seconds of each part."""
     times = {name: [] for name, _ in timed}
     for turn in range(turns):
         for number, (name, part) in enumerate(timed):
             times[name].append(part(folder / f"{turn}.{number}"))
-    return {name: statistics.median(found) for name, found in times.items()}
+    return {name: statistics.median(values) for name, values in times.items()}
 
 
 def long_log(sagas):
-    """The text of a log of sagas in which each step was run and committed."""
+    """Return a log of sagas whose steps were all run and committed."""
     steps = [f',"step":{step}}}\n' for step in range(LONG_STEPS)]
     text = ['{"format":2}\n']
     for saga in range(sagas):
@@ -192,20 +196,20 @@ def long_log(sagas):
     return "".join(text)
 
 
-def seconds(words, wanted):
-    """How long a run takes, in the best of three."""
+def seconds(command, expected):
+    """Return the seconds of the best of three runs."""
     times = []
     for _ in range(3):
         begin = time.perf_counter()
-        done = subprocess.run(words, stdin=subprocess.DEVNULL, capture_output=True, check=True)
+        done = subprocess.run(command, stdin=subprocess.DEVNULL, capture_output=True, check=True)
         times.append(time.perf_counter() - begin)
-        if not done.stdout.startswith(wanted) or done.stderr:
-            sys.exit(f"{words}: {done.stdout[:80]} {done.stderr[:80]}")
+        if not done.stdout.startswith(expected) or done.stderr:
+            sys.exit(f"{command}: {done.stdout[:80]} {done.stderr[:80]}")
     return min(times)
 
 
 def selected(folder, text):
-    """The seconds in which SQLite reads the lines of a text, which a table has."""
+    """Return the number of lines in a table, and the seconds in which SQLite reads them."""
     base = table(folder / "long.db", "WAL")
     base.execute("BEGIN")
     base.executemany(
@@ -220,7 +224,7 @@ def selected(folder, text):
 
 
 def greatest_memory(command):
-    """The most bytes that a start has in use, as the system says once it answers."""
+    """Return the peak memory of a start in bytes."""
     with subprocess.Popen(command, stdin=subprocess.PIPE, stdout=subprocess.PIPE) as child:
         exchanged(child, [b'{"do":"show","saga":0}\n'])
         status = pathlib.Path(f"/proc/{child.pid}/status").read_text(encoding="utf-8")
@@ -232,7 +236,7 @@ def greatest_memory(command):
 
 
 def restart(program, folder, sagas):
-    """Times a start on a long log; gives its seconds."""
+    """Time a start on a long log, and return its seconds."""
     text = long_log(sagas)
     file, log = runs.put(folder, "long.toml", definition(LONG_STEPS)), runs.put(
         folder, "long.log", text
@@ -243,14 +247,15 @@ def restart(program, folder, sagas):
     rows, select = selected(folder, text)
     memory = greatest_memory(command)
     print(
-        f"a start on {rows - 1:,} events, {len(text) / 1e6:.0f} MB: {start:.2f} s; an audit {audit:.2f} s; SQLite reads the rows in"
-        f" {select:.2f} s; greatest memory {memory / 1e6:.0f} MB, {memory / (rows - 1):.0f} bytes an event"
+        f"a start on {rows - 1:,} events, {len(text) / 1e6:.0f} MB: {start:.2f} s;"
+        f" an audit {audit:.2f} s; SQLite reads the rows in {select:.2f} s;"
+        f" peak memory {memory / 1e6:.0f} MB, {memory / (rows - 1):.0f} bytes an event"
     )
     return start
 
 
 def chain(steps):
-    """The text of a definition of steps each of which needs the one before it."""
+    """Return the text of a definition: each step needs the previous one."""
     needs = [""] + [f'needs = ["s{step}"]\n' for step in range(steps - 1)]
     return 'format = 1\nname = "chain"\n' + "".join(
         f'[[step]]\nname = "s{step}"\n{need}' for step, need in enumerate(needs)
@@ -258,20 +263,20 @@ def chain(steps):
 
 
 def halfway(sagas, steps):
-    """The text of a log of sagas of which the first half of the steps is done."""
-    deeds = []
+    """Return the text of a log of sagas with the first half of their steps done."""
+    lines = []
     for saga in range(sagas):
-        deeds.append(f'{{"def":0,"event":"open","saga":{saga}}}\n')
+        lines.append(f'{{"def":0,"event":"open","saga":{saga}}}\n')
         for step in range(steps // 2):
-            deeds += [
+            lines += [
                 f'{{"event":"{word}","saga":{saga},"step":{step}}}\n'
                 for word in ["start_run", "commit"]
             ]
-    return '{"format":2}\n' + "".join(deeds)
+    return '{"format":2}\n' + "".join(lines)
 
 
-def asked(program, file, log, question):
-    """The milliseconds of a question, a hundred of which are sent one at a time: the middle one."""
+def milliseconds_of(program, file, log, question):
+    """Return the median milliseconds of a hundred identical questions, sent one at a time."""
     with subprocess.Popen(
         [program, "drive", "--log", log, file], stdin=subprocess.PIPE, stdout=subprocess.PIPE
     ) as child:
@@ -285,7 +290,7 @@ def asked(program, file, log, question):
 
 
 def questions(program, folder):
-    """Times the questions over 1,000 sagas; gives the milliseconds of `ready` over trips."""
+    """Time questions over 1,000 sagas, and return the milliseconds of `ready` over trips."""
     ready = {}
     for name, text, steps in [
         ("trip", (ROOT / "examples" / "trip.toml").read_text(encoding="utf-8"), 0),
@@ -295,7 +300,7 @@ def questions(program, folder):
             folder, f"{name}.log", halfway(1000, steps)
         )
         took = {
-            word: asked(program, file, log, b'{"do":"%s"}\n' % word.encode())
+            word: milliseconds_of(program, file, log, b'{"do":"%s"}\n' % word.encode())
             for word in ["ready", "list", "status"]
         }
         ready[name] = took["ready"]
@@ -308,7 +313,7 @@ def questions(program, folder):
 
 
 def seconds_of(program, file, requests):
-    """The seconds of a processor that a run of these requests takes, without a log."""
+    """Return the processor time of these requests in seconds, without a log."""
     before = resource.getrusage(resource.RUSAGE_CHILDREN)
     subprocess.run(
         [program, "drive", file], input=b"".join(requests), stdout=subprocess.DEVNULL, check=True
@@ -318,7 +323,10 @@ def seconds_of(program, file, requests):
 
 
 def many(program, folder, turns):
-    """Times 10,000 tasks of 1,000 sagas, one and 64 by a request; gives the ratio of the seconds, without those of the start and the openings."""
+    """Time 10,000 tasks of 1,000 sagas, one by request and 64 by request, and return the ratio.
+
+    The times do not include the start of the program and the openings.
+    """
     file = runs.put(folder, "ten.toml", definition(10))
     openings = [b'{"def":0,"do":"open"}\n'] * 1000
     took = {}
@@ -330,33 +338,35 @@ def many(program, folder, turns):
         took[name] = statistics.median(
             seconds_of(program, file, openings + requests) for _ in range(turns)
         )
-    one, together = took["one"] - took["none"], took["many"] - took["none"]
+    single, together = took["one"] - took["none"], took["many"] - took["none"]
     print(
-        f"10,000 tasks: {one:.3f} s of a processor one by one, {together:.3f} s by {TOGETHER}: {together / one:.2f}",
+        f"10,000 tasks: {single:.3f} s of a processor one by one, "
+        f"{together:.3f} s by {TOGETHER}: {together / single:.2f}",
         flush=True,
     )
-    return together / one
+    return together / single
 
 
 def main():
-    words = options()
-    program = built(words)
-    with tempfile.TemporaryDirectory(dir=words.folder) as name:
+    arguments = options()
+    program = built(arguments)
+    with tempfile.TemporaryDirectory(dir=arguments.folder) as name:
         folder = pathlib.Path(name)
         file = runs.put(folder, "wide.toml", definition(STEPS))
-        events = -(-words.events // (2 * TOGETHER)) * 2 * TOGETHER
-        middle = medians(parts(program, file, folder, events), folder, words.turns)
+        events = -(-arguments.events // (2 * TOGETHER)) * 2 * TOGETHER
+        middle = medians(parts(program, file, folder, events), folder, arguments.turns)
         good = True
         for part, took in middle.items():
             peer = middle["SQLite WAL, " + part.split(", ", 1)[1]]
             print(
-                f"{part}: {events / took:,.0f} events a second, {took / peer:.2f} of SQLite's time with WAL",
+                f"{part}: {events / took:,.0f} events a second, "
+                f"{took / peer:.2f} of SQLite's time with WAL",
                 flush=True,
             )
             good = good and (not part.startswith("drive with a log") or took <= peer)
-        start = restart(program, folder, words.sagas)
+        start = restart(program, folder, arguments.sagas)
         ready = questions(program, folder)
-        ratio = many(program, folder, words.turns)
+        ratio = many(program, folder, arguments.turns)
     sys.exit(0 if good and start <= 10 and ready <= 1 and ratio <= 1 else 1)
 
 

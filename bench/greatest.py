@@ -1,15 +1,16 @@
 #!/usr/bin/env python3
-"""Prints a definition file, by default the greatest one: 1,024 steps and 8,192 needs, without a cycle.
+"""Print a definition, by default the greatest one: 1,024 steps and 8,192 needs, without a cycle.
 
-Each step needs steps before it, as evenly many as there are; the first ones have fewer to need.
+Each step needs steps before it. The needs are spread evenly, except over the first steps, which
+have fewer steps before them.
 """
 import argparse
 
 
 def needs_of_each(steps, needs):
-    """How many steps each step needs: up to a common number, and together `needs`."""
+    """Return the number of needs of each step: at most a common number, and `needs` in all."""
     if needs > steps * (steps - 1) // 2:
-        raise SystemExit("so few steps have no room for so many needs")
+        raise SystemExit(f"{steps} steps cannot have {needs} needs")
     common = 0
     while sum(min(step, common) for step in range(steps)) < needs:
         common += 1
@@ -26,9 +27,9 @@ def main():
     parser = argparse.ArgumentParser(description=__doc__.splitlines()[0])
     parser.add_argument("--steps", type=int, default=1024)
     parser.add_argument("--needs", type=int, default=8192)
-    words = parser.parse_args()
+    options = parser.parse_args()
     print('format = 1\nname = "greatest"')
-    for step, count in enumerate(needs_of_each(words.steps, words.needs)):
+    for step, count in enumerate(needs_of_each(options.steps, options.needs)):
         names = ", ".join(f'"s{on}"' for on in range(step - count, step))
         print(f'\n[[step]]\nname = "s{step}"\nneeds = [{names}]\nundo = 1\nkeep = 2')
 

@@ -1,9 +1,11 @@
 #!/usr/bin/env python3
-"""How many calls of the C library there are a second, beside starts of the program for the same texts.
+"""Compare calls of the C library a second with starts of the program for the same texts.
 
-Plans, judgements and an audit, at 4, 100 and 1,024 steps (8 needs a step at most), through the Python package; the program reads files in memory, and is
-started by posix_spawn. Both give the same bytes, which is compared. Takes turns, and prints of each the best, and their ratio. Ends with
-status 1 where a call is not 20 times as fast at 4 steps, or slower than a start at 1,024.
+The calls are plans, verifications and an audit, at 4, 100 and 1,024 steps (8 needs a step at most),
+through the Python package. The program reads files in memory, and is started by posix_spawn. The
+script checks that both return the same bytes. Both take turns, and the script prints the best of
+each, and their ratio. The status is 1 if a call is not 20 times as fast as a start at 4 steps, or
+if it is slower at 1,024.
 """
 
 from __future__ import annotations
@@ -29,23 +31,25 @@ LEAST = {4: 20.0, 1024: 1.0}
 
 
 def large(steps: int) -> list[bytes]:
-    """A definition of so many steps, each of which needs up to 8 of the 40 before it, and a case in which some have failed."""
+    """Return a definition with this number of steps, and a case in which some have failed.
+
+    Each step needs up to 8 of the previous 40 steps.
+    """
     chance = random.Random(steps)
     lines = ["format = 1", 'name = "large"']
     for step in range(steps):
         needs = chance.sample(range(max(0, step - 40), step), min(8, step))
-        prices = "".join(
+        costs = "".join(
             f"{key} = {chance.randrange(1000)}\n" for key in ("run", "undo", "skip", "keep")
         )
-        lines.append(
-            f'[[step]]\nname = "s{step}"\nneeds = {json.dumps([f"s{need}" for need in needs])}\n{prices}'
-        )
+        names = json.dumps([f"s{need}" for need in needs])
+        lines.append(f'[[step]]\nname = "s{step}"\nneeds = {names}\n{costs}')
     states = ["committed"] * (steps * 3 // 4) + ["failed"] * 2 + ["waiting"] * steps
     return ["\n".join(lines).encode(), json.dumps({"states": states[:steps]}).encode()]
 
 
 def works(call: Callable[[str, list[bytes]], bytes]) -> Iterator[tuple[int, Work]]:
-    """What is timed: how many steps, the command, the call and its texts."""
+    """Yield the number of steps, and the work to time: a command, a call and its texts."""
     trip = [(ROOT / "examples" / f"trip.{kind}").read_bytes() for kind in ("toml", "case.json")]
     for steps, texts in ((4, trip), (100, large(100)), (1024, large(1024))):
         yield steps, ("plan", "sagas_plan", texts)
@@ -59,7 +63,7 @@ def works(call: Callable[[str, list[bytes]], bytes]) -> Iterator[tuple[int, Work
 
 
 def rate(once: Callable[[], object], seconds: float) -> float:
-    """How often a second, over so many seconds."""
+    """Return the calls of a function a second, measured over some seconds."""
     began, count = time.perf_counter(), 0
     while (took := time.perf_counter() - began) < seconds:
         once()
@@ -68,24 +72,24 @@ def rate(once: Callable[[], object], seconds: float) -> float:
 
 
 def main() -> int:
-    """Takes all in turns, and prints a line each."""
+    """Run all works in turns, and print a line for each."""
     parser = argparse.ArgumentParser(
         description=__doc__, formatter_class=argparse.RawDescriptionHelpFormatter
     )
-    parser.add_argument("--turns", type=int, default=5, help="how many turns each has")
-    parser.add_argument("--seconds", type=float, default=0.5, help="how long a turn is")
-    words = parser.parse_args()
-    place = library.path()
-    loaded = library.loaded(place) if place else None
+    parser.add_argument("--turns", type=int, default=5, help="the number of turns")
+    parser.add_argument("--seconds", type=float, default=0.5, help="the length of a turn")
+    options = parser.parse_args()
+    path_of_library = library.path()
+    loaded = library.loaded(path_of_library) if path_of_library else None
     if loaded is None:
         sys.exit("library.py: dist/libsagas.so is missing: ./release makes it")
-    found = loaded
+    loaded_library = loaded
     program = subprocess.run(
         [ROOT / "tests" / "program"], check=True, capture_output=True, text=True
     ).stdout.strip()
 
     def call(name: str, texts: list[bytes]) -> bytes:
-        return library.call(found, name, texts)[1]
+        return library.call(loaded_library, name, texts)[1]
 
     slow = 0
     for steps, (command, name, texts) in works(call):
@@ -109,13 +113,14 @@ def main() -> int:
             if start() != call(name, texts):
                 sys.exit(f"library.py: {command} at {steps} steps: they differ")
             calls = starts = 0.0
-            for _ in range(words.turns):
-                calls = max(calls, rate(lambda: call(name, texts), words.seconds))
-                starts = max(starts, rate(start, words.seconds))
+            for _ in range(options.turns):
+                calls = max(calls, rate(lambda: call(name, texts), options.seconds))
+                starts = max(starts, rate(start, options.seconds))
         ratio = calls / starts
         slow += ratio < LEAST.get(steps, 0.0)
         print(
-            f"{command}, {steps} steps: {calls:.0f} calls a second, {starts:.0f} starts, ratio {ratio:.1f}",
+            f"{command}, {steps} steps: {calls:.0f} calls a second, {starts:.0f} starts, "
+            f"ratio {ratio:.1f}",
             flush=True,
         )
     return 1 if slow else 0

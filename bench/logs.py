@@ -1,13 +1,14 @@
 #!/usr/bin/env python3
-"""Times `read_log` and `write_log` at 100,000 and 1,000,000 events, against `serde_json` on the same lines.
+"""Time `read_log` and `write_log` with 100,000 and 1,000,000 events, against `serde_json`.
 
-A log has, of each ten events, one opening, eight events of a step and one adoption. Prints for each size the seconds of the best
-of many runs, those of `serde_json` alone reading each line to a value, and the ratios to these; and then how much longer
-each takes at ten times the events. Ends with status 1 where a log is not linear (more than 11 times), reading takes longer than
-the values alone, or writing longer than half of that.
+Of ten events of a log, one is an opening, eight are events of a step, and one is an adoption. The
+script prints for each size the seconds of the best of many runs, those of `serde_json` reading each
+line to a value, and the ratios to these. Then it prints how much longer each takes with ten times
+the events. The status is 1 if a log is not linear (more than 11 times), if reading takes longer
+than `serde_json`, or if writing takes longer than half of that.
 
-The allocator of the C library is told to keep the memory that a run gives back. Otherwise it takes each text of more than some 32
-MB from the system anew, page by page, which the smaller log is spared.
+The allocator of the C library keeps the memory that a run frees. Else it would get each text above
+some 32 MB from the system page by page in each run, but not the texts of the smaller log.
 """
 import sys
 import tempfile
@@ -20,30 +21,30 @@ PARTS = ["read_log", "write_log", "values alone"]
 
 
 def log(events):
-    """A log of so many events, ten of each saga."""
+    """Return a log with this number of events, ten of each saga."""
     lines = []
     for saga in range(events // 10):
         lines.append(f'{{"def":0,"event":"open","saga":{saga}}}')
-        for place, word in enumerate(STEPS):
-            lines.append(f'{{"event":"{word}","saga":{saga},"step":{saga * 7 % 1000 + place}}}')
+        for offset, word in enumerate(STEPS):
+            lines.append(f'{{"event":"{word}","saga":{saga},"step":{saga * 7 % 1000 + offset}}}')
         answer = '{"cost":3,"kept":[],"kind":"plan","leave":[1,2,0],"links":[0,0],"stand":[1,2,0]}'
         lines.append(f'{{"answer":{answer},"event":"adopt","saga":{saga}}}')
     return "\n".join(lines) + "\n"
 
 
 def seconds(program, path, turns):
-    """The seconds of each part in the best of all runs."""
+    """Return the best seconds of each part."""
     return runs.best_of_parts([*program, "log", path], len(PARTS), turns)[1]
 
 
 def main():
-    words = runs.options(__doc__)
-    program = runs.built(words)
+    options = runs.options(__doc__)
+    program = runs.built(options)
     good = True
     bests = []
     with tempfile.TemporaryDirectory() as folder:
         for events in SIZES:
-            best = seconds(program, runs.put(folder, str(events), log(events)), words.turns)
+            best = seconds(program, runs.put(folder, str(events), log(events)), options.turns)
             bests.append(best)
             for part, time in zip(PARTS, best):
                 print(

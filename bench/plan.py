@@ -1,11 +1,12 @@
 #!/usr/bin/env python3
-"""How long `sagas plan` takes at best of many runs, and how that is shared among reading the definition and the case, building
-the network, finding the flow, and writing the answer.
+"""Time `sagas plan`, the best of many runs, and the shares of its parts.
 
-Reading is measured as the time of runs that end after it: a case that is no JSON ends after the definition, an answer that is
-no JSON after the case. Planning and its flow are timed by bench/saga_timing on the same case and its network; what planning
-takes more than the flow is the network and the answer, and the rest is writing. The cases are random, from `case_net.py`.
-Prints one line for each size: the whole time, and each part as a share of it.
+The parts are reading the definition and the case, building the network, the flow, and writing the
+answer. Reading is measured as the time of runs that end after it: a case that is not JSON ends
+after the definition, and an answer that is not JSON after the case. bench/saga_timing times
+planning and its flow on the same case and its network. Planning without the flow is the network and
+the answer, and the rest is writing. The cases are random, from `case_net.py`. The script prints one
+line for each size: the total time, and each part as a share of it.
 """
 import json
 import subprocess
@@ -20,7 +21,7 @@ SIZES = [(64, 512), (128, 1024), (256, 2048), (512, 4096), (1024, 8192)]
 
 
 def definition(drawn, pairs):
-    """The definition of a case, as a TOML file."""
+    """Return the definition of a case in TOML."""
     needs = [[] for _ in drawn]
     for step, on in pairs:
         needs[step].append(f'"s{on}"')
@@ -40,23 +41,23 @@ def definition(drawn, pairs):
 
 
 def case(drawn):
-    """The case's states, as JSON."""
+    """Return the states of a case in JSON."""
     return json.dumps({"states": [state for state, _ in drawn]}, separators=(",", ":"))
 
 
-def least(program, what, file, turns):
-    """What saga_timing prints, and the seconds of its best run."""
-    said, found = "", []
+def least(program, command, file, turns):
+    """Return the output of saga_timing, and the seconds of its best run."""
+    printed, times = "", []
     for _ in range(turns):
-        done = subprocess.run([*program, what, file], capture_output=True, text=True, check=True)
-        said, found = done.stdout.split(), found + [float(line) for line in done.stderr.split()]
-    return said, min(found)
+        done = subprocess.run([*program, command, file], capture_output=True, text=True, check=True)
+        printed, times = done.stdout.split(), times + [float(line) for line in done.stderr.split()]
+    return printed, min(times)
 
 
 def main():
-    words = runs.options(__doc__)
+    options = runs.options(__doc__)
     subprocess.run([SAGAS, "--help"], stdout=subprocess.DEVNULL, check=True)
-    program = runs.built(words)
+    program = runs.built(options)
     with tempfile.TemporaryDirectory() as folder:
         none = runs.put(folder, "none", "x")
         for steps, needs in SIZES:
@@ -70,17 +71,20 @@ def main():
                     [PROGRAM, "plan", *files], capture_output=True, text=True, check=True
                 ).stdout
             )
-            said, planning = least(
-                program, "plan", runs.put(folder, "case", case_net.case(drawn, pairs)), words.turns
+            printed, planning = least(
+                program,
+                "plan",
+                runs.put(folder, "case", case_net.case(drawn, pairs)),
+                options.turns,
             )
             _, flow = least(
                 program,
                 "flow",
                 runs.put(folder, "net", case_net.network(drawn, pairs)),
-                words.turns,
+                options.turns,
             )
-            if said[:2] != ["cost", str(text["cost"])]:
-                sys.exit(f"another cost: {said}")
+            if printed[:2] != ["cost", str(text["cost"])]:
+                sys.exit(f"another cost: {printed}")
             whole, read, start, cased = seconds(
                 [
                     ["plan", *files],

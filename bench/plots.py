@@ -28,11 +28,11 @@ def read(name: str) -> dict[tuple[str, str], float]:
 
 
 def sqlite() -> Series:
-    """Return sagas a second over SQLite. What is by hand was recorded as a ratio."""
-    found = read("2026-11-27-sqlite")
+    """Return sagas a second over SQLite. The results have ratios of the ways by hand."""
+    medians = read("2026-11-27-sqlite")
 
     def values(measurement: str) -> list[float]:
-        return [found[measurement, f"{at} open"] for at in OPEN]
+        return [medians[measurement, f"{at} open"] for at in OPEN]
 
     sagas = values("sagas")
     each = values("sagas compared with a commit for each change")
@@ -46,23 +46,23 @@ def sqlite() -> Series:
 
 def postgresql() -> Series:
     """Return sagas a second over PostgreSQL."""
-    found = read("2026-11-27-postgresql")
+    medians = read("2026-11-27-postgresql")
     names = {
         "sagas": "sagas",
         "a commit for each change by hand": "a commit for each change, by hand",
         "shared commits by hand": "shared commits, by hand",
     }
-    return {shown: [found[name, f"{at} open"] for at in OPEN] for name, shown in names.items()}
+    return {shown: [medians[name, f"{at} open"] for at in OPEN] for name, shown in names.items()}
 
 
 def drawn(title: str, series: Series) -> str:
     """Return a plot: a line for each series, over the number of open sagas."""
-    most = max(value for values in series.values() for value in values)
-    unit = 2000 if most > 4000 else 500
-    top = (int(most / unit) + 1) * unit
+    maximum = max(value for values in series.values() for value in values)
+    unit = 2000 if maximum > 4000 else 500
+    top = (int(maximum / unit) + 1) * unit
 
-    def x(place: int) -> float:
-        return LEFT + 40 + place * (WIDTH - LEFT - 80) / (len(OPEN) - 1)
+    def x(position: int) -> float:
+        return LEFT + 40 + position * (WIDTH - LEFT - 80) / (len(OPEN) - 1)
 
     def y(value: float) -> float:
         return HEIGHT - BOTTOM - value * (HEIGHT - BOTTOM - TOP_SPACE) / top
@@ -81,9 +81,9 @@ def drawn(title: str, series: Series) -> str:
             f'stroke="#dddddd"/><text x="{LEFT - 6}" y="{y(value) + 4:.1f}" text-anchor="end">'
             f"{value:,}</text>"
         )
-    for place, at in enumerate(OPEN):
+    for position, at in enumerate(OPEN):
         parts.append(
-            f'<text x="{x(place):.1f}" y="{HEIGHT - 18}" text-anchor="middle">{at:,} open</text>'
+            f'<text x="{x(position):.1f}" y="{HEIGHT - 18}" text-anchor="middle">{at:,} open</text>'
         )
     for number, (name, values) in enumerate(series.items()):
         color, line = COLORS[number], " ".join(

@@ -1,10 +1,21 @@
-"""Sagas a second over PostgreSQL, beside coordinators by hand; what a saga takes in rows, bytes and commits; what a node costs that only waits;
-how soon another takes over, and goes on after a start; how long starts wait while ended sagas are let go.
+"""Measure the package over PostgreSQL, compared with coordinators by hand.
 
-    /usr/bin/python3 bench/postgresql.py [speed|failing|nodes|size|idle|takeover|opening|prune ..] [--turns N] [--scale F] [--at 1,16,..]
+    /usr/bin/python3 bench/postgresql.py [PART ...] [--turns N] [--scale F] [--at 1,16,256]
 
-needs the package's program (`SAGAS_PROGRAM`, or dist/sagas), psycopg, and Debian's postgresql; it starts a server of its own. Three trivial
-steps, small results, `synchronous_commit=on`, `fsync=on`; the median of the turns, each over an empty database.
+The parts are:
+
+- `speed`: sagas a second. `failing`: the same for sagas that are undone.
+- `nodes`: sagas a second of several nodes.
+- `size`: the rows, bytes, commits and processor time of a saga.
+- `idle`: the statements of a node whose sagas only wait.
+- `takeover`: the time until another node continues the sagas of a killed node.
+- `opening`: the time until a program continues its sagas after a start.
+- `prune`: the time that starts take while ended sagas are deleted.
+
+It needs the package's program (`SAGAS_PROGRAM`, or dist/sagas), psycopg, and Debian's postgresql,
+and starts its own server. Sagas have three trivial steps with small results. The server has
+`synchronous_commit=on` and `fsync=on`. A value is the median of the turns, each over an empty
+database.
 """
 
 from __future__ import annotations
@@ -40,58 +51,58 @@ import sagas  # noqa: E402
 from server import Server, serving  # noqa: E402
 
 Links = asyncio.Queue[psycopg.AsyncConnection[tuple[object, ...]]]
-"""Connections that nobody uses at the moment."""
+"""Connections that are not in use."""
 SIZES = {1: 100, 16: 800, 256: 3000, 1000: 5000}
-"""Sagas of a turn, by how many are under way at once."""
+"""Sagas of a turn, by the number of concurrent ones."""
 LEASE = 3.0
 
 
 def trip(
     inside: bool = False, gate: asyncio.Event | None = None, called: list[float] | None = None
 ) -> sagas.Saga:
-    """Three steps in a row; the second waits for a gate, where one is given."""
+    """Return a saga of three steps in a row. The second one waits for `gate`, if any."""
     saga = sagas.Saga("trip")
 
     @saga.step(transaction=inside)
-    async def one(task: sagas.Task[object]) -> int:
+    async def first(task: sagas.Task[object]) -> int:
         return 1
 
-    @saga.step(needs=[one], transaction=inside)
-    async def two(task: sagas.Task[object]) -> int:
+    @saga.step(needs=[first], transaction=inside)
+    async def second(task: sagas.Task[object]) -> int:
         if called is not None:
             called.append(time.time())
         if gate:
             await gate.wait()
         return 2
 
-    @saga.step(needs=[two], transaction=inside)
-    async def three(task: sagas.Task[object]) -> int:
+    @saga.step(needs=[second], transaction=inside)
+    async def third(task: sagas.Task[object]) -> int:
         return 3
 
     return saga
 
 
 def failing() -> sagas.Saga:
-    """The third of three steps fails for good, and the others are undone."""
+    """Return a saga whose third step fails permanently, so that the others are undone."""
     saga = sagas.Saga("back")
 
     @saga.step(keep=2)
-    async def one(task: sagas.Task[object]) -> int:
+    async def first(task: sagas.Task[object]) -> int:
         return 1
 
-    @saga.step(needs=[one], keep=2)
-    async def two(task: sagas.Task[object]) -> int:
+    @saga.step(needs=[first], keep=2)
+    async def second(task: sagas.Task[object]) -> int:
         return 2
 
-    @saga.step(needs=[two])
-    async def three(task: sagas.Task[object]) -> None:
+    @saga.step(needs=[second])
+    async def third(task: sagas.Task[object]) -> None:
         raise sagas.Fail("sold out")
 
     async def undo(task: sagas.Task[object]) -> None:
         ...
 
-    one.compensation(undo)
-    two.compensation(undo)
+    first.compensation(undo)
+    second.compensation(undo)
     return saga
 
 
@@ -99,7 +110,10 @@ ROW = "INSERT INTO book VALUES(%s, %s)"
 
 
 def booking(links: Links | None = None) -> sagas.Saga:
-    """Three steps in a row, each of which writes a row: in its own transaction, or over a connection of the caller's, where some are given."""
+    """Return a saga of three steps in a row, which write one row each.
+
+    They write it in their own transaction, or over one of the connections of the caller.
+    """
     saga = sagas.Saga("booking")
 
     async def book(task: sagas.Task[object]) -> int:
@@ -112,14 +126,14 @@ def booking(links: Links | None = None) -> sagas.Saga:
         links.put_nowait(link)
         return 1
 
-    one = saga.step(name="one", transaction=links is None)(book)
-    two = saga.step(name="two", transaction=links is None, needs=[one])(book)
-    saga.step(name="three", transaction=links is None, needs=[two])(book)
+    first = saga.step(name="first", transaction=links is None)(book)
+    second = saga.step(name="second", transaction=links is None, needs=[first])(book)
+    saga.step(name="third", transaction=links is None, needs=[second])(book)
     return saga
 
 
 async def rate(go: Callable[[int], Awaitable[object]], count: int, together: int) -> float:
-    """Calls a second, so many at once."""
+    """Return the calls of a function a second, with `together` concurrent calls."""
     numbers = iter(range(count))
 
     async def worker() -> None:
@@ -131,8 +145,10 @@ async def rate(go: Callable[[int], Awaitable[object]], count: int, together: int
     return count / (time.perf_counter() - began)
 
 
-async def driven(url: str, saga: sagas.Saga, count: int, together: int, concurrency: int) -> float:
-    """By the package."""
+async def timed_package(
+    url: str, saga: sagas.Saga, count: int, together: int, concurrency: int
+) -> float:
+    """Return the sagas a second of the package."""
     async with sagas.open(url, [saga], concurrency=concurrency) as store:
 
         async def go(number: int) -> None:
@@ -145,41 +161,41 @@ async def driven(url: str, saga: sagas.Saga, count: int, together: int, concurre
 
 
 async def ours(url: str, count: int, together: int, inside: bool = False) -> float:
-    """Steps that do nothing."""
-    return await driven(url, trip(inside), count, together, max(16, together))
+    """Time steps that do nothing."""
+    return await timed_package(url, trip(inside), count, together, max(16, together))
 
 
 async def ours_with_rows(url: str, count: int, together: int, inside: bool) -> float:
-    """Steps that write a row each, over 16 connections: of the steps' transactions (`inside`), or of the caller's own."""
+    """Time steps that write a row each, in their own transaction (`inside`) or by the caller."""
     async with resting(url) as links:
         link = links.get_nowait()
         await link.execute("CREATE TABLE book(key text, step text)")
         await link.commit()
         links.put_nowait(link)
-        return await driven(url, booking(None if inside else links), count, together, 16)
+        return await timed_package(url, booking(None if inside else links), count, together, 16)
 
 
 @contextlib.asynccontextmanager
 async def resting(url: str) -> AsyncIterator[Links]:
-    """Sixteen connections of psycopg's."""
+    """Yield sixteen connections of psycopg."""
     every = [await psycopg.AsyncConnection.connect(url) for _ in range(16)]
     links: Links = asyncio.Queue()
-    for one in every:
-        links.put_nowait(one)
+    for link in every:
+        links.put_nowait(link)
     try:
         yield links
     finally:
-        for one in every:
-            await one.close()
+        for link in every:
+            await link.close()
 
 
 async def hand(store: by_hand.Each, count: int, together: int, fails: bool = False) -> float:
-    """By hand. `fails`: the third step does, and the others are undone."""
+    """Time sagas by hand. With `fails` the third step fails, and the others are undone."""
 
-    async def step(given: object) -> int:
+    async def step(saga_input: object) -> int:
         return 1
 
-    async def sold_out(given: object) -> int:
+    async def sold_out(saga_input: object) -> int:
         raise LookupError("sold out")
 
     await store.open()
@@ -196,7 +212,7 @@ async def hand(store: by_hand.Each, count: int, together: int, fails: bool = Fal
 
 
 async def bare(url: str, count: int, together: int) -> float:
-    """What steps inside take at least: for each saga three transactions of psycopg, of a row and its record, over 16 connections, and nothing else."""
+    """Time psycopg alone: three transactions for each saga, with one row and its record each."""
     async with resting(url) as links:
         link = links.get_nowait()
         await link.execute("CREATE TABLE book(key text, step text)")
@@ -207,7 +223,7 @@ async def bare(url: str, count: int, together: int) -> float:
         links.put_nowait(link)
 
         async def go(number: int) -> None:
-            for step in ("one", "two", "three"):
+            for step in ("first", "second", "third"):
                 link = await links.get()
                 await link.execute(ROW, (str(number), step))
                 await link.execute(
@@ -227,8 +243,8 @@ WAYS: dict[str, Callable[[str, int, int], Awaitable[float]]] = {
     "sagas, steps inside, a row each": lambda url, count, together: ours_with_rows(
         url, count, together, True
     ),
-    "sagas, steps that write the same row over a connection of their own": lambda url, count, together: ours_with_rows(
-        url, count, together, False
+    "sagas, steps that write the same row over their own connection": lambda url, count, together: (
+        ours_with_rows(url, count, together, False)
     ),
     "psycopg alone, three transactions of two rows each": bare,
     "by hand, a commit a change": lambda url, count, together: hand(
@@ -241,7 +257,7 @@ WAYS: dict[str, Callable[[str, int, int], Awaitable[float]]] = {
 
 
 FAILING: dict[str, Callable[[str, int, int], Awaitable[float]]] = {
-    "sagas, the third step fails": lambda url, count, together: driven(
+    "sagas, the third step fails": lambda url, count, together: timed_package(
         url, failing(), count, together, max(16, together)
     ),
     "by hand, commits shared, the third step fails": lambda url, count, together: hand(
@@ -250,35 +266,38 @@ FAILING: dict[str, Callable[[str, int, int], Awaitable[float]]] = {
 }
 
 
-def undone(server: Server, words: argparse.Namespace) -> None:
-    """Sagas a second that are undone."""
-    speed(server, words, FAILING)
+def undone(server: Server, options: argparse.Namespace) -> None:
+    """Measure sagas a second that are undone."""
+    speed(server, options, FAILING)
 
 
 def speed(
     server: Server,
-    words: argparse.Namespace,
+    options: argparse.Namespace,
     ways: dict[str, Callable[[str, int, int], Awaitable[float]]] = WAYS,
 ) -> None:
-    """Sagas a second, at four concurrencies. The ways take turns, so that a slow minute of the machine is a slow minute of each, and each second time in
-    the opposite order, since one that follows another finds the disk as that left it."""
+    """Measure sagas a second, at four concurrencies.
+
+    The ways take turns, so that a slow minute of the machine affects each of them. Every second
+    turn has the opposite order, since the state of the disk depends on the previous way.
+    """
     turns: dict[tuple[str, int], list[float]] = collections.defaultdict(list)
-    for together in words.at:
-        for turn in range(words.turns):
+    for together in options.at:
+        for turn in range(options.turns):
             for name, way in [*ways.items()][:: -1 if turn % 2 else 1]:
                 url = server.create()
-                turns[name, together].append(asyncio.run(way(url, max(20, int(SIZES[together] * words.scale)), together)))  # type: ignore[arg-type]
+                count = max(20, int(SIZES[together] * options.scale))
+                value: float = asyncio.run(way(url, count, together))  # type: ignore[arg-type]
+                turns[name, together].append(value)
                 server.drop(url)
-    print("| sagas a second, so many at once |", " | ".join(map(str, words.at)), "|")
+    print("| sagas a second, by concurrency |", " | ".join(map(str, options.at)), "|")
     for name in ways:
-        print(
-            f"| {name} | {' | '.join(f'{statistics.median(turns[name, together]):.0f}' for together in words.at)} |",
-            flush=True,
-        )
+        medians = [f"{statistics.median(turns[name, together]):.0f}" for together in options.at]
+        print(f"| {name} | {' | '.join(medians)} |", flush=True)
 
 
 def child(url: str, count: int, name: str) -> subprocess.Popen[str]:
-    """This file as a node in a process of its own."""
+    """Start this file as a node in its own process."""
     return subprocess.Popen(
         [sys.executable, __file__, "child", url, str(count), name],
         stdout=subprocess.PIPE,
@@ -288,7 +307,7 @@ def child(url: str, count: int, name: str) -> subprocess.Popen[str]:
 
 
 def be_child(url: str, count: int, name: str) -> None:
-    """A node that runs sagas when it is told to, or whose sagas' second step waits."""
+    """Run a node that starts sagas after a line of input, or whose sagas wait."""
 
     async def main() -> None:
         if name.startswith("waits"):
@@ -315,32 +334,33 @@ def be_child(url: str, count: int, name: str) -> None:
     asyncio.run(main())
 
 
-def nodes(server: Server, words: argparse.Namespace) -> None:
-    """Sagas a second of one, two and four nodes, 256 at once at each."""
+def nodes(server: Server, options: argparse.Namespace) -> None:
+    """Measure sagas a second of one, two and four nodes, with 256 concurrent ones at each."""
     for many in (1, 2, 4):
         turns = []
-        for _ in range(words.turns):
+        for _ in range(options.turns):
             url = server.create()
             with psycopg.connect(url):
                 pass
             processes = [
-                child(url, int(2000 * words.scale), f"n{number}") for number in range(many)
+                child(url, int(2000 * options.scale), f"n{number}") for number in range(many)
             ]
-            for one in processes:
-                assert one.stdout and one.stdout.readline() == "ready\n"
-            for one in processes:
-                assert one.stdin
-                one.stdin.write("go\n")
-                one.stdin.flush()
-            turns.append(sum(float(one.stdout.readline()) for one in processes if one.stdout))
-            for one in processes:
-                one.wait()
+            for process in processes:
+                assert process.stdout and process.stdout.readline() == "ready\n"
+            for process in processes:
+                assert process.stdin
+                process.stdin.write("go\n")
+                process.stdin.flush()
+            outputs = [process.stdout for process in processes if process.stdout]
+            turns.append(sum(float(output.readline()) for output in outputs))
+            for process in processes:
+                process.wait()
             server.drop(url)
         print(f"{many} nodes: {statistics.median(turns):.0f} sagas a second", flush=True)
 
 
-def idle(server: Server, words: argparse.Namespace) -> None:
-    """Statements a second of a node with 1,000 open sagas that wait, as the server logs them."""
+def idle(server: Server, options: argparse.Namespace) -> None:
+    """Measure the statements a second of a node with 1,000 open sagas that wait."""
 
     def statements(lines: list[str]) -> list[str]:
         return [line for line in lines if "execute" in line or "statement:" in line]
@@ -349,32 +369,27 @@ def idle(server: Server, words: argparse.Namespace) -> None:
         process = child(talking.create(), 1000, "waits idle")
         assert process.stdout and process.stdout.readline() == "ready\n"
         time.sleep(8)
-        said = talking.folder / "output"
-        before = len(statements(said.read_text().splitlines()))
+        log_file = talking.folder / "output"
+        before = len(statements(log_file.read_text().splitlines()))
         time.sleep(20)
-        after = len(statements(said.read_text().splitlines()))
+        after = len(statements(log_file.read_text().splitlines()))
         process.kill()
         process.wait()
     print(f"idle, lease 10 s: {(after - before) / 20:.2f} statements a second", flush=True)
 
 
 def spent_by(server: Server) -> float:
-    """Seconds of processor of a server and all its processes, those that ended too."""
+    """Return the processor time of a server and all its processes, ended ones too, in seconds."""
     pid = int((server.folder / "data" / "postmaster.pid").read_text().split()[0])
 
     def fields(pid: int) -> list[int]:
-        return [
-            int(word)
-            for word in pathlib.Path(f"/proc/{pid}/stat")
-            .read_text()
-            .rpartition(")")[2]
-            .split()[11:15]
-        ]
+        text = pathlib.Path(f"/proc/{pid}/stat").read_text().rpartition(")")[2]
+        return [int(field) for field in text.split()[11:15]]
 
     ticks = sum(fields(pid))
-    for one in pathlib.Path(f"/proc/{pid}/task/{pid}/children").read_text().split():
+    for process in pathlib.Path(f"/proc/{pid}/task/{pid}/children").read_text().split():
         with contextlib.suppress(OSError):
-            ticks += sum(fields(int(one))[:2])
+            ticks += sum(fields(int(process))[:2])
     return ticks / os.sysconf("SC_CLK_TCK")
 
 
@@ -391,8 +406,8 @@ TABLES = (
 )
 
 
-def size(server: Server, words: argparse.Namespace) -> None:
-    """Rows, bytes, commits and processor time of a saga of three steps, alone and among others."""
+def size(server: Server, options: argparse.Namespace) -> None:
+    """Measure the rows, bytes, commits and processor time of a saga, alone and among others."""
 
     async def fill(url: str, count: int, together: int) -> int:
         saga = trip()
@@ -405,16 +420,21 @@ def size(server: Server, words: argparse.Namespace) -> None:
             return store.commits
 
     def spent() -> tuple[float, float, float]:
-        own, children = (
-            resource.getrusage(who) for who in (resource.RUSAGE_SELF, resource.RUSAGE_CHILDREN)
+        program_time, children = (
+            resource.getrusage(usage) for usage in (resource.RUSAGE_SELF, resource.RUSAGE_CHILDREN)
         )
-        return own.ru_utime + own.ru_stime, children.ru_utime + children.ru_stime, spent_by(server)
+        return (
+            program_time.ru_utime + program_time.ru_stime,
+            children.ru_utime + children.ru_stime,
+            spent_by(server),
+        )
 
     print(
-        "| a saga, so many at once | commits | rows | bytes in the tables | bytes of WAL | ms of processor: program | its children | server |"
+        "| a saga, by concurrency | commits | rows | bytes in the tables | bytes of WAL "
+        "| ms of processor: program | its children | server |"
     )
     for together, count in ((1, 300), (16, 2000), (256, 5000)):
-        url, count = server.create(), max(100, int(count * words.scale))
+        url, count = server.create(), max(100, int(count * options.scale))
         with psycopg.connect(url, autocommit=True) as link:
 
             def number(text: str) -> int:
@@ -433,7 +453,8 @@ def size(server: Server, words: argparse.Namespace) -> None:
                 table: number(f"SELECT pg_total_relation_size('sagas.{table}')") for table in TABLES
             }
             print(
-                f"| {together} | {commits / count:.2f} | {rows / count:.2f} | {sum(of.values()) / count:.0f} | {wal / count:.0f} | {times} |",
+                f"| {together} | {commits / count:.2f} | {rows / count:.2f} "
+                f"| {sum(of.values()) / count:.0f} | {wal / count:.0f} | {times} |",
                 flush=True,
             )
         print({table: round(bytes / count) for table, bytes in of.items() if bytes / count >= 1})
@@ -441,16 +462,27 @@ def size(server: Server, words: argparse.Namespace) -> None:
 
 
 COPY = """
-INSERT INTO sagas.shards(shard, name, owner, epoch, closed, audit) SELECT {to}, name || '-{to}', NULL, epoch, closed, audit FROM sagas.shards WHERE shard = {log};
-INSERT INTO sagas.shard_definitions SELECT {to}, place, definition FROM sagas.shard_definitions WHERE shard = {log};
-INSERT INTO sagas.event_log SELECT {to}, first_seq, committed_at, text FROM sagas.event_log WHERE shard = {log};
-INSERT INTO sagas.sagas(id, key, saga, definition_index, input, at, phase, outcome, ended, note) SELECT id + ({to} - {log}) * 1000, key || '-{to}', saga, definition_index, input, at, phase, outcome, ended, note FROM sagas.sagas WHERE id / 1000 = {log};
-INSERT INTO sagas.attempts SELECT id + ({to} - {log}) * 1000, step, action, number, event, value, at FROM sagas.attempts WHERE id / 1000 = {log};
+INSERT INTO sagas.shards(shard, name, owner, epoch, closed, audit)
+    SELECT {to}, name || '-{to}', NULL, epoch, closed, audit
+    FROM sagas.shards WHERE shard = {log};
+INSERT INTO sagas.shard_definitions
+    SELECT {to}, place, definition FROM sagas.shard_definitions WHERE shard = {log};
+INSERT INTO sagas.event_log
+    SELECT {to}, first_seq, committed_at, text, epoch FROM sagas.event_log WHERE shard = {log};
+INSERT INTO sagas.sagas(
+        id, key, saga, definition_index, input, at, phase, outcome, ended, note
+    )
+    SELECT id + ({to} - {log}) * 1000, key || '-{to}', saga, definition_index, input, at, phase,
+        outcome, ended, note
+    FROM sagas.sagas WHERE id / 1000 = {log};
+INSERT INTO sagas.attempts
+    SELECT id + ({to} - {log}) * 1000, step, action, number, event, value, at
+    FROM sagas.attempts WHERE id / 1000 = {log};
 """
 
 
 async def ended(url: str, logs: int) -> None:
-    """So many closed logs of a thousand ended sagas each: one that was run, and copies of it."""
+    """Make closed shards of a thousand ended sagas each: one that was run, and copies of it."""
     saga = trip()
     async with sagas.open(url, [saga], concurrency=256) as store:
 
@@ -459,7 +491,9 @@ async def ended(url: str, logs: int) -> None:
 
         await rate(go, 1000, 256)
         database = store._inside.store
-        while not any(said for (said,) in await database.read("SELECT closed FROM shards")):
+        while not any(
+            is_closed for (is_closed,) in await database.read("SELECT closed FROM shards")
+        ):
             await asyncio.sleep(0.05)
     with psycopg.connect(url, autocommit=True) as link:
         ((log,),) = link.execute("SELECT shard FROM sagas.shards WHERE closed = 1").fetchall()
@@ -470,8 +504,11 @@ async def ended(url: str, logs: int) -> None:
         link.execute("VACUUM ANALYZE")
 
 
-def opening(server: Server, words: argparse.Namespace) -> None:
-    """From a start on 100,000 ended sagas and 1,000 open ones until the open steps are called, where these stand in one log, and in a hundred."""
+def opening(server: Server, options: argparse.Namespace) -> None:
+    """Measure the time from a start on 100,000 ended and 1,000 open sagas until their steps run.
+
+    The open sagas are in one shard, and in a hundred.
+    """
     import sagas.definition.shelf
 
     async def opened(url: str) -> float:
@@ -493,23 +530,24 @@ def opening(server: Server, words: argparse.Namespace) -> None:
     for room in (1000, 10):
         setattr(sagas.definition.shelf, "SHARD_CAPACITY", 1000)
         url = server.create()
-        asyncio.run(ended(url, max(2, int(100 * words.scale))))
+        asyncio.run(ended(url, max(2, int(100 * options.scale))))
         setattr(sagas.definition.shelf, "SHARD_CAPACITY", room)
         asyncio.run(opened(url))
         times = []
-        for _ in range(words.turns):
+        for _ in range(options.turns):
             began = time.time()
             times.append(asyncio.run(opened(url)) - began)
         print(
-            f"opening: {int(100_000 * words.scale)} ended, 1,000 open sagas in {1000 // room} logs: {statistics.median(times):.2f} s until all are called",
+            f"opening: {int(100_000 * options.scale)} ended, 1,000 open sagas in {1000 // room} "
+            f"shards: {statistics.median(times):.2f} s until all are called",
             flush=True,
         )
         server.drop(url)
         setattr(sagas.definition.shelf, "SHARD_CAPACITY", 1000)
 
 
-def prune(server: Server, words: argparse.Namespace) -> None:
-    """How long a start waits while logs of a thousand ended sagas are deleted, and without that; and what such a log takes."""
+def prune(server: Server, options: argparse.Namespace) -> None:
+    """Measure the time of a start while shards are deleted and without that, and of a deletion."""
     from sagas.runtime import retention
 
     async def starts(url: str, until: Callable[[], bool]) -> list[float]:
@@ -521,9 +559,9 @@ def prune(server: Server, words: argparse.Namespace) -> None:
                 waits.append(time.perf_counter() - began)
         return waits
 
-    url, logs = server.create(), max(5, int(100 * words.scale))
+    url, logs = server.create(), max(5, int(100 * options.scale))
     asyncio.run(ended(url, logs))
-    for name in ("alone", "beside deletions"):
+    for name in ("alone", "during deletions"):
         done, began = threading.Event(), time.monotonic()
         gone = retention.Gone()
 
@@ -539,19 +577,19 @@ def prune(server: Server, words: argparse.Namespace) -> None:
         thread.start()
         waits = sorted(asyncio.run(starts(url, done.is_set)))
         thread.join()
-        took = (
-            f", {1000 * (time.monotonic() - began) / max(1, len(gone.logs)) / 2:.0f} ms a log of {gone.sagas // max(1, len(gone.logs))} sagas"
-            if gone.logs
-            else ""
-        )
+        count = max(1, len(gone.logs))
+        took = 1000 * (time.monotonic() - began) / count / 2
+        deleted = f", {took:.0f} ms a shard of {gone.sagas // count} sagas" if gone.logs else ""
         print(
-            f"starts {name}: middle {1000 * waits[len(waits) // 2]:.1f} ms, 99 of 100 {1000 * waits[len(waits) * 99 // 100]:.1f} ms, most {1000 * waits[-1]:.1f} ms{took}",
+            f"starts {name}: median {1000 * waits[len(waits) // 2]:.1f} ms, "
+            f"99 of 100 {1000 * waits[len(waits) * 99 // 100]:.1f} ms, "
+            f"maximum {1000 * waits[-1]:.1f} ms{deleted}",
             flush=True,
         )
 
 
-def takeover(server: Server, words: argparse.Namespace) -> None:
-    """From the kill of a node with 1,000 open sagas until another has called all their steps again."""
+def takeover(server: Server, options: argparse.Namespace) -> None:
+    """Measure the time from the kill of a node until another one has called its steps."""
 
     async def main(url: str) -> tuple[float, float]:
         called: list[float] = []
@@ -569,16 +607,17 @@ def takeover(server: Server, words: argparse.Namespace) -> None:
                 await asyncio.sleep(0.005)
             return min(called) - killed, max(called) - killed
 
-    for _ in range(words.turns):
+    for _ in range(options.turns):
         first, last = asyncio.run(main(server.create()))
         print(
-            f"takeover, lease {LEASE:.0f} s: the first step is called again {first:.2f} s after the kill, the last {last:.2f} s",
+            f"takeover, lease {LEASE:.0f} s: the first step is called again {first:.2f} s after "
+            f"the kill, the last {last:.2f} s",
             flush=True,
         )
 
 
 def main() -> None:
-    """The command."""
+    """Run the command."""
     if sys.argv[1:2] == ["child"]:
         be_child(sys.argv[2], int(sys.argv[3]), sys.argv[4])
         return
@@ -600,16 +639,16 @@ def main() -> None:
     parser.add_argument("--scale", type=float, default=1.0)
     parser.add_argument(
         "--at",
-        type=lambda text: [int(one) for one in text.split(",")],
+        type=lambda text: [int(number) for number in text.split(",")],
         default=[*SIZES],
-        help="of `speed` and `failing`: how many at once, as 1,16",
+        help="the concurrencies of `speed` and `failing`, for example 1,16",
     )
-    words = parser.parse_args()
-    logging.basicConfig(filename=os.devnull)  # what is logged is written, and nobody reads it
+    options = parser.parse_args()
+    logging.basicConfig(filename=os.devnull)  # the log is written, and not read
     print(f"{os.cpu_count()} processors, load {os.getloadavg()[0]:.1f}")
     with serving({"fsync": "on", "synchronous_commit": "on", "shared_buffers": "256MB"}) as server:
-        for part in words.parts or list(parts):
-            parts[part](server, words)
+        for part in options.parts or list(parts):
+            parts[part](server, options)
 
 
 if __name__ == "__main__":

@@ -1,27 +1,32 @@
 #!/usr/bin/env python3
-"""Times the Python package beside the same written by hand, in one run.
+"""Time the Python package against a coordinator by hand, in one run.
 
-    PYTHONPATH=python/src python3 bench/python.py [--turns N] [--scale X] [--at 1,16,256,1000] [--failing]
+    PYTHONPATH=python/src python3 bench/python.py [--turns N] [--scale X] [--at 1,16] [--failing]
     PYTHONPATH=python/src python3 bench/python.py --open N [--each M]
     PYTHONPATH=python/src python3 bench/python.py --ended N
 
-Three steps in a row, each with a small result, on one SQLite file with durable defaults (WAL, synchronous=FULL). Three ways:
+A saga has three steps in a row, each with a small result. All ways use one SQLite file with durable
+defaults (WAL, synchronous=FULL). There are three ways:
 
-- `sagas`: the package. It plans, compensates, tries again and gives tokens.
-- `by hand`: a state machine in a table, one transaction for each change of state: a saga's start, and each step's end, with which
-  the next step begins. Nothing is planned and nothing compensated.
-- `by hand, shared`: the same, and one commit takes all changes that wait.
+- `sagas`: the package. It plans, compensates, retries and has idempotency keys.
+- `by hand`: a state machine in a table, with one transaction for each change of state: a saga's
+  start, and each step's end, which starts the next step. It neither plans nor compensates.
+- `by hand, shared`: the same, and one commit has all changes that wait.
 
-With `--failing` the third step fails for good, and both others are undone, by two compensations in the package and by hand. The package
-plans that. By hand each is undone by a change of its own, since a program that is killed has to know which ones are. Both log a line for
-each saga that fails. The table also has how many transactions the package writes a saga, beside a saga that goes well.
+With `--failing` the third step fails permanently, and both others are undone, by two compensations
+in the package and by hand. The package plans them. By hand each is undone with its own change,
+since a program that is killed has to know which steps are undone. Both log a line for each saga
+that fails. The table also compares the transactions that the package writes for such a saga with
+those for a saga that completes.
 
-Each turn runs them all at each concurrency, so that a slower moment of the machine meets each. The table has the middle turn.
-CPU is that of the Python process, all its threads, a saga; that of the deciding child is not in it.
+Each turn runs all ways at each concurrency, so that a slower moment of the machine affects each.
+The table has the turn with the median rate. CPU is the processor time of the Python process for a
+saga, with all its threads, and without the engine process.
 
-`--open` starts so many sagas whose first step does not end, at most M of them in a log, kills the program with -9, and times the
-next one until the first function is called again, with the memory of all its processes. `--ended` runs so many sagas to their end, and
-tells how long a store that has them takes to open, and how much room each takes on the disk.
+`--open` starts N sagas whose first step does not end, with at most M of them in a shard, and kills
+the program with -9. It times the next program until the first function is called again, and prints
+the memory of all its processes. `--ended` runs N sagas to their end. It prints the time that a
+store with them takes to open, and their size on the disk.
 """
 
 from __future__ import annotations
@@ -48,25 +53,30 @@ from typing import Any
 import sagas
 
 COUNTS = {1: 200, 16: 1_500, 256: 6_000, 1_000: 10_000}
-"""How many sagas are timed at a concurrency."""
+"""The number of timed sagas, by concurrency."""
 
 SCHEMA = """
-CREATE TABLE saga(id INTEGER PRIMARY KEY, key TEXT NOT NULL UNIQUE, input TEXT NOT NULL, step INTEGER NOT NULL, phase TEXT NOT NULL);
-CREATE TABLE result(saga INTEGER NOT NULL, step INTEGER NOT NULL, value TEXT, at REAL, PRIMARY KEY(saga, step)) WITHOUT ROWID;
+CREATE TABLE saga(
+    id INTEGER PRIMARY KEY, key TEXT NOT NULL UNIQUE, input TEXT NOT NULL,
+    step INTEGER NOT NULL, phase TEXT NOT NULL
+);
+CREATE TABLE result(
+    saga INTEGER NOT NULL, step INTEGER NOT NULL, value TEXT, at REAL, PRIMARY KEY(saga, step)
+) WITHOUT ROWID;
 """
 
 WARM = 20
-"""So many sagas run before those that are timed."""
+"""The number of sagas that run before the timed runs."""
 Step = Callable[[Any], Awaitable[Any]]
-One = Callable[[str, Any], Awaitable[None]]
+RunSaga = Callable[[str, Any], Awaitable[None]]
 
 
-# -- by hand -----------------------------------------------------------------------------------------------------
+# -- by hand
 
 
 @dataclass(frozen=True)
 class Started:
-    """A saga is begun, and its first step with it."""
+    """The start of a saga and of its first step."""
 
     id: int
     key: str
@@ -78,7 +88,7 @@ class Started:
 
 @dataclass(frozen=True)
 class Done:
-    """A step is done, and the next one begun."""
+    """The end of a step, and the start of the next one."""
 
     id: int
     step: int
@@ -97,7 +107,7 @@ class Done:
 
 @dataclass(frozen=True)
 class Undone:
-    """A step has failed, or is undone, and what is undone next is begun."""
+    """The failure of a step, or the end of its compensation, and the start of the next one."""
 
     id: int
     step: int
@@ -115,7 +125,10 @@ Change = Started | Done | Undone
 
 
 class Table:
-    """The state machine's table: a thread that writes, one transaction for each change or for all that wait."""
+    """The table of the state machine.
+
+    A thread writes it, with one transaction for each change or for all changes that wait.
+    """
 
     def __init__(self, path: pathlib.Path, shared: bool) -> None:
         self.shared = shared
@@ -139,7 +152,7 @@ class Table:
         self.db.execute("COMMIT")
 
     def write(self, change: Change) -> asyncio.Future[None]:
-        """Commits a change; done once it is durable."""
+        """Commit a change. The future is done when the change is durable."""
         if not self.shared:
             return self.loop.run_in_executor(self.thread, self._commit, [change])
         future = self.loop.create_future()
@@ -159,71 +172,74 @@ class Table:
 
 
 class ByHand:
-    """Steps in a row, each kept before the next begins. Where one fails, those before it are undone, the last one first."""
+    """Run steps in a row, and store each before the next one starts.
+
+    If a step fails, the steps before it are undone in reverse order.
+    """
 
     def __init__(self, table: Table, steps: list[Step], undo: Step) -> None:
         self.table, self.steps, self.undo, self.started = table, steps, undo, 0
 
-    async def run(self, key: str, given: Any) -> None:
-        """One saga, from its start to its end."""
+    async def run(self, key: str, saga_input: Any) -> None:
+        """Run a saga from its start to its end."""
         id, self.started = self.started, self.started + 1
-        await self.table.write(Started(id, key, json.dumps(given, sort_keys=True)))
+        await self.table.write(Started(id, key, json.dumps(saga_input, sort_keys=True)))
         for number, step in enumerate(self.steps):
             try:
-                value = await step(given)
+                value = await step(saga_input)
             except LookupError as error:
                 logging.getLogger("by hand").warning(
                     "step_failed key=%s step=%d detail=%r", key, number, error
                 )
-                await self._back(id, number, given)
+                await self._back(id, number, saga_input)
                 return
             phase = "ended" if number + 1 == len(self.steps) else "going"
             await self.table.write(Done(id, number, json.dumps(value), time.time(), phase))
 
-    async def _back(self, id: int, failed: int, given: Any) -> None:
+    async def _back(self, id: int, failed: int, saga_input: Any) -> None:
         await self.table.write(Undone(id, failed, time.time(), "undoing"))
         for number in reversed(range(failed)):
-            await self.undo(given)
+            await self.undo(saga_input)
             await self.table.write(
                 Undone(id, number, time.time(), "undoing" if number else "ended")
             )
 
 
-async def small(given: Any) -> Any:
-    """A step that has nothing to do."""
+async def small(saga_input: Any) -> Any:
+    """Do nothing, and return a small result."""
     return {"id": 17}
 
 
-async def fails(given: Any) -> Any:
-    """A step that cannot be done."""
+async def fails(saga_input: Any) -> Any:
+    """Fail."""
     raise LookupError("sold out")
 
 
-# -- with the package ----------------------------------------------------------------------------------------------
+# -- with the package
 
 row = sagas.Saga("row")
 
 
 @row.step
 async def first(task: sagas.Task[Any]) -> dict[str, int]:
-    """The first of three."""
+    """Return a small result."""
     return {"id": 17}
 
 
 @row.step(needs=[first], undo=1, keep=2)
 async def second(task: sagas.Task[Any]) -> dict[str, int]:
-    """The one that could be undone."""
+    """Return a small result. This step can be undone."""
     return {"id": 17}
 
 
 @second.compensation
 async def not_second(task: sagas.Task[Any]) -> None:
-    """Is never called here."""
+    """Do nothing. It is never called here."""
 
 
 @row.step(needs=[second])
 async def third(task: sagas.Task[Any]) -> dict[str, int]:
-    """The last of three."""
+    """Return a small result."""
     return {"id": 17}
 
 
@@ -231,58 +247,58 @@ back = sagas.Saga("back")
 
 
 @back.step(keep=2)
-async def one(task: sagas.Task[Any]) -> dict[str, int]:
-    """The first of three."""
+async def initial(task: sagas.Task[Any]) -> dict[str, int]:
+    """Return a small result."""
     return {"id": 17}
 
 
-@one.compensation
-async def not_one(task: sagas.Task[Any]) -> None:
-    """Undoes it."""
+@initial.compensation
+async def not_initial(task: sagas.Task[Any]) -> None:
+    """Do nothing."""
 
 
-@back.step(needs=[one], keep=2)
-async def two(task: sagas.Task[Any]) -> dict[str, int]:
-    """The second of three."""
+@back.step(needs=[initial], keep=2)
+async def middle_step(task: sagas.Task[Any]) -> dict[str, int]:
+    """Return a small result."""
     return {"id": 17}
 
 
-@two.compensation
-async def not_two(task: sagas.Task[Any]) -> None:
-    """Undoes it."""
+@middle_step.compensation
+async def not_middle(task: sagas.Task[Any]) -> None:
+    """Do nothing."""
 
 
-@back.step(needs=[two])
+@back.step(needs=[middle_step])
 async def sold_out(task: sagas.Task[Any]) -> None:
-    """The third one fails."""
+    """Fail permanently."""
     raise sagas.Fail("sold out")
 
 
-# -- times ---------------------------------------------------------------------------------------------------------
+# -- times
 
 
 @dataclass(frozen=True)
 class Timing:
-    """What a run took."""
+    """The times of a run."""
 
     rate: float
     """Sagas a second."""
     middle: float
-    """Milliseconds from a saga's start to its end, the middle one."""
+    """Median milliseconds from a saga's start to its end."""
     cpu: float
     """Microseconds of this process's CPU, a saga."""
     commits: float = 0.0
-    """Transactions that the package wrote, a saga."""
+    """Transactions of the package, a saga."""
 
 
-async def timed(one: One, count: int, together: int) -> Timing:
-    """Runs so many sagas, so many of them at a time; a few before them to warm up."""
+async def timed(run_saga: RunSaga, count: int, together: int) -> Timing:
+    """Time `count` sagas, with `together` concurrent runs, after a few to warm up."""
     spent: list[float] = []
 
     async def worker(keys: Any) -> None:
         for key in keys:
             began = time.perf_counter()
-            await one(f"key-{together}-{key}", {"n": 1})
+            await run_saga(f"key-{together}-{key}", {"n": 1})
             spent.append(time.perf_counter() - began)
 
     warm = iter([f"warm-{number}" for number in range(WARM)])
@@ -295,25 +311,24 @@ async def timed(one: One, count: int, together: int) -> Timing:
 
 
 async def with_package(folder: pathlib.Path, saga: sagas.Saga, count: int, together: int) -> Timing:
-    """The package's turn."""
+    """Run a turn of the package."""
     async with sagas.open(folder / "sagas.db", [saga], concurrency=max(16, together)) as store:
         last: list[sagas.SagaResult] = []
 
-        async def one(key: str, given: Any) -> None:
-            run = await store.start(saga, key=key, input=given)
-            last[:] = [
-                await run.wait()
-            ]  # a result is read when it is looked at, which is no part of this
+        async def run_saga(key: str, saga_input: Any) -> None:
+            run = await store.start(saga, key=key, input=saga_input)
+            # A result is read when it is used, which is not a part of this measurement.
+            last[:] = [await run.wait()]
 
-        timing = await timed(one, count, together)
-        assert last[0].ok if saga is row else last[0].states["one"] == "undone", last
+        timing = await timed(run_saga, count, together)
+        assert last[0].ok if saga is row else last[0].states["initial"] == "undone", last
         return dataclasses.replace(timing, commits=store.commits / (count + WARM))
 
 
 async def by_hand(
     folder: pathlib.Path, failing: bool, count: int, together: int, shared: bool
 ) -> Timing:
-    """The hand-written one's turn."""
+    """Run a turn by hand."""
     table = Table(folder / "table.db", shared)
     try:
         steps = [small, small, fails if failing else small]
@@ -323,7 +338,7 @@ async def by_hand(
 
 
 def turn(way: str, failing: bool, count: int, together: int) -> Timing:
-    """One way, on a store of its own."""
+    """Run one way on a new store."""
     folder = pathlib.Path(tempfile.mkdtemp(prefix="sagas-bench-"))
     try:
         if way == "sagas":
@@ -333,7 +348,7 @@ def turn(way: str, failing: bool, count: int, together: int) -> Timing:
         shutil.rmtree(folder)
 
 
-# -- a store with many sagas -----------------------------------------------------------------------------------------
+# -- a store with many sagas
 
 MANY = """
 import asyncio, os, pathlib, signal, sys, time
@@ -360,13 +375,14 @@ async def main():
     sagas.definition.shelf.SHARD_CAPACITY = each
     async with sagas.open(path, [saga]) as store:
         if not again:
-            for place in range(0, count, 500):
-                await asyncio.gather(*(store.start(saga, key=f"k{n}") for n in range(place, min(place + 500, count))))
+            for begin in range(0, count, 500):
+                numbers = range(begin, min(begin + 500, count))
+                await asyncio.gather(*(store.start(saga, key=f"k{n}") for n in numbers))
             os.kill(os.getpid(), signal.SIGKILL)
         opened = time.perf_counter() - began
         await called.wait()
         took = time.perf_counter() - began
-        await asyncio.sleep(1)  # until all logs have had their turn
+        await asyncio.sleep(1)  # until all shards have had their turn
         tasks = f"/proc/{os.getpid()}/task/{os.getpid()}/children"
         pids = [os.getpid(), *map(int, pathlib.Path(tasks).read_text().split())]
         print(opened, took, len(pids) - 1, sum(map(memory, pids)) / 1024, flush=True)
@@ -378,16 +394,17 @@ asyncio.run(main())
 
 
 def open_again(count: int, each: int) -> None:
-    """How a program goes on with many open sagas, after kill -9."""
+    """Time how a program continues many open sagas after kill -9."""
     folder = pathlib.Path(tempfile.mkdtemp(prefix="sagas-bench-"))
     try:
-        words = [sys.executable, "-c", MANY, str(folder / "sagas.db"), str(count), str(each)]
-        subprocess.run([*words, "fill"], check=False)
-        done = subprocess.run([*words, "again"], check=False, capture_output=True, text=True)
+        command = [sys.executable, "-c", MANY, str(folder / "sagas.db"), str(count), str(each)]
+        subprocess.run([*command, "fill"], check=False)
+        done = subprocess.run([*command, "again"], check=False, capture_output=True, text=True)
         opened, called, children, memory = map(float, done.stdout.split())
-        logs = -(-count // each)
+        shards = -(-count // each)
         print(
-            f"{count:,} open sagas in {logs} logs: open after {opened:.2f} s, the first step called again after {called:.2f} s,"
+            f"{count:,} open sagas in {shards} shards: open after {opened:.2f} s, "
+            f"the first step called again after {called:.2f} s,"
         )
         print(f"  {children:.0f} children, {memory:.0f} MB in all")
     finally:
@@ -395,28 +412,28 @@ def open_again(count: int, each: int) -> None:
 
 
 async def fill(path: pathlib.Path, count: int) -> None:
-    """Runs so many sagas to their end."""
+    """Run `count` sagas to their end."""
     async with sagas.open(path, [row], concurrency=256) as store:
-        for place in range(0, count, 1_000):
+        for begin in range(0, count, 1_000):
 
-            async def one(number: int) -> None:
+            async def run_saga(number: int) -> None:
                 run = await store.start(row, key=f"key-{number}", input={"n": number})
                 await run.wait()
 
             await asyncio.gather(
-                *(one(number) for number in range(place, min(place + 1_000, count)))
+                *(run_saga(number) for number in range(begin, min(begin + 1_000, count)))
             )
 
 
 async def opening(path: pathlib.Path) -> float:
-    """How long a store takes to open."""
+    """Return the seconds that a store takes to open."""
     began = time.perf_counter()
     async with sagas.open(path, [row]):
         return time.perf_counter() - began
 
 
 def ended(count: int) -> None:
-    """What ended sagas cost."""
+    """Measure the costs of ended sagas."""
     folder = pathlib.Path(tempfile.mkdtemp(prefix="sagas-bench-"))
     try:
         path = folder / "sagas.db"
@@ -432,78 +449,83 @@ WAYS = ("sagas", "by hand", "by hand, shared")
 
 
 def middle(timings: list[Timing]) -> Timing:
-    """The turn with the middle rate."""
+    """Return the turn with the median rate."""
     return sorted(timings, key=lambda timing: timing.rate)[len(timings) // 2]
 
 
 def main() -> int:
-    """The command."""
+    """Run the command, and return its status."""
     parser = argparse.ArgumentParser(
         description=__doc__, formatter_class=argparse.RawDescriptionHelpFormatter
     )
     parser.add_argument("--turns", type=int, default=3)
     parser.add_argument(
-        "--scale", type=float, default=1.0, help="more or fewer sagas than the usual"
+        "--scale", type=float, default=1.0, help="a factor of the number of sagas (default: 1)"
     )
+    parser.add_argument("--open", type=int, metavar="N", help="continue N open sagas after kill -9")
     parser.add_argument(
-        "--open", type=int, metavar="N", help="go on with so many open sagas, after kill -9"
+        "--each",
+        type=int,
+        default=1_000,
+        metavar="M",
+        help="at most M of them in a shard (default: 1000)",
     )
-    parser.add_argument(
-        "--each", type=int, default=1_000, metavar="M", help="at most so many of them in a log"
-    )
-    parser.add_argument(
-        "--ended", type=int, metavar="N", help="open a store with so many ended sagas"
-    )
+    parser.add_argument("--ended", type=int, metavar="N", help="open a store with N ended sagas")
     parser.add_argument("--at", default=",".join(map(str, COUNTS)), help="the concurrencies")
     parser.add_argument(
         "--failing", action="store_true", help="the third step fails, and the others are undone"
     )
-    words = parser.parse_args()
-    logging.basicConfig(filename=os.devnull)  # what is logged is written, and nobody reads it
-    if words.open:
-        open_again(words.open, words.each)
-    if words.ended:
-        ended(words.ended)
-    if words.open or words.ended:
+    options = parser.parse_args()
+    logging.basicConfig(filename=os.devnull)  # the log is written, and not read
+    if options.open:
+        open_again(options.open, options.each)
+    if options.ended:
+        ended(options.ended)
+    if options.open or options.ended:
         return 0
-    compare(words)
+    compare(options)
     return 0
 
 
-def compare(words: argparse.Namespace) -> None:
-    """The three ways, side by side."""
-    sizes = [int(size) for size in words.at.split(",")]
+def compare(options: argparse.Namespace) -> None:
+    """Time the three ways, and print their table."""
+    sizes = [int(size) for size in options.at.split(",")]
     timings: dict[tuple[int, str], list[Timing]] = {
         (size, way): [] for size in sizes for way in WAYS
     }
-    for _ in range(words.turns):
+    for _ in range(options.turns):
         for size in sizes:
             for way in WAYS:
-                count = max(20, int(COUNTS.get(size, 6 * size) * words.scale))
+                count = max(20, int(COUNTS.get(size, 6 * size) * options.scale))
                 timings[size, way].append(
-                    turn(way, words.failing, min(count, 1_500) if way == "by hand" else count, size)
+                    turn(
+                        way, options.failing, min(count, 1_500) if way == "by hand" else count, size
+                    )
                 )
     print(
         f"{'':>11}  {'':16} {'sagas/s':>8} {'(least, most)':>17} {'latency ms':>11} {'CPU us':>7}"
     )
-    for (size, way), ones in timings.items():
-        one, rates = middle(ones), [timing.rate for timing in ones]
+    for (size, way), runs in timings.items():
+        chosen, rates = middle(runs), [timing.rate for timing in runs]
         spread = f"({min(rates):,.0f}, {max(rates):,.0f})"
         print(
-            f"{size:>5} at once  {way:16} {one.rate:>8,.0f} {spread:>17} {one.middle:>11.1f} {one.cpu:>7,.0f}"
+            f"{size:>5} at once  {way:16} {chosen.rate:>8,.0f} {spread:>17} "
+            f"{chosen.middle:>11.1f} {chosen.cpu:>7,.0f}"
         )
         if way == WAYS[-1]:
             rate = {name: middle(timings[size, name]).rate for name in WAYS}
             print(
-                f"{'':>11}  sagas is {rate['sagas'] / rate['by hand']:.2f} of by hand, {rate['sagas'] / rate[way]:.2f} of shared"
+                f"{'':>11}  sagas is {rate['sagas'] / rate['by hand']:.2f} of by hand, "
+                f"{rate['sagas'] / rate[way]:.2f} of shared"
             )
-            if words.failing:
+            if options.failing:
                 well = turn(
-                    "sagas", False, max(20, int(COUNTS.get(size, 6 * size) * words.scale)), size
+                    "sagas", False, max(20, int(COUNTS.get(size, 6 * size) * options.scale)), size
                 ).commits
                 commits = middle(timings[size, "sagas"]).commits
                 print(
-                    f"{'':>11}  {commits:.3f} transactions a saga, {commits / well:.2f} of those of a saga that goes well"
+                    f"{'':>11}  {commits:.3f} transactions a saga, "
+                    f"{commits / well:.2f} of those of a saga that completes"
                 )
 
 

@@ -42,18 +42,18 @@ def three() -> sagas.Saga:
 async def some(store: sagas.Store, kind: sagas.Saga, name: str, at: int, count: int) -> float:
     """Run `count` sagas, `at` at once; return milliseconds of the processor for each."""
 
-    async def one(lane: int) -> None:
+    async def run_lane(lane: int) -> None:
         for number in range(count // at):
             assert (await (await store.start(kind, f"{name}-{lane}-{number}")).wait()).ok
 
     began = time.process_time()
-    await asyncio.gather(*(one(lane) for lane in range(at)))
+    await asyncio.gather(*(run_lane(lane) for lane in range(at)))
     return 1000 * (time.process_time() - began) / (count // at * at)
 
 
 async def turns(server: Server, at: int, count: int, number: int) -> dict[str, list[float]]:
-    """The times of each store, turn by turn."""
-    found: dict[str, list[float]] = {name: [] for name in NAMES}
+    """Return the times of each store in all turns."""
+    times_by_name: dict[str, list[float]] = {name: [] for name in NAMES}
     with tempfile.TemporaryDirectory() as folder:
         files = {"no record": None, "a record": pathlib.Path(folder) / "record"}
         kinds = {name: three() for name in NAMES}
@@ -72,35 +72,41 @@ async def turns(server: Server, at: int, count: int, number: int) -> dict[str, l
                 for name in NAMES if turn % 2 == 0 else NAMES[::-1]:
                     took = await some(opened[name], kinds[name], f"t{turn}", at, count)
                     if turn >= 0:  # the first one warms it up
-                        found[name].append(took)
-    return found
+                        times_by_name[name].append(took)
+    return times_by_name
 
 
-def row(what: str, values: list[float], unit: str) -> None:
-    """Prints a row: the median, the lowest and the highest value."""
-    cells = ",".join(f"{one:.4f}" for one in (statistics.median(values), min(values), max(values)))
-    print(f"{what},{cells},{unit}", flush=True)
+def row(measurement: str, values: list[float], unit: str) -> None:
+    """Print a row: the median, the lowest and the highest value."""
+    cells = (statistics.median(values), min(values), max(values))
+    shown = ",".join(f"{cell:.4f}" for cell in cells)
+    print(f"{measurement},{shown},{unit}", flush=True)
 
 
 def main() -> None:
-    """The command."""
+    """Run the command."""
     parser = argparse.ArgumentParser(
         description=__doc__, formatter_class=argparse.RawDescriptionHelpFormatter
     )
     parser.add_argument("--turns", type=int, default=30)
     parser.add_argument("--at", default="1,16,256")
     parser.add_argument(
-        "--sagas", type=int, default=256, help="of a turn; an eighth of that where one is open"
+        "--sagas", type=int, default=256, help="of a turn; an eighth of that for one open saga"
     )
-    words = parser.parse_args()
+    options = parser.parse_args()
     with serving({"fsync": "off"}) as server:
         print("measurement,condition,median,low,high,unit")
-        for at in map(int, words.at.split(",")):
-            count = words.sagas if at > 1 else max(1, words.sagas // 8)
-            found = asyncio.run(turns(server, at, count, words.turns))
-            for name, times in found.items():
+        for at in map(int, options.at.split(",")):
+            count = options.sagas if at > 1 else max(1, options.sagas // 8)
+            times_by_name = asyncio.run(turns(server, at, count, options.turns))
+            for name, times in times_by_name.items():
                 row(f"processor time of a node,{at} open; {name}", times, "ms a saga")
-            ratios = [one / other for one, other in zip(found["a record"], found["no record"])]
+            ratios = [
+                with_record / without
+                for with_record, without in zip(
+                    times_by_name["a record"], times_by_name["no record"]
+                )
+            ]
             row(f"a record compared with none,{at} open", ratios, "times")
 
 

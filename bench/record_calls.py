@@ -33,35 +33,35 @@ from sagas.runtime.acknowledgements import Acknowledgements  # noqa: E402
 from sagas.storage.record_file import Commit, RecordFile  # noqa: E402
 
 SLOWER = 40
-"""How many times slower a program is that counts its instructions."""
+"""The factor by which counting its instructions slows a program."""
 SHORT = 1.5
 """Delays below this number of seconds are `SLOWER` times as long, so that commits are as large."""
 Call = tuple[type, str, tuple[Any, ...]]
 
 
 class Journal:
-    """What a node calls of its record, in order."""
+    """The calls of a node to its record, in order."""
 
     def __init__(self) -> None:
         self.calls: list[Call] = []
         self._is_inside = False
-        self._own: list[tuple[type, str, Any]] = []
+        self._originals: list[tuple[type, str, Any]] = []
         for owner in (Acknowledgements, RecordFile):
             for name, value in list(vars(owner).items()):
                 is_part = name.startswith("_") or name in ("open", "close", "session")
                 if callable(value) and not is_part:
-                    self._own.append((owner, name, value))
+                    self._originals.append((owner, name, value))
                     setattr(owner, name, self._kept(owner, name, value))
         setattr(RecordFile, "commit", property(lambda record: vars(record)["sent"], self._put))
 
     def _kept(self, owner: type, name: str, function: Callable[..., Any]) -> Callable[..., Any]:
-        def call(this: Any, *words: Any) -> Any:
+        def call(this: Any, *arguments: Any) -> Any:
             if self._is_inside:
-                return function(this, *words)
-            self.calls.append((owner, name, words))
+                return function(this, *arguments)
+            self.calls.append((owner, name, arguments))
             self._is_inside = True
             try:
-                return function(this, *words)
+                return function(this, *arguments)
             finally:
                 self._is_inside = False
 
@@ -73,21 +73,21 @@ class Journal:
             self.calls.append((RecordFile, "commit", (commit,)))
 
     def end(self) -> None:
-        """Keep nothing any more."""
+        """Stop, and restore the functions."""
         delattr(RecordFile, "commit")
-        for owner, name, value in self._own:
+        for owner, name, value in self._originals:
             setattr(owner, name, value)
 
     def again(self, record: RecordFile) -> list[tuple[Callable[..., Any], tuple[Any, ...]]]:
-        """The same calls of another record."""
+        """Return the same calls for another record."""
         owners = {RecordFile: record, Acknowledgements: Acknowledgements(record)}
 
         def put(commit: Commit) -> None:
             record.commit = commit
 
         return [
-            (put if name == "commit" else getattr(owners[owner], name), words)
-            for owner, name, words in self.calls
+            (put if name == "commit" else getattr(owners[owner], name), arguments)
+            for owner, name, arguments in self.calls
         ]
 
 
@@ -107,15 +107,15 @@ def three() -> sagas.Saga:
 async def some(store: sagas.Store, kind: sagas.Saga, name: str, at: int, count: int) -> None:
     """Run `count` sagas, `at` at once."""
 
-    async def one(lane: int) -> None:
+    async def run_lane(lane: int) -> None:
         for number in range(count // at):
             assert (await (await store.start(kind, f"{name}-{lane}-{number}", {"n": 1})).wait()).ok
 
-    await asyncio.gather(*(one(lane) for lane in range(at)))
+    await asyncio.gather(*(run_lane(lane) for lane in range(at)))
 
 
 def counted(work: Callable[[], object]) -> None:
-    """Count the instructions of it, as a part of its own."""
+    """Count the instructions of a function as a separate part."""
     os.umask(0o077)  # where callgrind begins to count
     work()
     os.getpriority(os.PRIO_PROCESS, 0)  # where it writes the count
@@ -128,12 +128,12 @@ async def count(url: str, folder: str, at: int, number: int) -> None:
     setattr(
         loop,
         "call_later",
-        lambda delay, *words, **more: later(
-            delay * SLOWER if 0 < delay < SHORT else delay, *words, **more
+        lambda delay, *arguments, **more: later(
+            delay * SLOWER if 0 < delay < SHORT else delay, *arguments, **more
         ),
     )
-    words = {"concurrency": max(16, at), "lease": 600, "record": f"{folder}/record"}
-    async with sagas.open(url, [kind], **words) as store:
+    settings = {"concurrency": max(16, at), "lease": 600, "record": f"{folder}/record"}
+    async with sagas.open(url, [kind], **settings) as store:
         await some(store, kind, "warm", at, max(40, 4 * at))
         gc.collect()
         warm = len(journal.calls)
@@ -147,22 +147,22 @@ async def count(url: str, folder: str, at: int, number: int) -> None:
     record = RecordFile(f"{folder}/again", "0123456789abcdef")
     record.open()
     calls = journal.again(record)
-    for function, given in calls[:warm]:
-        function(*given)
+    for function, arguments in calls[:warm]:
+        function(*arguments)
     part = calls[warm:last]
 
-    def empty(*given: Any) -> None:
+    def empty(*arguments: Any) -> None:
         ...
 
     def made(calls: list[tuple[Callable[..., Any], tuple[Any, ...]]]) -> None:
-        for function, given in calls:
-            function(*given)
+        for function, arguments in calls:
+            function(*arguments)
 
     def passed() -> None:
         for _, _ in part:
             pass
 
-    others = [(empty, given) for _, given in part]
+    others = [(empty, arguments) for _, arguments in part]
     counted(lambda: made(part))
     counted(lambda: made(others))
     counted(passed)
@@ -170,33 +170,33 @@ async def count(url: str, folder: str, at: int, number: int) -> None:
 
 
 def parts(folder: str) -> list[int]:
-    """The instructions of each part, in order."""
+    """Return the instructions of each part, in order."""
     files = [path for path in pathlib.Path(folder).glob("count.*")]
     files.sort(key=lambda path: int(path.suffix[1:]))
     texts = [path.read_text(errors="replace") for path in files]
     return [
-        int(found[1])
+        int(total[1])
         for text in texts
         if "--dump-before" in text
-        and (found := re.search(r"^(?:summary|totals): (\d+)", text, re.M))
+        and (total := re.search(r"^(?:summary|totals): (\d+)", text, re.M))
     ]
 
 
 def main() -> None:
-    """The command."""
+    """Run the command."""
     parser = argparse.ArgumentParser(
         description=__doc__, formatter_class=argparse.RawDescriptionHelpFormatter
     )
     parser.add_argument("--at", default="1,16")
     parser.add_argument("--sagas", type=int, default=96)
     parser.add_argument("--within", nargs=2, metavar=("URL", "FOLDER"), help=argparse.SUPPRESS)
-    words = parser.parse_args()
-    if words.within:
-        asyncio.run(count(*words.within, int(words.at), words.sagas))
+    options = parser.parse_args()
+    if options.within:
+        asyncio.run(count(*options.within, int(options.at), options.sagas))
         return
     with serving({"fsync": "off"}) as server:
         print("measurement,condition,median,low,high,unit")
-        for at in map(int, words.at.split(",")):
+        for at in map(int, options.at.split(",")):
             with tempfile.TemporaryDirectory() as folder:
                 under = [
                     "valgrind",
@@ -210,7 +210,7 @@ def main() -> None:
                     "--at",
                     str(at),
                     "--sagas",
-                    str(words.sagas),
+                    str(options.sagas),
                     "--within",
                     server.create(),
                     folder,
@@ -218,10 +218,10 @@ def main() -> None:
                 done = subprocess.run(
                     under, env=os.environ | {"PYTHONHASHSEED": "0"}, capture_output=True, text=True
                 )
-                found = parts(folder)
-                if done.returncode or len(found) != 4:
-                    sys.exit(f"record_calls: {found} {done.stdout}{done.stderr}")
-            node, made, empty, passed = (one / words.sagas / 1000 for one in found)
+                totals = parts(folder)
+                if done.returncode or len(totals) != 4:
+                    sys.exit(f"record_calls: {totals} {done.stdout}{done.stderr}")
+            node, made, empty, passed = (total / options.sagas / 1000 for total in totals)
             print(f"instructions of a node,{at} open; on,{node:.1f},,,thousand a saga")
             print(
                 f"instructions of the record alone,{at} open,{made - empty:.1f},,,thousand a saga"

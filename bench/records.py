@@ -1,9 +1,9 @@
 #!/usr/bin/env python3
-"""How long `sagas audit --fleet` takes for records of many nodes, by the number of events.
+"""Time `sagas audit --fleet` on records of many nodes, by the number of events.
 
 In a record, sessions take over from one another. Each writes some chunks, with a synchronous
-standby. The time is the processor time of the program, over several runs. Prints a line for each
-size, as bench/results has them.
+standby. The time is the processor time of the program, over several runs. The script prints a line
+for each size in the form of bench/results.
 """
 
 from __future__ import annotations
@@ -19,7 +19,7 @@ from pathlib import Path
 TOP = Path(__file__).resolve().parent.parent
 SIZES = (10_000, 100_000, 1_000_000)
 
-# How many chunks a session writes before another one takes over.
+# The number of chunks that a session writes before another one takes over.
 CHUNKS = 50
 
 
@@ -38,7 +38,7 @@ def record(events: int) -> str:
 
 
 def seconds(program: str, path: Path) -> float:
-    """The processor time of an audit, which has to say yes."""
+    """Return the processor time of an audit, which must print yes."""
     before = resource.getrusage(resource.RUSAGE_CHILDREN)
     done = subprocess.run([program, "audit", "--fleet", path], capture_output=True, text=True)
     after = resource.getrusage(resource.RUSAGE_CHILDREN)
@@ -48,16 +48,16 @@ def seconds(program: str, path: Path) -> float:
 
 
 def main() -> None:
-    """Times the audit of each size."""
+    """Time the audit of each size."""
     parser = argparse.ArgumentParser(description=(__doc__ or "").splitlines()[0])
-    parser.add_argument("--turns", type=int, default=11, help="how often each record is audited")
+    parser.add_argument("--turns", type=int, default=11, help="the number of audits of each record")
     parser.add_argument("--program", default=str(TOP / "sagas"), help="the program")
-    given = parser.parse_args()
+    options = parser.parse_args()
     with tempfile.TemporaryDirectory() as folder:
         for events in SIZES:
             path = Path(folder) / "record"
             path.write_text(record(events))
-            times = [1000 * seconds(given.program, path) for _ in range(given.turns)]
+            times = [1000 * seconds(options.program, path) for _ in range(options.turns)]
             median, low, high = statistics.median(times), min(times), max(times)
             print(f"audit of a record,{events} events,{median:.1f},{low:.1f},{high:.1f},ms")
 

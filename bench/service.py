@@ -1,14 +1,22 @@
 #!/usr/bin/env python3
-"""Times the service beside a bare FastAPI route that inserts one row in the same database, one commit a request.
+"""Time the service against a bare FastAPI route that inserts one row a request.
 
-    PYTHONPATH=python/src:python/tests python3 bench/service.py [--store sqlite|postgresql] [--services N] [--turns N] [--count N] [--clients N]
+    PYTHONPATH=python/src:python/tests python3 bench/service.py [--store sqlite|postgresql]
+        [--services N] [--turns N] [--count N] [--clients N]
 
-Each turn starts, one after the other: the bare route (over SQLite as an async function, and as a plain one in FastAPI's threads, and the faster one counts; over
-PostgreSQL as an async function over a pool), and `sagas serve` with its durable defaults, over PostgreSQL so many of them, among which the clients are divided. Clients
-keep their connections, and each asks again when it is answered. A task is taken and reported: each by itself, each with the report of the one before (`next`), ten at a
-time, and ten with the report of the last of ten, as `sagas.Worker` takes short ones. Last, the page's list over 100,000 sagas. The client is a process of its own beside
-the server, on the same machine. Beside requests a second stands the processor's time that the server takes for one, of all its threads. `TMPDIR=/dev/shm` puts SQLite's
-files into memory: there a commit waits for no disk, and the route is at its fastest.
+The route uses the same kind of database, with one commit a request. Each turn starts the route, and
+then `sagas serve` with its durable defaults. Over SQLite the route is an async function, and a
+plain one in FastAPI's threads, and the faster one counts. Over PostgreSQL it is an async function
+over a pool, and there are N services, among which the clients are divided.
+
+Clients keep their connections, and send the next request after each reply. They claim and report
+tasks in four ways: each by itself, each with the report of the previous one (`next`), ten at a
+time, and ten with the report of the last of ten, as `sagas.Worker` claims short ones. Last comes
+the list of the dashboard over 100,000 sagas. The client is a separate process on the same machine.
+The table also has the processor time of the server for a request, with all its threads.
+
+`TMPDIR=/dev/shm` puts SQLite's files into memory. Then a commit does not wait for a disk, and the
+route is at its fastest.
 """
 
 from __future__ import annotations
@@ -31,7 +39,7 @@ from server import Server, serving
 from serving import Served, environment, host, served
 from test_service_page import fill
 
-ONE = 'format = 2\nname = "one"\n[[step]]\nname = "a"\nundo = "never"\n'
+DEFINITION = 'format = 2\nname = "one"\n[[step]]\nname = "a"\nundo = "never"\n'
 BARE = """
 import sqlite3, sys, threading
 import fastapi, pydantic, uvicorn
@@ -52,7 +60,10 @@ if sys.argv[2] == "async":
 else:
     @app.post("/row", status_code=201)
     def one(row: Row): return insert(row)
-uvicorn.run(app, host=sys.argv[3], port=int(sys.argv[4]), log_level="warning", access_log=False, loop="asyncio")
+uvicorn.run(
+    app, host=sys.argv[3], port=int(sys.argv[4]),
+    log_level="warning", access_log=False, loop="asyncio",
+)
 """
 BARE_SERVER = """
 import sys
@@ -61,25 +72,32 @@ class Row(pydantic.BaseModel):
     key: str
     input: dict
 app = fastapi.FastAPI()
-pool = psycopg_pool.AsyncConnectionPool(sys.argv[1], min_size=4, max_size=16, open=False, kwargs={"autocommit": True})
+pool = psycopg_pool.AsyncConnectionPool(
+    sys.argv[1], min_size=4, max_size=16, open=False, kwargs={"autocommit": True}
+)
 @app.on_event("startup")
 async def up():
     await pool.open(wait=True)
-    async with pool.connection() as link: await link.execute("CREATE TABLE rows(key text PRIMARY KEY, input text)")
+    async with pool.connection() as link:
+        await link.execute("CREATE TABLE rows(key text PRIMARY KEY, input text)")
 @app.post("/row", status_code=201)
 async def one(row: Row):
-    async with pool.connection() as link: await link.execute("INSERT INTO rows VALUES(%s, %s)", (row.key, str(row.input)))
+    async with pool.connection() as link:
+        await link.execute("INSERT INTO rows VALUES(%s, %s)", (row.key, str(row.input)))
     return {"key": row.key}
-uvicorn.run(app, host=sys.argv[3], port=int(sys.argv[4]), log_level="warning", access_log=False, loop="asyncio")
+uvicorn.run(
+    app, host=sys.argv[3], port=int(sys.argv[4]),
+    log_level="warning", access_log=False, loop="asyncio",
+)
 """
 Done = tuple[int, float]
-"""How many, in how many seconds."""
+"""A number of requests, and their seconds."""
 Figure = tuple[float, float]
-"""How many a second, and microseconds of the processor for each."""
+"""Requests a second, and microseconds of the processor for each."""
 
 
 class Client:
-    """One connection that is kept."""
+    """A persistent connection."""
 
     def __init__(self, address: str) -> None:
         self.host, _, port = address.rpartition(":")
@@ -90,7 +108,10 @@ class Client:
 
     async def ask(self, method: str, path: str, body: Any = None) -> tuple[int, bytes]:
         data = b"" if body is None else json.dumps(body).encode()
-        head = f"{method} {path} HTTP/1.1\r\nHost: 127.0.0.1\r\nContent-Type: application/json\r\nContent-Length: {len(data)}\r\n\r\n"
+        head = (
+            f"{method} {path} HTTP/1.1\r\nHost: 127.0.0.1\r\nContent-Type: application/json\r\n"
+            f"Content-Length: {len(data)}\r\n\r\n"
+        )
         self.writer.write(head.encode() + data)
         lines = (await self.reader.readuntil(b"\r\n\r\n")).lower()
         size = int(lines.split(b"content-length: ")[1].split(b"\r\n")[0])
@@ -98,17 +119,18 @@ class Client:
 
 
 async def clients(addresses: str, count: int) -> list[Client]:
-    """So many, divided among the addresses."""
-    found = [Client(addresses.split()[number % len(addresses.split())]) for number in range(count)]
-    for one in found:
-        await one.open()
-    return found
+    """Return `count` open clients, divided among the addresses."""
+    urls = addresses.split()
+    opened = [Client(urls[number % len(urls)]) for number in range(count)]
+    for client in opened:
+        await client.open()
+    return opened
 
 
 async def starts(
     address: str, path: str, count: int, together: int, body: Callable[[int], Any]
 ) -> Done:
-    """So many requests, of so many clients."""
+    """Send `count` requests, with `together` clients."""
     left = iter(range(count))
 
     async def work(client: Client) -> None:
@@ -122,8 +144,8 @@ async def starts(
     return count, time.perf_counter() - began
 
 
-async def tasks(address: str, count: int, together: int, most: int) -> Done:
-    """So many tasks at least, taken and reported."""
+async def tasks(address: str, count: int, together: int, limit: int) -> Done:
+    """Claim and report at least `count` tasks, up to `limit` in a claim."""
     done = 0
 
     async def work(client: Client) -> None:
@@ -132,7 +154,7 @@ async def tasks(address: str, count: int, together: int, most: int) -> Done:
             _, text = await client.ask(
                 "POST",
                 "/v1/tasks/claim",
-                {"steps": ["one/a"], "limit": most, "wait": 1, "lease": 600},
+                {"steps": ["one/a"], "limit": limit, "wait": 1, "lease": 600},
             )
             for task in json.loads(text)["tasks"]:
                 status, text = await client.ask(
@@ -149,20 +171,20 @@ async def tasks(address: str, count: int, together: int, most: int) -> Done:
     return done, time.perf_counter() - began
 
 
-async def chained(address: str, count: int, together: int, most: int) -> Done:
-    """The same, where the report of the last task in hand takes so many."""
+async def chained(address: str, count: int, together: int, limit: int) -> Done:
+    """Claim and report tasks: the report of the last task of a claim is the next claim."""
     done = 0
-    wanted = {"steps": ["one/a"], "lease": 600, "limit": most}
+    claim = {"steps": ["one/a"], "lease": 600, "limit": limit}
 
     async def work(client: Client) -> None:
         nonlocal done
         tasks: list[Any] = []
         while done < count or tasks:
             if not tasks:
-                _, text = await client.ask("POST", "/v1/tasks/claim", {**wanted, "wait": 1})
+                _, text = await client.ask("POST", "/v1/tasks/claim", {**claim, "wait": 1})
             else:
                 task = tasks.pop(0)
-                more = {} if tasks or done + 1 >= count else {"next": wanted}
+                more = {} if tasks or done + 1 >= count else {"next": claim}
                 status, text = await client.ask(
                     "POST",
                     f"/v1/tasks/{task['attempt_id']}/complete",
@@ -170,8 +192,8 @@ async def chained(address: str, count: int, together: int, most: int) -> Done:
                 )
                 assert status == 200, text
                 done += 1
-            told = json.loads(text)
-            tasks += (told.get("next") or told).get("tasks", [])
+            reply = json.loads(text)
+            tasks += (reply.get("next") or reply).get("tasks", [])
 
     some = await clients(address, together)
     began = time.perf_counter()
@@ -180,7 +202,7 @@ async def chained(address: str, count: int, together: int, most: int) -> Done:
 
 
 async def page(address: str) -> float:
-    """Milliseconds of the list's first page, the middle of twenty."""
+    """Return the median milliseconds of the list's first page, over twenty requests."""
     (client,) = await clients(address, 1)
     times = []
     for path in ["/ui/sagas"] * 20:
@@ -192,7 +214,7 @@ async def page(address: str) -> float:
 
 
 def processor(pids: list[int]) -> float:
-    """Seconds that the processor has worked for these processes."""
+    """Return the processor time of some processes in seconds."""
     parts = [
         pathlib.Path(f"/proc/{pid}/stat").read_text().rpartition(")")[2].split() for pid in pids
     ]
@@ -200,7 +222,7 @@ def processor(pids: list[int]) -> float:
 
 
 def measured(pids: list[int], work: Coroutine[Any, Any, Done]) -> Figure:
-    """What is done a second, and the processor's time of these processes for each."""
+    """Return the requests a second, and the processor time of the processes for each."""
     before = processor(pids)
     done, seconds = asyncio.run(work)
     return done / seconds, 1e6 * (processor(pids) - before) / done
@@ -209,12 +231,12 @@ def measured(pids: list[int], work: Coroutine[Any, Any, Done]) -> Figure:
 def bare(
     folder: pathlib.Path, manner: str, count: int, together: int, server: Server | None
 ) -> Figure:
-    """The bare route."""
+    """Measure the bare route."""
     (folder / "bare.py").write_text(BARE_SERVER if server else BARE)
     address = f"{host()}:8099"
-    place = server.create() if server else str(folder / f"{manner}.db")
+    database = server.create() if server else str(folder / f"{manner}.db")
     process = subprocess.Popen(
-        [sys.executable, str(folder / "bare.py"), place, manner, *address.split(":")]
+        [sys.executable, str(folder / "bare.py"), database, manner, *address.split(":")]
     )
     try:
         while True:
@@ -241,22 +263,22 @@ def bare(
 def turn(
     folder: pathlib.Path, count: int, together: int, server: Server | None, services: int
 ) -> dict[str, Figure]:
-    """All figures once."""
-    found = {
+    """Measure everything once."""
+    figures = {
         f"bare, {manner}": bare(folder, manner, count, together, server)
         for manner in (("async",) if server else ("async", "plain"))
     }
     url = server.create() if server else None
     with contextlib.ExitStack() as stack:
-        some = []
+        running = []
         for number in range(services):
             (folder / str(number)).mkdir()
             more = ("--node", str(number)) if url else ()
-            some.append(
+            running.append(
                 stack.enter_context(
                     served(
                         folder / str(number),
-                        {"one.toml": ONE},
+                        {"one.toml": DEFINITION},
                         "--log-level",
                         "error",
                         "--rate",
@@ -266,13 +288,12 @@ def turn(
                     )
                 )
             )
-        all_of_them, pids = " ".join(one.address for one in some), [
-            one.process.pid for one in some if one.process
-        ]
+        addresses = " ".join(service.address for service in running)
+        pids = [service.process.pid for service in running if service.process]
 
         def begin(name: str, count: int) -> Coroutine[Any, Any, Done]:
             return starts(
-                all_of_them,
+                addresses,
                 "/v1/sagas",
                 count,
                 together,
@@ -283,7 +304,7 @@ def turn(
                 },
             )
 
-        found["POST /v1/sagas"] = measured(pids, begin("k", count))
+        figures["POST /v1/sagas"] = measured(pids, begin("k", count))
         manners: dict[
             str, tuple[Callable[[str, int, int, int], Coroutine[Any, Any, Done]], int]
         ] = {
@@ -292,17 +313,16 @@ def turn(
             "ten at a time": (tasks, 10),
             "as sagas.Worker takes short ones": (chained, 10),
         }
-        for name, (work, most) in manners.items():
-            asyncio.run(
-                begin(name, count // 2 + 2 * most * together)
-            )  # so that there is enough until the last is reported
-            found[f"tasks, {name}"] = measured(pids, work(all_of_them, count // 2, together, most))
-    return found
+        for name, (work, limit) in manners.items():
+            # There are enough sagas for the claims before the last report.
+            asyncio.run(begin(name, count // 2 + 2 * limit * together))
+            figures[f"tasks, {name}"] = measured(pids, work(addresses, count // 2, together, limit))
+    return figures
 
 
 def listed(folder: pathlib.Path) -> float:
-    """The list over 100,000 sagas, in milliseconds."""
-    service = Served(folder, {"one.toml": ONE})
+    """Return the milliseconds of the list over 100,000 sagas."""
+    service = Served(folder, {"one.toml": DEFINITION})
     service.start()
     asyncio.run(
         starts(
@@ -323,7 +343,7 @@ def listed(folder: pathlib.Path) -> float:
 
 
 def main() -> None:
-    """The command."""
+    """Run the command."""
     parser = argparse.ArgumentParser(
         description=__doc__, formatter_class=argparse.RawDescriptionHelpFormatter
     )
@@ -332,32 +352,33 @@ def main() -> None:
     parser.add_argument("--turns", type=int, default=3)
     parser.add_argument("--count", type=int, default=4000)
     parser.add_argument("--clients", type=int, default=50)
-    words = parser.parse_args()
+    options = parser.parse_args()
     assert environment()
     turns = []
     with contextlib.ExitStack() as stack:
         server = (
-            stack.enter_context(serving({"fsync": "on"})) if words.store == "postgresql" else None
+            stack.enter_context(serving({"fsync": "on"})) if options.store == "postgresql" else None
         )
-        for _ in range(words.turns):
+        for _ in range(options.turns):
             with tempfile.TemporaryDirectory() as name:
                 turns.append(
                     turn(
                         pathlib.Path(name),
-                        words.count,
-                        words.clients,
+                        options.count,
+                        options.clients,
                         server,
-                        words.services if server else 1,
+                        options.services if server else 1,
                     )
                 )
     middle = {
-        name: [statistics.median(values) for values in zip(*(one[name] for one in turns))]
+        name: [statistics.median(values) for values in zip(*(figures[name] for figures in turns))]
         for name in turns[0]
     }
     base = max(rate for name, (rate, _) in middle.items() if name.startswith("bare"))
     for name, (rate, time_each) in middle.items():
         print(
-            f"{name:39} {rate:8.0f} a second  {rate / base:5.2f}  {time_each:6.0f} us of the processor"
+            f"{name:39} {rate:8.0f} a second  {rate / base:5.2f}  "
+            f"{time_each:6.0f} us of the processor"
         )
     if server is None:
         with tempfile.TemporaryDirectory() as name:

@@ -1,5 +1,7 @@
-"""Measure what a definition of its own costs: sagas whose steps come from their input, each with
-another definition, compared with fixed sagas of as many steps.
+"""Measure the cost of a definition for each saga.
+
+The steps of such sagas come from their input, so that each saga has another definition. They are
+compared with fixed sagas of as many steps.
 
     PYTHONPATH=python/src /usr/bin/python3 bench/shapes.py [--turns N] [--at 64] [--sagas N]
         [--definitions 64,128] [--store sqlite|postgresql]
@@ -35,14 +37,14 @@ import sagas  # noqa: E402
 from sagas.core import shard_definitions  # noqa: E402
 from sagas.runtime import shard_parts  # noqa: E402
 
-FIXED, OWN = "fixed", "a definition of its own"
-MOST_ITEMS = 5
+FIXED, FROM_INPUT = "fixed", "a definition of its own"
+MAX_ITEMS = 5
 WARM = 10
-"""Sagas that run before those that are timed."""
+"""The number of sagas that run before the timed ones."""
 
 
 class Turn(NamedTuple):
-    """What a run took.
+    """The figures of a run.
 
     Attributes:
         rate: Sagas a second.
@@ -56,16 +58,16 @@ class Turn(NamedTuple):
 
 
 class Engines:
-    """Counts the engines that are started."""
+    """The number of engines that were started."""
 
     started = 0
 
     class Counted(shard_parts.EngineProcess):
-        """One of them."""
+        """An engine that is counted."""
 
-        def __init__(self, *words: Any) -> None:
+        def __init__(self, *arguments: Any) -> None:
             Engines.started += 1
-            super().__init__(*words)
+            super().__init__(*arguments)
 
 
 async def nothing(task: sagas.Task[Any]) -> None:
@@ -83,30 +85,36 @@ def fixed(items: int) -> sagas.Saga:
     return saga
 
 
-def own() -> sagas.Saga:
+def from_input() -> sagas.Saga:
     """Make the same saga, whose input has the items and the cost of the last step."""
     saga = sagas.Saga("own")
     first = saga.step(name="first", undo=0)(nothing)
     item = saga.step(name="item", for_each="items", needs=[first], undo=0)(nothing)
-    saga.step(name="last", needs=[item], undo=0, skip=lambda given: given["number"])(nothing)
+    saga.step(name="last", needs=[item], undo=0, skip=lambda saga_input: saga_input["number"])(
+        nothing
+    )
     return saga
 
 
 def kinds(way: str) -> list[sagas.Saga]:
-    """The sagas of a way, by the number of items less one."""
-    return [own()] * MOST_ITEMS if way == OWN else [fixed(1 + items) for items in range(MOST_ITEMS)]
+    """Return the sagas of a way, by the number of items less one."""
+    return (
+        [from_input()] * MAX_ITEMS
+        if way == FROM_INPUT
+        else [fixed(1 + items) for items in range(MAX_ITEMS)]
+    )
 
 
-async def turn(place: str, way: str, at: int, count: int) -> Turn:
+async def turn(location: str, way: str, at: int, count: int) -> Turn:
     """Run `count` sagas from start to end, `at` at once."""
     of = kinds(way)
-    async with sagas.open(place, [*dict.fromkeys(of)], concurrency=max(16, at)) as store:
+    async with sagas.open(location, [*dict.fromkeys(of)], concurrency=max(16, at)) as store:
 
         async def lane(numbers: Iterator[int]) -> None:
             for number in numbers:
-                items = number % MOST_ITEMS
-                given = {"items": [0] * (1 + items), "number": number}
-                assert (await (await store.start(of[items], f"k{number}", given)).wait()).ok
+                items = number % MAX_ITEMS
+                saga_input = {"items": [0] * (1 + items), "number": number}
+                assert (await (await store.start(of[items], f"k{number}", saga_input)).wait()).ok
 
         numbers = iter(range(WARM + count))
         await asyncio.gather(*(lane(iter([next(numbers)])) for _ in range(WARM)))
@@ -118,7 +126,7 @@ async def turn(place: str, way: str, at: int, count: int) -> Turn:
 
 @contextlib.contextmanager
 def empty(server: Server | None) -> Iterator[str]:
-    """An empty store: a file, or a database."""
+    """Yield an empty store: a file, or a database."""
     if server is None:
         with tempfile.TemporaryDirectory(prefix="sagas-bench-") as folder:
             yield f"{folder}/sagas.db"
@@ -128,40 +136,44 @@ def empty(server: Server | None) -> Iterator[str]:
         server.drop(url)
 
 
-def measure(server: Server | None, words: argparse.Namespace) -> None:
-    """Both ways over one kind of store, for each number of definitions."""
+def measure(server: Server | None, options: argparse.Namespace) -> None:
+    """Measure both ways over one kind of store, for each number of definitions."""
     name = "SQLite" if server is None else "PostgreSQL"
-    for most in map(int, words.definitions.split(",")):
-        shard_definitions.MOST_ADDED = most
-        found: dict[str, list[Turn]] = {FIXED: [], OWN: []}
-        for number in range(words.turns):
-            for way in (FIXED, OWN) if number % 2 == 0 else (OWN, FIXED):
-                with empty(server) as place:
-                    found[way].append(asyncio.run(turn(place, way, words.at, words.sagas)))
-        where = f"{words.at} open; {name}; up to {most} definitions a shard"
-        for way, turns in found.items():
-            row(f"{way},{where}", [one.rate for one in turns], "sagas a second", 0)
-        rates = [one.rate / other.rate for one, other in zip(found[OWN], found[FIXED])]
-        row(f"own compared with fixed,{where}", rates, "times", 2)
-        for way, turns in found.items():
+    for limit in map(int, options.definitions.split(",")):
+        shard_definitions.MOST_ADDED = limit
+        turns_by_way: dict[str, list[Turn]] = {FIXED: [], FROM_INPUT: []}
+        for number in range(options.turns):
+            for way in (FIXED, FROM_INPUT) if number % 2 == 0 else (FROM_INPUT, FIXED):
+                with empty(server) as location:
+                    turns_by_way[way].append(
+                        asyncio.run(turn(location, way, options.at, options.sagas))
+                    )
+        condition = f"{options.at} open; {name}; up to {limit} definitions a shard"
+        for way, turns in turns_by_way.items():
+            row(f"{way},{condition}", [turn.rate for turn in turns], "sagas a second", 0)
+        pairs = zip(turns_by_way[FROM_INPUT], turns_by_way[FIXED])
+        rates = [shaped.rate / fixed.rate for shaped, fixed in pairs]
+        row(f"own compared with fixed,{condition}", rates, "times", 2)
+        for way, turns in turns_by_way.items():
             row(
-                f"processor time of Python: {way},{where}",
-                [one.cpu for one in turns],
+                f"processor time of Python: {way},{condition}",
+                [turn.cpu for turn in turns],
                 "us a saga",
                 0,
             )
-        for way, turns in found.items():
-            row(f"engines: {way},{where}", [one.engines for one in turns], "a thousand sagas", 1)
+        for way, turns in turns_by_way.items():
+            engines = [turn.engines for turn in turns]
+            row(f"engines: {way},{condition}", engines, "a thousand sagas", 1)
 
 
-def row(what: str, values: list[float], unit: str, digits: int) -> None:
-    """Prints a row: the median, the lowest and the highest value."""
+def row(label: str, values: list[float], unit: str, digits: int) -> None:
+    """Print a row: the median, the lowest and the highest value."""
     cells = (statistics.median(values), min(values), max(values))
-    print(",".join([what, *(f"{one:.{digits}f}" for one in cells), unit]), flush=True)
+    print(",".join([label, *(f"{cell:.{digits}f}" for cell in cells), unit]), flush=True)
 
 
 def main() -> None:
-    """The command."""
+    """Run the command."""
     parser = argparse.ArgumentParser(
         description=__doc__, formatter_class=argparse.RawDescriptionHelpFormatter
     )
@@ -170,15 +182,15 @@ def main() -> None:
     parser.add_argument("--sagas", type=int, default=600, help="of a turn")
     parser.add_argument("--definitions", default=str(shard_definitions.MOST_ADDED))
     parser.add_argument("--store", choices=["sqlite", "postgresql"], action="append")
-    words = parser.parse_args()
+    options = parser.parse_args()
     shard_parts.EngineProcess = Engines.Counted  # type: ignore[misc]
     print("measurement,condition,median,low,high,unit")
-    stores = words.store or ["sqlite", "postgresql"]
+    stores = options.store or ["sqlite", "postgresql"]
     if "sqlite" in stores:
-        measure(None, words)
+        measure(None, options)
     if "postgresql" in stores:
         with serving() as server:
-            measure(server, words)
+            measure(server, options)
 
 
 if __name__ == "__main__":

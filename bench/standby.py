@@ -1,14 +1,14 @@
 #!/usr/bin/env python3
-"""Times clients' starts behind a synchronous standby that answers late.
+"""Time clients' starts with a synchronous standby that applies commits late.
 
     PYTHONPATH=python/src:python/tests /usr/bin/python3 bench/standby.py
         [--delay MS] [--at 1,4,16] [--seconds S] [--turns N]
 
-A server and its standby run on this machine. Commits wait until the standby has applied them, and
-it does that after the delay. No node runs. Beside `Client.start` stand rows by hand, of as many
-connections: rows alone, and rows whose transaction also notifies. PostgreSQL commits the latter one
-behind the other, over the whole server. A unit is rows a second: the median, the lowest and highest
-turn.
+A server and its standby run on this machine. Commits wait until the standby has applied them, which
+happens after the delay. No node runs. The script compares `Client.start` with inserts by hand over
+as many connections: rows alone, and rows whose transaction also notifies. PostgreSQL commits the
+latter one after another, over the whole server. The values are rows a second: the median, the
+lowest and the highest turn.
 """
 
 from __future__ import annotations
@@ -30,18 +30,18 @@ ROW = "INSERT INTO public.starts VALUES(%s, %s)"
 NOTIFY = "SELECT pg_notify('bench', 'starts')"
 INPUT = "x" * 200
 Write = Callable[[int, str], Awaitable[object]]
-"""A row of one of the connections, with a key."""
+"""A function that writes a row with a key over one of the connections."""
 
 
 def kind() -> sagas.Saga:
-    """A saga that no node has."""
+    """Return a saga for which no node runs."""
     saga = sagas.Saga("bench")
     saga.step(lambda task: None, name="a")
     return saga
 
 
 def prepare(pair: Pair, delay: float) -> str:
-    """A database with the tables, whose commits wait for the late standby."""
+    """Create a database whose commits wait for the late standby, and return its URL."""
     url = pair.primary.create()
     name = sql.Identifier(url.rpartition("/")[2])
     with sagas.open_sync(url, [kind()]):
@@ -58,7 +58,7 @@ def prepare(pair: Pair, delay: float) -> str:
 
 
 async def rate(write: Write, count: int, seconds: float) -> float:
-    """Rows a second of so many writers."""
+    """Return the rows a second of `count` writers."""
     until, tag, done = time.perf_counter() + seconds, secrets.token_hex(4), 0
 
     async def go(number: int) -> None:
@@ -73,7 +73,7 @@ async def rate(write: Write, count: int, seconds: float) -> float:
 
 
 async def turn(url: str, count: int, seconds: float) -> Iterator[tuple[str, float]]:
-    """The rates of all ways, with so many connections."""
+    """Return the rates of all ways with `count` connections."""
     saga, rates = kind(), list[tuple[str, float]]()
     async with sagas.Client(url, connections=count) as client:
         start: Write = lambda number, key: client.start(saga, key, INPUT)
@@ -94,6 +94,7 @@ async def turn(url: str, count: int, seconds: float) -> Iterator[tuple[str, floa
 
 
 def main() -> None:
+    """Run the command."""
     parser = argparse.ArgumentParser(
         description=__doc__, formatter_class=argparse.RawTextHelpFormatter
     )
@@ -115,10 +116,8 @@ def main() -> None:
                     f"{value:.0f}"
                     for value in (statistics.median(values), min(values), max(values))
                 ]
-                print(
-                    f"{name},{options.delay:g} ms away; {count} connections,{','.join(cells)},a second",
-                    flush=True,
-                )
+                condition = f"{options.delay:g} ms away; {count} connections"
+                print(f"{name},{condition},{','.join(cells)},a second", flush=True)
 
 
 if __name__ == "__main__":

@@ -1,8 +1,9 @@
 #!/usr/bin/env python3
-"""How long a start by `./sagas` takes, beside the program that it starts.
+"""Compare a start by `./sagas` with a start of the program itself.
 
-`sagas check` judges the answer of examples/licence, by the program itself, by `./sagas` once it has chosen the program, and by `./sagas`
-where it has to choose anew. Prints the time of each at best of many runs, in turns, its ratio to the program's, and how much it adds.
+`sagas check` verifies the answer of examples/licence in three ways: by the program itself, by
+`./sagas` after it has chosen the program, and by `./sagas` before that. The ways take turns. The
+script prints the best time of each, its ratio to that of the program, and the difference.
 """
 
 from __future__ import annotations
@@ -19,9 +20,9 @@ EXAMPLE = [
 STAMP = ROOT / "out" / "start"
 
 
-def seconds(program: Path, anew: bool) -> float:
-    """How long one run takes, where the choice is kept or is made anew."""
-    if anew:
+def seconds(program: Path, must_choose: bool) -> float:
+    """Return the seconds of one run, with the stored choice or without it."""
+    if must_choose:
         STAMP.unlink(missing_ok=True)
     began = time.perf_counter()
     subprocess.run([program, "check", *EXAMPLE], stdout=subprocess.DEVNULL, check=True)
@@ -29,11 +30,11 @@ def seconds(program: Path, anew: bool) -> float:
 
 
 def main() -> None:
-    """Runs all in turns, and prints a line each."""
+    """Run all ways in turns, and print a line for each."""
     parser = argparse.ArgumentParser(
         description=__doc__, formatter_class=argparse.RawDescriptionHelpFormatter
     )
-    parser.add_argument("--turns", type=int, default=100, help="how often each is run")
+    parser.add_argument("--turns", type=int, default=100, help="the number of runs of each way")
     turns = parser.parse_args().turns
     chosen = subprocess.run(
         [ROOT / "tests" / "program"], check=True, capture_output=True, text=True
@@ -41,18 +42,17 @@ def main() -> None:
     ways = {
         "the program": (Path(chosen), False),
         "./sagas": (ROOT / "sagas", False),
-        "./sagas, anew": (ROOT / "sagas", True),
+        "./sagas, first start": (ROOT / "sagas", True),
     }
     best = dict.fromkeys(ways, float("inf"))
     for _ in range(turns):
-        # (the choice made anew comes last, so that it is kept for the next turn)
-        for name, (program, anew) in ways.items():
-            best[name] = min(best[name], seconds(program, anew))
+        # The start that chooses comes last, so that its choice is stored for the next turn.
+        for name, (program, must_choose) in ways.items():
+            best[name] = min(best[name], seconds(program, must_choose))
     least = best["the program"]
     for name, took in best.items():
-        print(
-            f"{name}: {took * 1e3:.1f} ms, ratio {took / least:.1f}, {(took - least) * 1e3:.1f} ms more"
-        )
+        more = (took - least) * 1e3
+        print(f"{name}: {took * 1e3:.1f} ms, ratio {took / least:.1f}, {more:.1f} ms more")
 
 
 if __name__ == "__main__":

@@ -77,7 +77,7 @@ def on_files(files: Files, config: Any, **_: Any) -> Files:
     """Keep the files of the site, and add the pages at the top of the repository."""
     pages = config["docs_dir"]
     kept = [
-        one for one in files if not is_below(one.abs_src_path, pages) or is_of_site(one.src_uri)
+        file for file in files if not is_below(file.abs_src_path, pages) or is_of_site(file.src_uri)
     ]
     place, is_folder = config["site_dir"], config["use_directory_urls"]
     kept += [File(name, str(TOP), place, is_folder) for name in TOP_PAGES]

@@ -1,12 +1,11 @@
-"""Gives a module of WebAssembly with a memory of 64 bits one of 32 bits, which every engine has.
+"""Change the memory of a WebAssembly module from 64 bits to 32 bits, which every engine has.
 
-Pointers stay numbers of 64 bits, in memory and in calls; only where the memory is touched is an
-address cut to the 32 bits that it has. None has more: the memory is at most 4 GiB, and a growth
-beyond it is refused. So these parts change, and else no instruction: the limits of memory and
-table, where the data lies, and before each access the address, with the value beside it put
-aside where it is in the way.
+Pointers remain numbers of 64 bits, in memory and in calls. Only an access to the memory cuts its
+address to 32 bits. No address has more bits: the memory has at most 4 GiB, and a growth beyond that
+is refused. So only these parts change: the limits of memory and table, the addresses of the data,
+and the address before each access. A value above the address on the stack is saved in a local.
 
-It stops where the module has anything that it does not know.
+The program stops if it does not know a part of the module.
 """
 
 from __future__ import annotations
@@ -54,8 +53,7 @@ CALL_INDIRECT, MEMORY_SIZE, MEMORY_GROW, BULK, MEMORY_COPY, MEMORY_FILL = (
     11,
 )
 
-# The instructions that one number follows, those that nothing follows, and those that push one
-# value and take none.
+# The instructions with one number, those without one, and those that push one value and pop none.
 BLOCKS = (0x02, 0x03, 0x04)
 WITH_NUMBER = (*BLOCKS, 0x0C, 0x0D, 0x10, 0x20, 0x21, 0x22, 0x23, 0x24, I32_CONST, I64_CONST)
 PLAIN = (0x00, 0x01, 0x05, 0x0B, 0x0F, 0x1A, 0x1B, *range(0x45, 0xC5))
@@ -63,22 +61,22 @@ PUSHES = (0x20, 0x23, I32_CONST, I64_CONST, 0x43, 0x44)
 
 
 class Unknown(Exception):
-    """The module has what is not known here."""
+    """The module has a part that this program does not know."""
 
 
 def number(data: bytes, at: int) -> tuple[int, int]:
-    """An unsigned number, and where it ends."""
-    found = shift = 0
+    """Return an unsigned number, and the offset of its end."""
+    value = shift = 0
     while True:
         byte = data[at]
-        found |= (byte & 0x7F) << shift
+        value |= (byte & 0x7F) << shift
         at, shift = at + 1, shift + 7
         if byte < 0x80:
-            return found, at
+            return value, at
 
 
 def written(value: int) -> bytes:
-    """An unsigned number as bytes."""
+    """Return an unsigned number as bytes."""
     out = bytearray()
     while value > 0x7F:
         out.append(value & 0x7F | 0x80)
@@ -87,7 +85,7 @@ def written(value: int) -> bytes:
 
 
 def after(data: bytes, at: int, count: int = 1) -> int:
-    """Where so many numbers end, of either sign."""
+    """Return the offset of the end of `count` numbers, signed or not."""
     for _ in range(count):
         while data[at] & 0x80:
             at += 1
@@ -96,7 +94,7 @@ def after(data: bytes, at: int, count: int = 1) -> int:
 
 
 def end_of(data: bytes, at: int) -> int:
-    """Where the instruction ends that begins here."""
+    """Return the offset of the end of the instruction at `at`."""
     code = data[at]
     at += 1
     if code in PLAIN:
@@ -123,8 +121,10 @@ def end_of(data: bytes, at: int) -> int:
 
 
 def access(code: bytes) -> bytes:
-    """A load or a store whose offset takes no more bytes than it has to: the linker writes one
-    of 64 bits."""
+    """Return a load or a store with the shortest form of its offset.
+
+    The linker writes an offset of 64 bits.
+    """
     align, at = number(code, 1)
     offset, _ = number(code, at)
     if align > 4 or offset >> 32:
@@ -134,21 +134,27 @@ def access(code: bytes) -> bytes:
 
 @dataclass
 class Body:
-    """The code of a function, as it is made anew, and the locals that hold what is put aside."""
+    """The new code of a function, and the types of the locals that hold saved values."""
 
     first: int
     out: bytearray = field(default_factory=bytearray)
-    aside: list[int] = field(default_factory=list)
+    saved: list[int] = field(default_factory=list)
 
-    def local(self, kind: int, place: int = 0) -> bytes:
-        """The number of a local of this type, the first of them or a later one."""
-        while self.aside.count(kind) <= place:
-            self.aside.append(kind)
-        return written(self.first + [at for at, it in enumerate(self.aside) if it == kind][place])
+    def local(self, kind: int, position: int = 0) -> bytes:
+        """Return the number of the local at a position among those of a type."""
+        while self.saved.count(kind) <= position:
+            self.saved.append(kind)
+        numbers = [number for number, other in enumerate(self.saved) if other == kind]
+        return written(self.first + numbers[position])
 
     def add(self, code: bytes, before: int) -> None:
-        """Adds an instruction. `before`: where the one before begins in what is made, if that
-        pushes a value and takes none; else -1."""
+        """Add an instruction.
+
+        Args:
+            code: The bytes of the instruction.
+            before: The offset of the previous instruction in the new code, if that one pushes a
+                value and pops none; else -1.
+        """
         kind = code[0]
         if kind in LOADS or kind in STORES:
             code = access(code)
@@ -170,7 +176,7 @@ class Body:
             self.out += code
 
     def add_bulk(self, code: bytes) -> None:
-        """Adds a copy or a filling: an address, then an address or a byte, then a length."""
+        """Add a copy or a fill: an address, then an address or a byte, then a length."""
         is_copy = code[1] == MEMORY_COPY
         second = self.local(I64 if is_copy else I32, 1)
         self.out += WRAP + b"\x21" + self.local(I32) + b"\x21" + second + WRAP + b"\x20" + second
@@ -178,27 +184,25 @@ class Body:
 
 
 def narrowed_code(code: bytes, parameters: int) -> bytes:
-    """The code of a function that has so many parameters."""
+    """Return the code of a function with this number of parameters."""
     groups, at = number(code, 0)
     start, locals_before = at, 0
     for _ in range(groups):
         count, at = number(code, at)
         locals_before, at = locals_before + count, at + 1
-    body, told, before = Body(parameters + locals_before), code[start:at], -1
+    body, types, before = Body(parameters + locals_before), code[start:at], -1
     while at < len(code):
         end = end_of(code, at)
-        place = len(body.out)
+        begin = len(body.out)
         body.add(code[at:end], before)
-        before = place if code[at] in PUSHES else -1
+        before = begin if code[at] in PUSHES else -1
         at = end
-    told = (
-        written(groups + len(body.aside)) + told + b"".join(bytes([1, kind]) for kind in body.aside)
-    )
-    return told + bytes(body.out)
+    added = b"".join(bytes([1, kind]) for kind in body.saved)
+    return written(groups + len(body.saved)) + types + added + bytes(body.out)
 
 
 def sections(module: bytes) -> Iterator[tuple[int, bytes]]:
-    """The sections of a module: their kinds and contents."""
+    """Yield the sections of a module: their kinds and contents."""
     if module[:8] != b"\0asm\1\0\0\0":
         raise Unknown("not a module")
     at = 8
@@ -210,21 +214,21 @@ def sections(module: bytes) -> Iterator[tuple[int, bytes]]:
 
 
 def parameters_of(types: bytes) -> list[int]:
-    """How many parameters each type of a function has."""
+    """Return the number of parameters of each function type."""
     count, at = number(types, 0)
-    found = []
+    counts = []
     for _ in range(count):
         if types[at] != 0x60:
-            raise Unknown("a type that is no function's")
-        given, at = number(types, at + 1)
-        found.append(given)
-        results, at = number(types, at + given)
+            raise Unknown("a type that is not of a function")
+        parameters, at = number(types, at + 1)
+        counts.append(parameters)
+        results, at = number(types, at + parameters)
         at += results
-    return found
+    return counts
 
 
 def functions_of(section: bytes, counts: list[int]) -> Iterator[int]:
-    """How many parameters each function has."""
+    """Yield the number of parameters of each function."""
     count, at = number(section, 0)
     for _ in range(count):
         kind, at = number(section, at)
@@ -232,31 +236,31 @@ def functions_of(section: bytes, counts: list[int]) -> Iterator[int]:
 
 
 def narrowed_codes(section: bytes, functions: list[int]) -> bytes:
-    """The section of code."""
+    """Return the section of code."""
     count, at = number(section, 0)
     out = bytearray(written(count))
-    for place in range(count):
+    for parameters in functions[:count]:
         size, at = number(section, at)
-        code = narrowed_code(section[at : at + size], functions[place])
+        code = narrowed_code(section[at : at + size], parameters)
         out += written(len(code)) + code
         at += size
     return bytes(out)
 
 
 def narrowed_limits(section: bytes, at: int) -> bytes:
-    """A section of one memory or one table, whose limits stand there."""
+    """Return a section of one memory or one table, whose limits are at `at`."""
     if section[0] != 1 or section[at] & ~(IS_64 | 1) or not section[at] & IS_64:
         raise Unknown("not one memory of 64 bits")
     return section[:at] + bytes([section[at] & ~IS_64]) + section[at + 1 :]
 
 
 def narrowed_data(section: bytes) -> bytes:
-    """The section of data: a part lies where a constant says."""
+    """Return the section of data. A constant is the address of each part."""
     count, at = number(section, 0)
     out = bytearray(section[:at])
     for _ in range(count):
         if section[at : at + 2] != bytes([0, I64_CONST]):
-            raise Unknown("data in a place that is no constant")
+            raise Unknown("data at an address that is not a constant")
         end = after(section, at + 2)
         size, start = number(section, end + 1)
         out += bytes([0, I32_CONST]) + section[at + 2 : start + size]
@@ -265,7 +269,7 @@ def narrowed_data(section: bytes) -> bytes:
 
 
 def exports(module: bytes) -> Iterator[str]:
-    """The names that a module exports."""
+    """Yield the names that a module exports."""
     for kind, section in sections(module):
         count, at = number(section, 0) if kind == EXPORT else (0, 0)
         for _ in range(count):
@@ -275,7 +279,7 @@ def exports(module: bytes) -> Iterator[str]:
 
 
 def narrowed(module: bytes) -> bytes:
-    """The module with a memory of 32 bits; its calls are given and give the same numbers."""
+    """Return the module with a memory of 32 bits. Its calls have the same types."""
     out, functions, counts = bytearray(module[:8]), list[int](), list[int]()
     try:
         for kind, section in sections(module):
@@ -294,7 +298,7 @@ def narrowed(module: bytes) -> bytes:
             elif kind == DATA:
                 section = narrowed_data(section)
             elif kind == CUSTOM and section[1 : 1 + section[0]] == b"target_features":
-                continue  # (it names the memory's 64 bits)
+                continue  # it names the 64 bits of the memory
             out += bytes([kind]) + written(len(section)) + section
     except Unknown as unknown:
         sys.exit(f"page: the module has what this script does not know, {unknown}")

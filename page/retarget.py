@@ -1,11 +1,12 @@
-"""Retargets an LLVM module from x86-64 to wasm64.
+"""Retarget an LLVM module from x86-64 to wasm64.
 
-Both have pointers of 64 bits, are little-endian, and give integers and floats the same sizes and alignments; and the module asks nothing of
-the processor but what LLVM's own language says, and one instruction of x86, which is written out. So these parts change, and else no line of
-a function's body: triple and data layout; the attributes that name a processor; that instruction; and the exports, each of which gets the
-guard that the kit's own modules for wasm64 have: a call into a module in which a call has trapped, or is still running, traps.
+Both have pointers of 64 bits, are little-endian, and have the same sizes and alignments of integers
+and floats. The module uses LLVM's own language and one instruction of x86, which is replaced by a
+function. So only these parts change: triple and data layout, the attributes that name a processor,
+that instruction, and the exports. Each export gets the guard that the kit's own modules for wasm64
+have: a call into a module in which a call has trapped, or still runs, traps.
 
-It stops where the module has anything that it does not know.
+The program stops if it does not know a part of the module.
 """
 
 from __future__ import annotations
@@ -17,25 +18,29 @@ LAYOUT = "e-m:e-p:64:64-p10:8:8-p20:8:8-i64:64-i128:128-n32:64-S128-ni:1:10:20"
 TRIPLE = "wasm64-unknown-unknown"
 PROCESSOR = '"target-cpu"="lime1"'
 
-# What heap.c defines, and what the kit's own helpers for wasm64 do.
+# The functions of heap.c, and the helpers that the kit has for wasm64.
 HEAP = {"rattle_alloc", "rattle_realloc", "rattle_dealloc"}
 HELPERS = {"__rattle_enter", "__rattle_leave", "__rattle_trap", "fmod", "fmodf"}
 
-# What the kit adds to a function of a module for wasm64, so that no call of a C library is made of a loop.
+# The kit adds this to each function for wasm64, so that no loop becomes a call of a C library.
 NO_LIBRARY = '"no-builtin-bcmp" "no-builtin-memcmp" "no-builtin-strlen" '
 
 # The intrinsics that mean the same on each target.
 GENERIC = set(
-    "memset memmove memcpy trap frameaddress ctlz cttz ctpop bswap bitreverse assume expect umul.with.overflow uadd.with.overflow usub.with.overflow "
-    "smul.with.overflow sadd.with.overflow ssub.with.overflow uadd.sat usub.sat sadd.sat ssub.sat umin umax smin smax abs fshl fshr lifetime.start "
-    "lifetime.end fptosi.sat fptoui.sat floor ceil trunc rint fabs copysign sqrt fma vector.reduce.and vector.reduce.or vector.reduce.add "
-    "vector.reduce.umax vector.reduce.umin round roundeven vector.reduce.xor experimental.noalias.scope.decl arithmetic.fence".split()
+    "memset memmove memcpy trap frameaddress ctlz cttz ctpop bswap bitreverse assume expect "
+    "umul.with.overflow uadd.with.overflow usub.with.overflow smul.with.overflow "
+    "sadd.with.overflow ssub.with.overflow uadd.sat usub.sat sadd.sat ssub.sat "
+    "umin umax smin smax abs fshl fshr lifetime.start lifetime.end fptosi.sat fptoui.sat "
+    "floor ceil trunc rint fabs copysign sqrt fma round roundeven "
+    "vector.reduce.and vector.reduce.or vector.reduce.xor vector.reduce.add vector.reduce.umax "
+    "vector.reduce.umin experimental.noalias.scope.decl arithmetic.fence".split()
 )
 
-# The one instruction of x86, PSHUFB of 16 bytes: a byte is 0 where its mask's top bit is set, and else the one that the mask's low four bits name.
+# The one instruction of x86, PSHUFB of 16 bytes. If the top bit of a mask is set, the byte is 0.
+# Else the low four bits of the mask are the index of the byte.
 SHUFFLE = "llvm.x86.ssse3.pshuf.b.128"
 
-# What has no meaning on wasm64, or another one.
+# The parts that have no meaning on wasm64, or another one.
 FOREIGN = (
     (r"\basm\b", "inline assembly"),
     (r"thread_local", "a thread's global"),
@@ -49,11 +54,11 @@ FOREIGN = (
 
 
 class Unknown(Exception):
-    """The module has what has no known meaning on wasm64."""
+    """The module has a part without a known meaning on wasm64."""
 
 
 def look(text: str) -> None:
-    """Stops at what has no meaning, or another one, on wasm64."""
+    """Raise `Unknown` if a part has no meaning, or another one, on wasm64."""
     for name in re.findall(r'(?m)^declare .*?@"?([\w.:]+)"?\(', text):
         if name.startswith("llvm.") and name != SHUFFLE:
             base = name.removeprefix("llvm.")
@@ -65,17 +70,17 @@ def look(text: str) -> None:
         if line.startswith("attributes"):
             continue
         code = re.sub(r'c?"[^"]*"', "", line.split(";")[0])
-        for pattern, what in FOREIGN:
+        for pattern, name in FOREIGN:
             if re.search(pattern, code):
-                raise Unknown(f"{what}: {line[:120]}")
+                raise Unknown(f"{name}: {line[:120]}")
 
 
 def shuffled(text: str) -> str:
-    """Writes out the one instruction of x86."""
-    found = re.search(
+    """Replace the one instruction of x86 by a function."""
+    declaration = re.search(
         rf"(?m)^declare <16 x i8> @{re.escape(SHUFFLE)}\(<16 x i8>, <16 x i8>\) #\d+\n", text
     )
-    if found is None:
+    if declaration is None:
         return text
     lines = [
         "define internal <16 x i8> @sagas.shuffle(<16 x i8> %bytes, <16 x i8> %mask) #898 {",
@@ -102,7 +107,7 @@ def shuffled(text: str) -> str:
             f"  %v{i} = insertelement <16 x i8> {last}, i8 %s{i}, i64 {i}",
         ]
         last = f"%v{i}"
-    text = text.replace(found[0], "\n".join([*lines, f"  ret <16 x i8> {last}", "}", ""]))
+    text = text.replace(declaration[0], "\n".join([*lines, f"  ret <16 x i8> {last}", "}", ""]))
     return (
         text.replace(f"@{SHUFFLE}(", "@sagas.shuffle(")
         + f"\nattributes #898 = {{ nounwind {NO_LIBRARY}{PROCESSOR} }}\n"
@@ -110,17 +115,17 @@ def shuffled(text: str) -> str:
 
 
 def guarded(text: str, name: str, group: int) -> str:
-    """Gives an export the kit's guard, with attributes of this number."""
+    """Add the kit's guard to an export, with attributes of this number."""
     head = re.search(rf"(?m)^define ([^\n]*?)@{name}\(([^\n]*)\) #(\d+) \{{$", text)
     if head is None:
         raise Unknown(f"the head of {name}")
-    kind, given, inner = head[1], head[2], head[3]
-    types = [word.strip().split(" ")[0] for word in given.split(",")]
+    kind, parameters, inner = head[1], head[2], head[3]
+    types = [parameter.strip().split(" ")[0] for parameter in parameters.split(",")]
     result = kind.split(" ")[-2]
     if result == "void":
-        raise Unknown(f"{name}, which gives nothing")
-    words = ", ".join(f"{kind_of} %a{i}" for i, kind_of in enumerate(types))
-    outer = f"""define {kind}@{name}({given}) #{group} {{
+        raise Unknown(f"{name}, which returns nothing")
+    arguments = ", ".join(f"{kind_of} %a{i}" for i, kind_of in enumerate(types))
+    outer = f"""define {kind}@{name}({parameters}) #{group} {{
 start:
   %r0 = call i1 @__rattle_enter()
   br i1 %r0, label %spent, label %run
@@ -130,7 +135,7 @@ spent:
   unreachable
 
 run:
-  %r1 = call {result} @"rattle::export {name}"({words})
+  %r1 = call {result} @"rattle::export {name}"({arguments})
   call void @__rattle_leave()
   ret {result} %r1
 }}
@@ -138,23 +143,19 @@ run:
     attributes = (
         f'attributes #{group} = {{ nounwind {NO_LIBRARY}"wasm-export-name"="{name}" {PROCESSOR} }}'
     )
-    return (
-        text.replace(
-            head[0], f'{outer}\ndefine internal {kind}@"rattle::export {name}"({given}) #{inner} {{'
-        )
-        + f"\n{attributes}\n"
-    )
+    inner_head = f'define internal {kind}@"rattle::export {name}"({parameters}) #{inner} {{'
+    return text.replace(head[0], f"{outer}\n{inner_head}") + f"\n{attributes}\n"
 
 
 def attributes(line: str) -> str:
-    """A line of attributes, for the other processor."""
+    """Return a line of attributes for wasm64."""
     line = re.sub(r' "(target-features|tune-cpu)"="[^"]*"', "", line)
     line = re.sub(r'"target-cpu"="[^"]*"', PROCESSOR, line)
     return line.replace(' "probe-stack"', f' {NO_LIBRARY}"probe-stack"')
 
 
 def without(text: str, left_out: frozenset[str]) -> str:
-    """The module without these exports."""
+    """Return the module without these exports."""
     for name in left_out:
         text, count = re.subn(
             rf"(?m)^define (?!internal|private)([^\n]*?@{name}\()", r"define internal \1", text
@@ -165,7 +166,7 @@ def without(text: str, left_out: frozenset[str]) -> str:
 
 
 def retargeted(text: str, left_out: frozenset[str] = frozenset()) -> str:
-    """The module for wasm64, whose exports are those of the one for x86-64, but for those that are left out."""
+    """Return the module for wasm64, without some of the exports."""
     try:
         look(text)
         text = without(text, left_out)
@@ -184,7 +185,7 @@ def retargeted(text: str, left_out: frozenset[str] = frozenset()) -> str:
         if (layouts, triples) != (1, 1):
             raise Unknown("no single target")
         text = shuffled(
-            re.sub(r"(?m)^attributes #\d+ = .*$", lambda found: attributes(found[0]), text)
+            re.sub(r"(?m)^attributes #\d+ = .*$", lambda line: attributes(line[0]), text)
         )
         for number, name in enumerate(exports):
             text = guarded(text, name, 900 + number)

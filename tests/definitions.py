@@ -1,9 +1,13 @@
-"""Lists the words of specs/ that contracts of public calls cite and the pages in docs/dev/definitions do not have for that crate, and the
-entries of these pages whose file does not have the word; and looks whether each crate has a page of promises, whose calls the crate has,
-and whether the crates of the page on the architecture of the core are those of crates.txt.
+"""Compare the pages of definitions, promises and crates in docs/dev with the crates.
 
-A public call is a function that a crate's src/lib.rt exports, or a public method of a type that it exports; of a static library what C can
-call; of the program those that its promises name. Prints a line for each word that is missing, and ends with status 1 where there is one; likewise for each crate.
+The script lists words of specs/ that contracts of public calls cite, and that the pages in
+docs/dev/definitions do not have for that crate, and entries of these pages whose file does not have
+the word. It checks that each crate has a page of promises, that the crate has the calls on that
+page, and that the page on the architecture of the core has the crates of crates.txt.
+
+A public call is a function that src/lib.rt of a crate exports, or a public method of an exported
+type. Of a static library it is each call for C, and of the program a call that its promises name.
+The script prints a line for each fault, and its status is 1 if it has found one.
 """
 import pathlib
 import re
@@ -13,7 +17,7 @@ import textwrap
 ROOT = pathlib.Path(__file__).resolve().parent.parent
 PROGRAM = {"check_input", "judge_record", "read_words", "run"}
 
-# Programs that promise nothing, or nothing that others stand on.
+# Programs without promises, and those whose promises no other crate uses.
 SILENT = {"saga_trials"}
 
 CITED = re.compile(r"ghost use Rattle\.(saga_\w+)\.specs\.([\w.]+)\.\{([^}]*)\}")
@@ -24,21 +28,22 @@ IMPL = re.compile(r"^impl\b[^{]*?\b(?:for )?(\w+)(?:<[^>]*>)? \{(.*?)^\}", re.M 
 
 
 def exported(crate):
-    """The names that a library exports, or offers to C; of the program the calls of its own that the pages name."""
+    """Return the names that a library exports, or the calls of the program that the pages name."""
     library = crate / "src" / "lib.rt"
     if not library.exists():
         return PROGRAM
-    found = EXPORTED.findall(library.read_text(encoding="utf-8"))
+    exports = EXPORTED.findall(library.read_text(encoding="utf-8"))
     for_c = {
         name
         for path in crate.glob("src/*.rt")
         for name in FOR_C.findall(path.read_text(encoding="utf-8"))
     }
-    return for_c | {name.strip() for many, one in found for name in (many or one).split(",")}
+    lists = [several or single for several, single in exports]
+    return for_c | {name.strip() for names in lists for name in names.split(",")}
 
 
 def public_calls(text, names):
-    """The heads of the exported functions and of the public methods of exported types, each with its contract."""
+    """Yield the heads of the exported functions and public methods, with their contracts."""
     for impl in IMPL.finditer(text):
         if impl[1] in names:
             yield from (call[0] for call in CALL.finditer(impl[2]))
@@ -46,11 +51,11 @@ def public_calls(text, names):
 
 
 def cited(crate):
-    """The words of specs/ that stand in the contracts of a crate's public calls, each with its file."""
+    """Yield the words of specs/ in the contracts of a crate's public calls, with their files."""
     names = exported(crate)
     for path in sorted((crate / "src").rglob("*.rt")):
         text = path.read_text(encoding="utf-8")
-        words = {
+        files_by_word = {
             word.strip(): f"{spec[0]}/specs/{spec[1]}"
             for spec in CITED.findall(text)
             for word in spec[2].split(",")
@@ -59,25 +64,25 @@ def cited(crate):
         for head in public_calls(text, names):
             yield from (
                 (word, file)
-                for word, file in words.items()
+                for word, file in files_by_word.items()
                 if re.search(rf"(?<![\w.]){re.escape(word)}(?!\w)", head)
             )
 
 
 def entries():
-    """The entries of the pages of definitions: the crate of the heading above, the file, and the word."""
+    """Yield the entries of the pages of definitions: crate, file and word."""
     for page in sorted((ROOT / "docs/dev/definitions").glob("*.md")):
         crate = None
         text = re.sub(r"\n  +", " ", page.read_text(encoding="utf-8"))
-        for heading, words, file in re.findall(
+        for heading, cell, file in re.findall(
             r"^## .*?(?:`crates/(\w+)/specs`)?$|^- (`.*?) in `(\w+\.antt)`\. ", text, re.M
         ):
             crate = heading or crate
-            yield from ((crate, file, word) for word in re.findall(r"`([^`]+)`", words))
+            yield from ((crate, file, word) for word in re.findall(r"`([^`]+)`", cell))
 
 
 def strange_entries(listed):
-    """Entries whose file is not there, or does not have the word."""
+    """Yield entries whose file does not exist, or does not have the word."""
     for crate, file, word in sorted(listed):
         path = ROOT / "crates" / crate / "specs" / file
         if not path.exists() or not re.search(
@@ -87,7 +92,7 @@ def strange_entries(listed):
 
 
 def strange_promises(crates):
-    """Crates without a page of promises, pages without a crate, and calls that a page names as evidence and the crate does not have."""
+    """Yield crates without a page, pages without a crate, and promised calls that do not exist."""
     pages = {
         page.stem: page.read_text(encoding="utf-8")
         for page in (ROOT / "docs/dev/promises").glob("*.md")
@@ -98,7 +103,7 @@ def strange_promises(crates):
     for name in sorted(set(pages) ^ crates):
         yield f"{name} has {'no crate' if name in pages else 'no page in docs/dev/promises'}"
     for name in sorted(set(index) ^ set(pages)):
-        yield f"{name} stands in {'docs/PROMISES.md' if name in index else 'docs/dev/promises'} alone"
+        yield f"only {'docs/PROMISES.md' if name in index else 'docs/dev/promises'} has {name}"
     for name in sorted(set(pages) & crates):
         source = "".join(
             path.read_text(encoding="utf-8")
@@ -117,30 +122,34 @@ def strange_promises(crates):
 
 
 def misplaced_crates():
-    """What is wrong with the list of crates: one that is missing or too many, or one that stands before a crate that it stands on."""
+    """Yield crates that are not in both lists, and those before a crate that they need."""
     page = (ROOT / "docs/dev/architecture/crates.md").read_text(encoding="utf-8")
     listed = re.findall(r"^\| `(saga_\w+)` \|", page, re.M)
     lines = [
         line.partition(":")
         for line in (ROOT / "crates.txt").read_text(encoding="utf-8").splitlines()
     ]
-    stands_on = {name.split()[0]: below.split() for name, colon, below in lines if colon}
-    for name in sorted(set(stands_on) ^ set(listed)):
-        yield f"{name} stands in {'crates.txt' if name in stands_on else 'docs/dev/architecture/crates.md'} alone"
-    for place, name in enumerate(listed):
-        for below in stands_on.get(name, []):
-            if below in listed[place:]:
-                yield f"docs/dev/architecture/crates.md has {name} before {below}, which it stands on"
+    dependencies = {name.split()[0]: below.split() for name, colon, below in lines if colon}
+    for name in sorted(set(dependencies) ^ set(listed)):
+        list_of_crates = "crates.txt" if name in dependencies else "docs/dev/architecture/crates.md"
+        yield f"only {list_of_crates} has {name}"
+    for position, name in enumerate(listed):
+        for below in dependencies.get(name, []):
+            if below in listed[position:]:
+                yield f"docs/dev/architecture/crates.md has {name} before {below}, which it needs"
 
 
 def other_examples():
-    """The crates whose head shows another example than the one that `saga_tests` runs: the body of its function of the crate's name."""
+    """Yield the crates whose head has another example than the one that `saga_tests` runs."""
     source = (ROOT / "crates" / "saga_tests" / "src" / "examples.rt").read_text(encoding="utf-8")
     for crate, body in re.findall(r"^fn of_(\w+)\b.*?\{\n(.*?)^\}", source, re.M | re.S):
         head = (ROOT / "crates" / crate / "src" / "lib.rt").read_text(encoding="utf-8")
         shown = re.search(r"^//! ```\n(.*?)^//! ```$", head, re.M | re.S)
         if shown is None or re.sub(r"^//! ?", "", shown[1], flags=re.M) != textwrap.dedent(body):
-            yield f"crates/{crate}/src/lib.rt shows another example than crates/saga_tests/src/examples.rt"
+            yield (
+                f"crates/{crate}/src/lib.rt has another example than "
+                "crates/saga_tests/src/examples.rt"
+            )
 
 
 def main():
@@ -152,11 +161,11 @@ def main():
         if crate.is_dir() and crate.name not in SILENT
     ]
     promising = {crate.name for crate in crates} - {"saga_tests"}
-    words = {found for crate in crates for found in cited(crate)}
-    # What is a type or a constant of the code is read there.
+    citations = {citation for crate in crates for citation in cited(crate)}
+    # The pages have no types and constants of the code.
     missing = sorted(
         (file, word)
-        for word, file in words
+        for word, file in citations
         if (file.split("/")[0], word) not in known and "/declared." not in file
     )
     for file, word in missing:
@@ -170,7 +179,8 @@ def main():
     for line in wrong:
         print(line)
     print(
-        f"definitions: {len(words)} words of public contracts, {len(missing)} missing; {len(listed)} entries; {len(wrong)} entries, promises, crates or examples wrong"
+        f"definitions: {len(citations)} words of public contracts, {len(missing)} missing; "
+        f"{len(listed)} entries; {len(wrong)} entries, promises, crates or examples wrong"
     )
     return 1 if missing or wrong else 0
 

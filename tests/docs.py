@@ -1,7 +1,6 @@
-"""Builds the documentation site, and looks at its links and anchors and at some pages in Chromium.
+"""Build the documentation site, and check its links and anchors, and some pages in Chromium.
 
-Links are checked twice: in the built site, and in the repository's pages as a reader of its files
-follows them.
+The script checks links twice: in the built site, and in the pages of the repository.
 """
 
 from __future__ import annotations
@@ -85,17 +84,17 @@ class Names(HTMLParser):
 
     def handle_starttag(self, tag: str, attrs: list[tuple[str, str | None]]) -> None:
         """Collect what a tag names."""
-        told = {name: value for name, value in attrs if value}
-        self.anchors |= {told[name] for name in ("id", "name") if name in told}
-        if tag == "a" and "href" in told:
-            self.links.add(told["href"])
-        self.loaded |= {told[name] for name in ("src", "srcset") if name in told}
-        if tag == "link" and "href" in told:
-            self.loaded.add(told["href"])
+        attributes = {name: value for name, value in attrs if value}
+        self.anchors |= {attributes[name] for name in ("id", "name") if name in attributes}
+        if tag == "a" and "href" in attributes:
+            self.links.add(attributes["href"])
+        self.loaded |= {attributes[name] for name in ("src", "srcset") if name in attributes}
+        if tag == "link" and "href" in attributes:
+            self.loaded.add(attributes["href"])
 
 
 def wrong_in_site(site: Path) -> Iterator[str]:
-    """Links and anchors that lead nowhere, and what a page loads from elsewhere."""
+    """Link and anchors that lead nowhere, and what a page loads from elsewhere."""
     pages = {path: Names(path) for path in site.rglob("*.html")}
     for path, names in pages.items():
         name = path.relative_to(site)
@@ -121,7 +120,7 @@ def wrong_in_site(site: Path) -> Iterator[str]:
 
 
 def missing_names(site: Path) -> Iterator[str]:
-    """Public names of the package that no reference page has."""
+    """Yield public names of the package that no reference page has."""
     sys.path.insert(0, str(TOP / "python/src"))
     package = importlib.import_module("sagas")
     text = "".join(page.read_text(encoding="utf-8") for page in (site / "reference").glob("*.html"))
@@ -140,15 +139,15 @@ def wrong_in_code() -> Iterator[str]:
                 compile(block, str(name), "exec", ast.PyCF_ALLOW_TOP_LEVEL_AWAIT)
             except SyntaxError as error:
                 yield f"{name} has Python that cannot be read: {error.text}"
-        # A page on Go means its package of the same name: there only blocks of Python are looked at.
-        own = "".join(PYTHON.findall(text)) if "```go\n" in text else text
-        for word in sorted(set(NAME.findall(own))):
+        # A page on Go means the Go package of this name: only its blocks of Python are checked.
+        searched = "".join(PYTHON.findall(text)) if "```go\n" in text else text
+        for word in sorted(set(NAME.findall(searched))):
             if not hasattr(package, word) and not importlib.util.find_spec(f"sagas.{word}"):
                 yield f"{name} has sagas.{word}, which the package has not"
 
 
 def wrong_in_mutants() -> Iterator[str]:
-    """Mutants without an entry in the pages of mutants, and entries without a mutant."""
+    """Yield mutants without an entry in the pages of mutants, and entries without a mutant."""
     files = [*TOP.glob("crates/*/mutants/*.edit"), *TOP.glob("python/tests/wrong*/[!_]*.py")]
     mutants = {path.relative_to(TOP).with_suffix("").as_posix() for path in files}
     entries = set()
@@ -164,19 +163,19 @@ def wrong_in_mutants() -> Iterator[str]:
 
 
 def anchors(path: Path) -> set[str]:
-    """The anchors that GitHub makes of a page's headings."""
-    found: dict[str, int] = {}
+    """Return the anchors that GitHub makes of a page's headings."""
+    numbers: dict[str, int] = {}
     names = set()
     for heading in HEADING.findall(BLOCK.sub("", path.read_text(encoding="utf-8"))):
         text = re.sub(r"\[([^\]]*)\]\([^)]*\)", r"\1", heading.strip())
         slug = re.sub(r"[^\w\- ]", "", text.lower()).replace(" ", "-")
-        found[slug] = found.get(slug, -1) + 1
-        names.add(f"{slug}-{found[slug]}" if found[slug] else slug)
+        numbers[slug] = numbers.get(slug, -1) + 1
+        names.add(f"{slug}-{numbers[slug]}" if numbers[slug] else slug)
     return names
 
 
 def wrong_in_files() -> Iterator[str]:
-    """Links of the repository's pages that lead to no file or no heading."""
+    """Link of the repository's pages that lead to no file or no heading."""
     for page in sorted(path for pattern in PAGES for path in TOP.glob(pattern)):
         for link in LINK.findall(BLOCK.sub("", page.read_text(encoding="utf-8"))):
             parts = urlsplit(link)
@@ -194,7 +193,7 @@ def wrong_in_files() -> Iterator[str]:
 
 
 def browser() -> webdriver.Chrome:
-    """A Chromium without a window."""
+    """Return a Chromium without a window."""
     options = Options()
     options.binary_location = str(shutil.which("chromium"))
     for word in ("--headless=new", "--no-sandbox", "--disable-gpu", "--disable-dev-shm-usage"):
@@ -203,7 +202,7 @@ def browser() -> webdriver.Chrome:
 
 
 def show(driver: webdriver.Chrome, address: str, width: int, scheme: str) -> None:
-    """Shows a page at a width, in light or dark colors."""
+    """Show a page at a width, in light or dark colors."""
     metrics = {"width": width, "height": 900, "deviceScaleFactor": 1, "mobile": width < 500}
     driver.execute_cdp_cmd("Emulation.setDeviceMetricsOverride", metrics)
     feature = {"name": "prefers-color-scheme", "value": scheme}
@@ -212,7 +211,7 @@ def show(driver: webdriver.Chrome, address: str, width: int, scheme: str) -> Non
 
 
 def wrong_in_browser(driver: webdriver.Chrome, address: str) -> Iterator[str]:
-    """What is too wide or loaded from elsewhere; and whether dark is dark."""
+    """Yield what is too wide or loaded from elsewhere; and whether dark is dark."""
     grounds = []
     for scheme in ("light", "dark"):
         show(driver, f"{address}/index.html", WIDTHS[0], scheme)
@@ -223,10 +222,10 @@ def wrong_in_browser(driver: webdriver.Chrome, address: str) -> Iterator[str]:
     for name in LOOKED_AT:
         for width in WIDTHS:
             show(driver, f"{address}/{name}", width, "light")
-            for one in driver.execute_script(WIDE):
-                yield f"{name} at {width} pixels: {one} is too wide"
-            for one in driver.execute_script(ELSEWHERE):
-                yield f"{name} loads {one} from elsewhere"
+            for element in driver.execute_script(WIDE):
+                yield f"{name} at {width} pixels: {element} is too wide"
+            for url in driver.execute_script(ELSEWHERE):
+                yield f"{name} loads {url} from elsewhere"
     show(driver, f"{address}/index.html?q=idempotency", WIDTHS[0], "light")
     results = (By.CSS_SELECTOR, ".md-search-result__link")
     WebDriverWait(driver, 30, 0.1).until(lambda _: driver.find_elements(*results))
@@ -240,7 +239,7 @@ class Quiet(http.server.SimpleHTTPRequestHandler):
 
 
 def look(site: Path) -> list[str]:
-    """Serves the site, and looks at it in Chromium."""
+    """Serve the site, and looks at it in Chromium."""
     handler = functools.partial(Quiet, directory=str(site))
     with http.server.ThreadingHTTPServer(("127.0.0.1", 0), handler) as server:
         threading.Thread(target=server.serve_forever, daemon=True).start()
@@ -253,7 +252,7 @@ def look(site: Path) -> list[str]:
 
 
 def main() -> int:
-    """Checks the site; gives the status."""
+    """Check the site, and return the exit status."""
     with tempfile.TemporaryDirectory() as folder:
         site = Path(folder) / "site"
         built = subprocess.run(

@@ -1,11 +1,12 @@
-"""Drives `sagas drive`: conversations, random ones, lines on standard output, full logs, kills, power cuts, cut and changed logs, refused writes and
-memory, the lock, the examples.
+"""Test `sagas drive`: conversations, logs, kills, power failures, other faults, and the examples.
 
-    tests/drive.py [--program P] [--fixed-shelf] [--libraries FOLDER] [--only SECTION] [--kills N] [--seed S]
+    tests/drive.py [--program P] [--fixed-shelf] [--libraries FOLDER] [--only SECTION] [--kills N]
+        [--seed S]
 
-SECTION is `said`, `starts`, `random`, `lines`, `room`, `kills`, `power`, `cuts`, `writes`, `memory`, `lock` or `service`. FOLDER has the
-libraries of tests/unwritten.c, tests/power.c and tests/refusing.c, as tests/drive.sh builds them. With `--fixed-shelf` the program adds no definitions
-while it runs, also where it shows its lines.
+SECTION is `conversations`, `starts`, `random`, `lines`, `room`, `kills`, `power`, `cuts`, `writes`,
+`memory`, `lock` or `service`. FOLDER has the libraries of tests/unwritten.c, tests/power.c and
+tests/refusing.c, as tests/drive.sh builds them. With `--fixed-shelf` the program adds no
+definitions while it runs, also if it shows its lines.
 """
 import argparse
 import concurrent.futures
@@ -35,64 +36,73 @@ HEADER = b'{"format":2}\n'
 NEXT, BUSY = {"do": "next"}, {"do": "busy"}
 NO_MEMORY = {"fault": "out-of-memory"}
 
-# So many bytes of requests are taken at once.
+# The bytes of requests that the program reads at once.
 AT_ONCE = 65_536
 
-# Definitions, by name. In `pair` step b needs step a; where b fails, a is undone, and where that fails too, a stays.
+# Definitions, by name. In `pair` step b needs step a. If b fails, a is undone. If that fails too, a
+# remains in effect.
 DEFINITIONS = {
-    "pair": 'format = 2\nname = "pair"\nstep = [{ name = "a", tries = 2, undo = 1, undo_tries = 2, keep = 9 },'
+    "pair": 'format = 2\nname = "pair"\n'
+    'step = [{ name = "a", tries = 2, undo = 1, undo_tries = 2, keep = 9 },'
     ' { name = "b", needs = ["a"], skip = 1 }]\n',
     "must": 'format = 1\nname = "must"\nstep = [{ name = "a", skip = "never" }]\n',
-    "chain3": 'format = 2\nname = "chain3"\nstep = [{ name = "a", undo = 1, keep = 2, tries = 2 },'
-    ' { name = "b", needs = ["a"], undo = "never", tries = 2 }, { name = "c", needs = ["b"], skip = 1 }]\n',
-    "chain6": 'format = 2\nname = "chain6"\nstep = [{ name = "a", undo = 1, keep = 9 }, { name = "b", needs = ["a"], tries = 2, undo = 1, keep = 3 },'
-    ' { name = "c", needs = ["b"], undo = 1, keep = 3, undo_tries = 3 }, { name = "d", needs = ["c"], undo = 4, keep = 3, tries = 9 },'
-    ' { name = "e", needs = ["d"], undo = 1, keep = 8 }, { name = "f", needs = ["e"], run = 2, skip = 1 }]\n',
+    "chain3": 'format = 2\nname = "chain3"\n'
+    'step = [{ name = "a", undo = 1, keep = 2, tries = 2 },'
+    ' { name = "b", needs = ["a"], undo = "never", tries = 2 },'
+    ' { name = "c", needs = ["b"], skip = 1 }]\n',
+    "chain6": 'format = 2\nname = "chain6"\n'
+    'step = [{ name = "a", undo = 1, keep = 9 },'
+    ' { name = "b", needs = ["a"], tries = 2, undo = 1, keep = 3 },'
+    ' { name = "c", needs = ["b"], undo = 1, keep = 3, undo_tries = 3 },'
+    ' { name = "d", needs = ["c"], undo = 4, keep = 3, tries = 9 },'
+    ' { name = "e", needs = ["d"], undo = 1, keep = 8 },'
+    ' { name = "f", needs = ["e"], run = 2, skip = 1 }]\n',
 }
 
 
 class State:
-    """What all sections share: the words that the script was given, a folder, and what was found wrong."""
+    """The state of a section: the options of the script, a folder, and the faults."""
 
-    def __init__(self, words, folder):
+    def __init__(self, options, folder):
         self.program, self.libraries, self.kills, self.seed = (
-            words.program,
-            words.libraries,
-            words.kills,
-            words.seed,
+            options.program,
+            options.libraries,
+            options.kills,
+            options.seed,
         )
-        self.grows = not words.fixed_shelf
+        self.grows = not options.fixed_shelf
         self.folder = pathlib.Path(folder)
         self.wrong = []
         for name, text in DEFINITIONS.items():
             (self.folder / f"{name}.toml").write_text(text, encoding="utf-8")
 
     def defined(self, *names):
-        """The files of definitions."""
+        """Return the files of definitions."""
         return [
             self.folder / f"{name}.toml" if name in DEFINITIONS else EXAMPLES / f"{name}.toml"
             for name in names
         ]
 
     def fail(self, *why):
-        """Notes what is wrong."""
+        """Note a fault."""
         self.wrong.append(" ".join(map(str, why)))
 
-    def expect(self, what, found, wanted):
-        """Notes what is wrong where two values differ."""
-        if found != wanted:
-            found, wanted = str(found), str(wanted)
-            alike = len(os.path.commonprefix([found, wanted]))
+    def expect(self, label, actual, expected):
+        """Note a fault if two values differ."""
+        if actual != expected:
+            actual, expected = str(actual), str(expected)
+            alike = len(os.path.commonprefix([actual, expected]))
             begin = max(0, alike - 100)
             self.fail(
-                f"{what}: from {alike} on: {found[begin : alike + 200]} instead of {wanted[begin : alike + 200]}"
+                f"{label}: from {alike} on: {actual[begin : alike + 200]} "
+                f"instead of {expected[begin : alike + 200]}"
             )
 
     def command(self, definitions, log):
         return [self.program, "drive", *(["--log", log] if log else []), *definitions]
 
     def ran(self, definitions, log, text, settings=None, seconds=60):
-        """A whole run on some input: its status, what it replied and what it said on standard error."""
+        """Run the program on some input, and return its status, replies and standard error."""
         done = subprocess.run(
             self.command(definitions, log),
             input=text,
@@ -104,7 +114,7 @@ class State:
         return done.returncode, done.stdout, done.stderr
 
     def audited(self, log, definitions):
-        """Looks whether the audit says yes of the whole lines of a log."""
+        """Check that an audit accepts the whole lines of a log."""
         whole = log.with_name(f"{log.name}.whole")
         whole.write_bytes(b"".join(whole_lines(log)))
         done = subprocess.run(
@@ -115,7 +125,7 @@ class State:
 
 
 class Driven:
-    """A running `sagas drive`: requests are sent, and replies come back."""
+    """A running `sagas drive`, with its requests and replies."""
 
     def __init__(self, state, definitions, log=None, settings=None):
         pipes = {"stdin": subprocess.PIPE, "stdout": subprocess.PIPE, "stderr": subprocess.PIPE}
@@ -124,7 +134,7 @@ class Driven:
         )
 
     def send(self, *requests):
-        """Sends requests together; gives whether they were taken."""
+        """Send requests together, and return whether the program could read them."""
         try:
             self.child.stdin.write(b"".join(line_of(request) for request in requests))
             self.child.stdin.flush()
@@ -133,7 +143,7 @@ class Driven:
             return False
 
     def reply(self):
-        """The next reply, or none where the program has ended."""
+        """Return the next reply, or None if the program has ended."""
         line = self.child.stdout.readline()
         return json.loads(line) if line.endswith(b"\n") else None
 
@@ -141,19 +151,22 @@ class Driven:
         return self.reply() if self.send(request) else None
 
     def replies(self, count):
-        """So many replies, while the program waits for more requests; fewer where they do not come within a minute, and it is killed."""
+        """Return `count` replies, while the program waits for more requests.
+
+        If they do not come within a minute, the program is killed, and there are fewer.
+        """
         late = threading.Timer(60, self.child.kill)
         late.start()
-        found = list(
+        received = list(
             itertools.takewhile(
                 lambda reply: reply is not None, (self.reply() for _ in range(count))
             )
         )
         late.cancel()
-        return found
+        return received
 
     def rest(self):
-        """All replies that are still to come."""
+        """Return all remaining replies."""
         return [
             json.loads(line)
             for line in self.child.stdout.read().splitlines(True)
@@ -161,18 +174,18 @@ class Driven:
         ]
 
     def end(self):
-        """Ends the requests, and gives the status and the lines on standard error."""
+        """Close standard input, and return the status and the text on standard error."""
         try:
             self.child.stdin.close()
         except BrokenPipeError:
             pass
-        said = self.child.stderr.read().decode()
+        errors = self.child.stderr.read().decode()
         self.child.stdout.close()
         self.child.stderr.close()
-        return self.child.wait(60), said
+        return self.child.wait(60), errors
 
     def kill(self):
-        """Kills it; gives the replies that had come."""
+        """Kill the program, and return the replies that it had written."""
         self.child.send_signal(signal.SIGKILL)
         replies = self.rest()
         self.end()
@@ -180,17 +193,17 @@ class Driven:
 
 
 def written(value):
-    """A value as the program writes it."""
+    """Return a value as the program writes it."""
     return json.dumps(value, separators=(",", ":"), sort_keys=True)
 
 
 def line_of(request):
-    """A request's line; bytes are sent as they are."""
+    """Return the line of a request; bytes remain unchanged."""
     return request if isinstance(request, bytes) else written(request).encode() + b"\n"
 
 
 def whole_lines(log):
-    """The lines of a file that end with a line feed."""
+    """Return the lines of a file that end with a line feed."""
     return (
         [line for line in log.read_bytes().splitlines(True) if line.endswith(b"\n")]
         if log.exists()
@@ -199,11 +212,11 @@ def whole_lines(log):
 
 
 def events_of(reply):
-    """The lines of the events that a reply tells of."""
+    """Return the lines of the events in a reply."""
     if reply is None:
         return []
     if "tasks" in reply:
-        return told(reply["tasks"])
+        return lines_of_events(reply["tasks"])
     if "event" in reply:
         events = [reply["event"]]
     elif reply.get("task") in ("run", "undo"):
@@ -218,8 +231,8 @@ def events_of(reply):
     return [written(event).encode() + b"\n" for event in events]
 
 
-def told(replies):
-    """The lines of the events that replies tell of."""
+def lines_of_events(replies):
+    """Return the lines of the events in replies."""
     return [line for reply in replies for line in events_of(reply)]
 
 
@@ -236,19 +249,19 @@ def aborting(saga):
 
 
 def report(saga, step, outcome, attempted=None):
-    """A report, which names the attempt of a task where one is given."""
+    """Return a report, which names the attempt of a task, if any."""
     named = (
         {} if attempted is None else {"attempt": attempted["attempt"], "task": attempted["task"]}
     )
     return named | {"do": "report", "outcome": outcome, "saga": saga, "step": step}
 
 
-def many(most):
-    return {"do": "next", "most": most}
+def many(limit):
+    return {"do": "next", "most": limit}
 
 
 def named(name, saga):
-    """An opening by name, as the saga of a number."""
+    """Return a request that opens a saga by the name of its definition, with a number."""
     return {"do": "open", "name": name, "saga": saga}
 
 
@@ -271,7 +284,7 @@ def task(word, saga, step, name, attempt=1):
     return {"attempt": attempt, "name": name, "saga": saga, "step": step, "task": word}
 
 
-def stands(saga, name, phase, states, kept, aborted=False, answer=None):
+def state_reply(saga, name, phase, states, kept, aborted=False, answer=None):
     answered = {} if answer is None else {"answer": answer["answer"]}
     return answered | {
         "aborted": aborted,
@@ -299,9 +312,9 @@ def plan(saga, cost, kept, leave, links, stand, phase="going"):
     return {"answer": answer, "phase": phase, "saga": saga, "task": "plan"}
 
 
-# ---- what is said: requests and replies
+# ---- requests and replies
 
-# Answers that are adopted: nothing is kept, a is kept, and none is allowed.
+# Answers that are adopted: nothing is kept, a is kept, and no plan is feasible.
 NONE_KEPT = plan(0, 2, [], [1, 1], [0], [1, 1])
 A_KEPT = plan(0, 10, [0], [9, 1], [0], [9, 1], "ended")
 CHAIN = {"answer": {"chain": [0], "kind": "blocked"}, "phase": "stuck", "saga": 0, "task": "plan"}
@@ -312,16 +325,16 @@ UNDONE = [
     (NEXT, task("run", 0, 0, "a")),
     (NEXT, none(False)),
     (BUSY, {"busy": [task("run", 0, 0, "a")]}),
-    (shown(0), stands(0, "pair", "going", "running waiting", [0, 1])),
+    (shown(0), state_reply(0, "pair", "going", "running waiting", [0, 1])),
     (report(0, 0, "fail"), event("missed", 0, 0)),
     (NEXT, task("run", 0, 0, "a", 2)),
     (report(0, 0, "ok"), event("commit", 0, 0)),
     (report(0, 0, "ok"), {"refused": "not-taken"}),
     (NEXT, task("run", 0, 1, "b")),
     (report(0, 1, "fail"), event("fail", 0, 1, "draining")),
-    (shown(0), stands(0, "pair", "draining", "committed failed", [])),
+    (shown(0), state_reply(0, "pair", "draining", "committed failed", [])),
     (NEXT, NONE_KEPT),
-    (shown(0), stands(0, "pair", "going", "committed failed", [], answer=NONE_KEPT)),
+    (shown(0), state_reply(0, "pair", "going", "committed failed", [], answer=NONE_KEPT)),
     (NEXT, task("undo", 0, 0, "a")),
     (BUSY, {"busy": [task("undo", 0, 0, "a")]}),
     (report(0, 0, "fail"), event("undo_missed", 0, 0)),
@@ -341,7 +354,7 @@ CONVERSATIONS = [
             (opening(0), opened(0)),
             (NEXT, task("run", 0, 0, "a")),
             (report(0, 0, "ok"), event("commit", 0, 0, "ended")),
-            (shown(0), stands(0, "must", "ended", "committed", [0])),
+            (shown(0), state_reply(0, "must", "ended", "committed", [0])),
             (NEXT, none(True)),
             (aborting(0), {"refused": "not-now"}),
         ],
@@ -352,7 +365,7 @@ CONVERSATIONS = [
         UNDONE
         + [
             (report(0, 0, "ok"), event("undone", 0, 0, "ended")),
-            (shown(0), stands(0, "pair", "ended", "undone failed", [], answer=NONE_KEPT)),
+            (shown(0), state_reply(0, "pair", "ended", "undone failed", [], answer=NONE_KEPT)),
             (NEXT, none(True)),
         ],
     ),
@@ -362,9 +375,9 @@ CONVERSATIONS = [
         UNDONE
         + [
             (report(0, 0, "fail"), event("undo_fail", 0, 0, "draining")),
-            (shown(0), stands(0, "pair", "draining", "fixed failed", [], answer=NONE_KEPT)),
+            (shown(0), state_reply(0, "pair", "draining", "fixed failed", [], answer=NONE_KEPT)),
             (NEXT, A_KEPT),
-            (shown(0), stands(0, "pair", "ended", "fixed failed", [0], answer=A_KEPT)),
+            (shown(0), state_reply(0, "pair", "ended", "fixed failed", [0], answer=A_KEPT)),
             (NEXT, none(True)),
         ],
     ),
@@ -376,7 +389,7 @@ CONVERSATIONS = [
             (NEXT, task("run", 0, 0, "a")),
             (report(0, 0, "fail"), event("fail", 0, 0, "draining")),
             (NEXT, CHAIN),
-            (shown(0), stands(0, "must", "stuck", "failed", [], answer=CHAIN)),
+            (shown(0), state_reply(0, "must", "stuck", "failed", [], answer=CHAIN)),
             (aborting(0), {"refused": "not-now"}),
             (NEXT, none(True)),
         ],
@@ -390,14 +403,14 @@ CONVERSATIONS = [
             (NEXT, task("run", 0, 0, "a")),
             (aborting(0), event("abort", 0, phase="draining")),
             (aborting(0), {"refused": "not-now"}),
-            (shown(0), stands(0, "pair", "draining", "running waiting", [], True)),
+            (shown(0), state_reply(0, "pair", "draining", "running waiting", [], True)),
             (NEXT, task("run", 1, 0, "a")),
             (BUSY, {"busy": [task("run", 0, 0, "a"), task("run", 1, 0, "a")]}),
             (report(0, 0, "ok"), event("commit", 0, 0, "draining")),
             (NEXT, NONE_KEPT),
             (NEXT, task("undo", 0, 0, "a")),
             (report(0, 0, "ok"), event("undone", 0, 0, "ended")),
-            (shown(0), stands(0, "pair", "ended", "undone waiting", [], True, NONE_KEPT)),
+            (shown(0), state_reply(0, "pair", "ended", "undone waiting", [], True, NONE_KEPT)),
             (NEXT, none(False)),
             (BUSY, {"busy": [task("run", 1, 0, "a")]}),
         ],
@@ -423,7 +436,7 @@ CONVERSATIONS = [
     ),
 ]
 
-# A line with just as many bytes as it may have, and one more.
+# A line of the maximum length.
 LONGEST = b'{"do":"busy"' + b" " * (65536 - 13) + b"}"
 
 # Lines on a book with one saga, of `pair`, whose first step is running.
@@ -490,25 +503,31 @@ LINES = [
     (b' \t{ "do" :\t"busy" } ', IDLE),
     (b'{"\\u0064o":"b\\u0075sy"}', IDLE),
     (b'{"do":"next","do":"busy"}', IDLE),
-    (b'{"saga":1,"do":"show","saga":0}', stands(0, "pair", "going", "running waiting", [0, 1])),
-    (b'{"saga":0,"do":"show"}', stands(0, "pair", "going", "running waiting", [0, 1])),
+    (
+        b'{"saga":1,"do":"show","saga":0}',
+        state_reply(0, "pair", "going", "running waiting", [0, 1]),
+    ),
+    (b'{"saga":0,"do":"show"}', state_reply(0, "pair", "going", "running waiting", [0, 1])),
     (b'{"step":0,"saga":0,"outcome":"fail","do":"report"}', event("missed", 0, 0)),
 ]
 
 
 def seen(driven, sagas):
-    """All that can be seen of a book without a change."""
+    """Return the replies that show the whole state of a book."""
     return [driven.ask(shown(saga)) for saga in range(sagas)] + [driven.ask(BUSY)]
 
 
 def converse(state, name, definitions, pairs):
-    """Holds a conversation with a log, request by request: what is refused changes nothing, and the log has what was told."""
+    """Hold a conversation with a log, request by request.
+
+    A refused request changes nothing, and the log has the events of the replies.
+    """
     log = state.folder / f"said.{name}.log"
     driven = Driven(state, state.defined(*definitions), log)
     replies = []
     sagas = 0
-    for request, wanted in pairs:
-        changes = "fault" not in wanted and "refused" not in wanted
+    for request, expected in pairs:
+        changes = "fault" not in expected and "refused" not in expected
         before = None if changes else (seen(driven, sagas), log.read_bytes())
         replies.append(driven.ask(request))
         if not changes:
@@ -517,13 +536,15 @@ def converse(state, name, definitions, pairs):
                 (seen(driven, sagas), log.read_bytes()),
                 before,
             )
-        sagas += "open" in str(events_of(wanted))
-        state.expect(f"{name}: {str(request)[:80]}", replies[-1], wanted)
-        state.expect(f"{name}: the log", log.read_bytes(), HEADER + b"".join(told(replies)))
+        sagas += "open" in str(events_of(expected))
+        state.expect(f"{name}: {str(request)[:80]}", replies[-1], expected)
+        state.expect(
+            f"{name}: the log", log.read_bytes(), HEADER + b"".join(lines_of_events(replies))
+        )
     state.expect(f"{name}: the end", driven.end(), (0, ""))
 
 
-# The keys of each request, those that it may have besides, and the bounds of numbers.
+# The keys of each request, its optional keys, and the bounds of numbers.
 KEYS = {
     "open": [],
     "next": [],
@@ -549,20 +570,20 @@ BOUNDS = {
     "attempt": 65536,
     "most": 1001,
 }
-WORDS = {"outcome": ("ok", "fail"), "task": ("run", "undo"), "phase": follower.PHASES}
+VALUES = {"outcome": ("ok", "fail"), "task": ("run", "undo"), "phase": follower.PHASES}
 
 
 def is_of_type(key, value):
-    """Whether a request may have this value at a key."""
-    if key in WORDS:
-        return value in WORDS[key]
+    """Return whether a request may have this value at a key."""
+    if key in VALUES:
+        return value in VALUES[key]
     if key in ("name", "definition"):
         return isinstance(value, str)
     return type(value) is int and (key == "most") <= value < BOUNDS[key]
 
 
 def fault_of(line):
-    """The first fault of a line, by docs/FORMATS.md; none of a request."""
+    """Return the first fault of a line by docs/FORMATS.md, or None for a request."""
     try:
         value = json.loads(line.decode("utf-8"))
     except ValueError:
@@ -583,10 +604,13 @@ def fault_of(line):
 
 
 def hostile(state):
-    """Each prefix of each request, each request with one byte changed, and objects of random keys and values, in their usual spelling and in
-    another one: the fault that has to come."""
+    """Send hostile lines, and compare the faults with those of `fault_of`.
+
+    The lines are each prefix of each request, each request with one byte changed, and objects of
+    random keys and values, in their usual spelling and in another one.
+    """
     draw = random.Random(state.seed)
-    asked = [
+    questions = [
         named("a", 0),
         many(64),
         report(0, 0, "ok", task("run", 0, 0, "a")),
@@ -605,14 +629,14 @@ def hostile(state):
             report(0, 0, "ok"),
             aborting(0),
             shown(0),
-            *asked,
+            *questions,
         )
     ]
-    lines = [text[:place] for text in shortest for place in range(len(text))]
+    lines = [text[:position] for text in shortest for position in range(len(text))]
     lines += [
-        text[:place] + byte + text[place + 1 :]
+        text[:position] + byte + text[position + 1 :]
         for text in shortest
-        for place in range(len(text))
+        for position in range(len(text))
         for byte in (b"\0", b"\xff", b"}")
     ]
     values = [
@@ -664,17 +688,17 @@ def hostile(state):
     status, replies, _ = state.ran(
         state.defined("pair"), None, b"".join(line + b"\n" for line in lines)
     )
-    found = [json.loads(reply).get("fault") for reply in replies.splitlines()]
-    state.expect("hostile: the end", (status, len(found)), (0, len(lines)))
-    for line, one in zip(lines, found):
-        state.expect(f"hostile: {line}", one, fault_of(line))
+    faults = [json.loads(reply).get("fault") for reply in replies.splitlines()]
+    state.expect("hostile: the end", (status, len(faults)), (0, len(lines)))
+    for line, fault in zip(lines, faults):
+        state.expect(f"hostile: {line}", fault, fault_of(line))
     return len(lines)
 
 
 def in_pieces(state):
-    """Lines that come in pieces, and lines of which one read does not take all: each reply comes once its line is there."""
+    """Send lines in pieces, and lines that are longer than a read. Each line gets its reply."""
     text = b"".join(line_of(request) for request, _ in UNDONE)
-    replies = [wanted for _, wanted in UNDONE]
+    replies = [expected for _, expected in UNDONE]
     for size in (1, 7, 64):
         driven = Driven(state, state.defined("pair"))
         for first in range(0, len(text), size):
@@ -685,7 +709,7 @@ def in_pieces(state):
     driven.send(b'{"do":"busy"}\n{"do":"bu')
     state.expect("before a line's end", driven.reply(), {"busy": []})
     driven.send(b'sy"}\n')
-    state.expect("behind a line's end", (driven.reply(), driven.end()), ({"busy": []}, (0, "")))
+    state.expect("after a line's end", (driven.reply(), driven.end()), ({"busy": []}, (0, "")))
     draw = random.Random(state.seed)
     lines = [
         b'{"do":"next"%s}\n' % (b" " * draw.choice([0, 1, 50, 5000, 65000])) for _ in range(500)
@@ -698,11 +722,14 @@ def in_pieces(state):
 
 
 def together(state):
-    """Requests that are taken together: as many bytes as a read takes, with no more behind them; and 4,000 in one write, of which the replies are more
-    than may wait. Each is answered while the program waits for more, once and in order."""
+    """Send requests together: exactly the bytes of one read, and 4,000 in one write.
+
+    The replies to the latter are more than a pipe holds. The program answers each request once and
+    in order, while it waits for more.
+    """
     whole = Driven(state, state.defined("pair"))
-    asked = [{"do": "status"}] * (AT_ONCE // len(line_of({"do": "status"})))
-    whole.send(*asked)
+    questions = [{"do": "status"}] * (AT_ONCE // len(line_of({"do": "status"})))
+    whole.send(*questions)
     none_yet = {
         "definitions": ["pair"],
         "ended": 0,
@@ -711,8 +738,9 @@ def together(state):
         "room": 1000,
         "stuck": 0,
     }
-    state.expect("a read's bytes", sum(map(len, map(line_of, asked))), AT_ONCE)
-    state.expect("a read's bytes: the replies", whole.replies(len(asked)), [none_yet] * len(asked))
+    state.expect("a read's bytes", sum(map(len, map(line_of, questions))), AT_ONCE)
+    replies = whole.replies(len(questions))
+    state.expect("a read's bytes: the replies", replies, [none_yet] * len(questions))
     state.expect("a read's bytes: the end", whole.end(), (0, ""))
     log = state.folder / "at-once.log"
     many = Driven(state, state.defined("pair"), log)
@@ -720,31 +748,36 @@ def together(state):
     many.send(*begin)
     many.replies(len(begin))
     taken = [task("run", saga, 0, "a") for saga in range(8)]
-    wanted = [{"busy": taken}] * 4000
+    expected = [{"busy": taken}] * 4000
     state.expect(
-        "4,000 at once: the replies are many", len(line_of(wanted[0])) * 4000 > 1_048_576, True
+        "4,000 at once: the replies are many", len(line_of(expected[0])) * 4000 > 1_048_576, True
     )
     begun = log.read_bytes()
     many.send(*[BUSY] * 3999, aborting(7))
-    found = many.replies(4000)
-    state.expect("4,000 at once: the replies", found[:-1], wanted[:-1])
+    actual = many.replies(4000)
+    state.expect("4,000 at once: the replies", actual[:-1], expected[:-1])
     last = {"event": {"event": "abort", "saga": 7}, "phase": "draining"}
-    state.expect("4,000 at once: the last", found[-1:], [last])
+    state.expect("4,000 at once: the last", actual[-1:], [last])
     state.expect(
-        "4,000 at once: the log", log.read_bytes().removeprefix(begun), b"".join(told([last]))
+        "4,000 at once: the log",
+        log.read_bytes().removeprefix(begun),
+        b"".join(lines_of_events([last])),
     )
     state.expect("4,000 at once: the end", many.end(), (0, ""))
-    return len(asked) + len(begin) + 4000
+    return len(questions) + len(begin) + 4000
 
 
-def said(state):
-    """Conversations: with a log and without, line by line and at once; the last line without its line feed."""
+def conversations(state):
+    """Hold all conversations: with a log and without, line by line and at once.
+
+    The last line may have no line feed.
+    """
     begun = [UNDONE[0], UNDONE[1]]
-    lines = ("lines", ["pair"], begun + [(line + b"\n", wanted) for line, wanted in LINES])
+    lines = ("lines", ["pair"], begun + [(line + b"\n", expected) for line, expected in LINES])
     for name, definitions, pairs in CONVERSATIONS + [lines]:
         converse(state, name, definitions, pairs)
         text = b"".join(line_of(request) for request, _ in pairs)
-        replies = b"".join(line_of(wanted) for _, wanted in pairs)
+        replies = b"".join(line_of(expected) for _, expected in pairs)
         log = state.folder / f"said.{name}.once.log"
         for at_once in [text, text[:-1]]:
             log.unlink(missing_ok=True)
@@ -766,9 +799,11 @@ def said(state):
     in_pieces(state)
     count = hostile(state) + together(state)
     many = line_of(opening(0)) * 1001
-    wanted = b"".join(line_of(opened(saga)) for saga in range(1000)) + line_of({"refused": "full"})
+    expected = b"".join(line_of(opened(saga)) for saga in range(1000)) + line_of(
+        {"refused": "full"}
+    )
     log = state.folder / "said.full.log"
-    state.expect("1,001 openings", state.ran(state.defined("must"), log, many), (0, wanted, b""))
+    state.expect("1,001 openings", state.ran(state.defined("must"), log, many), (0, expected, b""))
     state.expect(
         "after them",
         state.ran(state.defined("must"), log, line_of(opening(0))),
@@ -818,7 +853,7 @@ LOGS = [
     (HEADER + OPEN + b'{"def":0,"event":"open","saga":2}\n', 3, "sagas: log: no 1 not-numbered"),
 ]
 
-# What a closed stream comes to: none of the three may be taken for the log.
+# The outcome of a closed stream: the log may not get its number.
 CLOSED = [
     ("<&-", 4, [b"sagas: cannot read -\n"]),
     (">&-", 4, [b"sagas: cannot write -\n"]),
@@ -827,14 +862,17 @@ CLOSED = [
 
 
 def starts(state):
-    """Logs at the start, good and bad, and words that are not of the form: the line, the status, and a refused log left as it was."""
+    """Start the program on good and bad logs, and with bad arguments.
+
+    Compare the line on standard error and the status. A refused log must be unchanged.
+    """
     pair = state.defined("pair")
     log = state.folder / "starts.log"
     for text, status, line in LOGS:
         log.write_bytes(text)
-        found = state.ran(pair, log, b"")
+        actual = state.ran(pair, log, b"")
         state.expect(
-            f"start on {text}", found, (status, b"", f"{line}\n".encode() if line else b"")
+            f"start on {text}", actual, (status, b"", f"{line}\n".encode() if line else b"")
         )
         whole = text[: text.rfind(b"\n") + 1] or HEADER
         state.expect(
@@ -851,27 +889,29 @@ def starts(state):
         (pair, state.folder, 4, f"sagas: cannot write {state.folder}"),
         (pair, none / "log", 4, f"sagas: cannot write {none / 'log'}"),
     ]
-    for definitions, place, status, line in rows:
-        found = state.ran(definitions, place, b"")
+    for definitions, log_path, status, line in rows:
+        actual = state.ran(definitions, log_path, b"")
         state.expect(
-            f"start on {str(definitions)[-80:]} {place}", found, (status, b"", f"{line}\n".encode())
+            f"start on {str(definitions)[-80:]} {log_path}",
+            actual,
+            (status, b"", f"{line}\n".encode()),
         )
     log.unlink()
     torn = state.folder / "torn.log"
     unfinished = torn.with_name(f"{torn.name}.definitions.new")
     unfinished.write_bytes(file_of(pair)[:20])
-    state.expect("start beside unfinished definitions", state.ran(pair, torn, b""), (0, b"", b""))
+    state.expect("start with unfinished definitions", state.ran(pair, torn, b""), (0, b"", b""))
     state.expect(
         "the definitions then",
-        (beside(torn).read_bytes(), unfinished.exists()),
+        (definitions_file(torn).read_bytes(), unfinished.exists()),
         (file_of(pair), False),
     )
-    for words in [["drive"], ["drive", "--lines"], ["drive", "--lock", *pair]]:
+    for arguments in [["drive"], ["drive", "--lines"], ["drive", "--lock", *pair]]:
         done = subprocess.run(
-            [state.program, *words], stdin=subprocess.DEVNULL, capture_output=True, check=False
+            [state.program, *arguments], stdin=subprocess.DEVNULL, capture_output=True, check=False
         )
-        state.expect(f"{words}", (done.returncode, done.stdout), (2, b""))
-        state.expect(f"a log after {words}", log.exists(), False)
+        state.expect(f"{arguments}", (done.returncode, done.stdout), (2, b""))
+        state.expect(f"a log after {arguments}", log.exists(), False)
     with open("/dev/full", "wb") as full:
         text = line_of(opening(0)) + line_of(BUSY)
         done = subprocess.run(
@@ -883,9 +923,9 @@ def starts(state):
     state.expect("the log then", log.read_bytes(), HEADER + OPEN)
     for stream, status, line in CLOSED:
         log.write_bytes(HEADER + OPEN + RUN[:7])
-        words = ["bash", "-c", f'"$0" "$@" {stream}', *state.command(pair, log)]
+        arguments = ["bash", "-c", f'"$0" "$@" {stream}', *state.command(pair, log)]
         done = subprocess.run(
-            words,
+            arguments,
             input=line_of(NEXT),
             stdout=subprocess.DEVNULL,
             stderr=subprocess.PIPE,
@@ -903,22 +943,22 @@ def starts(state):
 
 
 def random_definition(draw, path):
-    """A definition with some steps, whose needs go back."""
+    """Return a random definition, whose steps need earlier ones."""
     lines = ['format = 2\nname = "drawn"\n']
     for number in range(draw.randint(1, 6)):
         lines.append(f'[[step]]\nname = "s{number}"')
         needs = sorted(draw.sample(range(number), min(number, draw.choice([0, 1, 1, 2]))))
         lines.append("needs = [" + ", ".join(f'"s{need}"' for need in needs) + "]")
         for key in ["run", "undo", "skip", "keep"]:
-            price = '"never"' if draw.random() < 0.1 else draw.choice([0, 0, 1, 2, 5, 10])
-            lines.append(f"{key} = {price}")
+            cost = '"never"' if draw.random() < 0.1 else draw.choice([0, 0, 1, 2, 5, 10])
+            lines.append(f"{key} = {cost}")
         lines.append(f"tries = {draw.randint(1, 3)}\nundo_tries = {draw.randint(1, 2)}\n")
     path.write_text("\n".join(lines), encoding="utf-8")
     return path
 
 
 def random_report(draw, book):
-    """A report on a busy step, mostly of the attempt that is on its way, or on any step."""
+    """Return a report on a busy step, mostly with its attempt, or on any step."""
     busy, outcome = book.busy()["busy"], draw.choice(["ok", "ok", "ok", "fail"])
     if not busy or draw.random() < 0.1:
         other = task(draw.choice(["run", "undo"]), 0, 0, "", draw.randint(1, 3))
@@ -928,24 +968,32 @@ def random_report(draw, book):
             outcome,
             draw.choice([None, other]),
         )
-    one = draw.choice(busy)
+    busy_task = draw.choice(busy)
     wrong = draw.choice(
-        [one | {"attempt": one["attempt"] - 1}, one | {"task": draw.choice(["run", "undo"])}]
+        [
+            busy_task | {"attempt": busy_task["attempt"] - 1},
+            busy_task | {"task": draw.choice(["run", "undo"])},
+        ]
     )
-    return report(one["saga"], one["step"], outcome, draw.choice([None, one, one, one, wrong]))
+    return report(
+        busy_task["saga"],
+        busy_task["step"],
+        outcome,
+        draw.choice([None, busy_task, busy_task, busy_task, wrong]),
+    )
 
 
 def random_request(draw, book):
-    """A request, mostly one that is accepted."""
+    """Return a random request, mostly an acceptable one."""
     number, sagas, definitions = draw.random(), len(book.sagas), book.definitions
     if sagas == 0 or number < 0.06:
-        opening_of_one = opening(draw.randrange(len(definitions) + (number < 0.005)))
+        by_number = opening(draw.randrange(len(definitions) + (number < 0.005)))
         return draw.choice(
             [
-                opening_of_one,
+                by_number,
                 named(draw.choice(definitions)["name"], sagas),
                 named("none", 0),
-                opening_of_one | {"saga": draw.choice([0, sagas])},
+                by_number | {"saga": draw.choice([0, sagas])},
             ]
         )
     if number < 0.36:
@@ -971,7 +1019,7 @@ def random_request(draw, book):
 
 
 def random_conversation(state, seed):
-    """A conversation of 150 requests, which the rules answer, and as many questions; then another start on its log, and on a copy of it."""
+    """Compare a random conversation with the reference model, and with restarts on its log."""
     draw = random.Random(seed)
     name = f"random {seed}"
     folder = state.folder / f"random{seed}"
@@ -989,26 +1037,26 @@ def random_conversation(state, seed):
         if reply is None:
             break
         pairs.append((request, reply))
-        wanted = (
+        expected = (
             {"fault": fault_of(request)}
             if isinstance(request, bytes)
             else book.replied(request, reply)
         )
-        state.expect(f"{name}: {request}", reply, wanted)
-        for question, wanted in book.questions(draw):
+        state.expect(f"{name}: {request}", reply, expected)
+        for question, expected in book.questions(draw):
             answered = driven.ask(question)
             pairs.append((question, answered))
-            state.expect(f"{name}: {question}", answered, wanted)
+            state.expect(f"{name}: {question}", answered, expected)
     sagas = len(book.sagas)
-    lines = told(reply for _, reply in pairs)
+    lines = lines_of_events(reply for _, reply in pairs)
     state.expect(f"{name}: the log", log.read_bytes(), HEADER + b"".join(lines))
-    stands_now = seen(driven, sagas)
+    state_before = seen(driven, sagas)
     state.audited(log, definitions)
     shutil.copy(log, folder / "copy")
     ahead = [driven.ask(NEXT) for _ in range(30)]
     state.expect(f"{name}: the end", driven.end(), (0, ""))
     again = Driven(state, definitions, folder / "copy")
-    state.expect(f"{name}: after another start", seen(again, sagas), stands_now)
+    state.expect(f"{name}: after another start", seen(again, sagas), state_before)
     state.expect(f"{name}: next after another start", [again.ask(NEXT) for _ in range(30)], ahead)
     state.expect(f"{name}: the other end", again.end(), (0, ""))
     state.expect(f"{name}: the other log", (folder / "copy").read_bytes(), log.read_bytes())
@@ -1021,7 +1069,7 @@ def random_conversation(state, seed):
 
 
 def random_ones(state):
-    """Random conversations: the log has just what was told, it is legal, and another start goes on with the same book."""
+    """Hold random conversations. Each log is legal and complete; a restart has the same state."""
     with concurrent.futures.ThreadPoolExecutor(PROCESSORS) as pool:
         return (
             sum(
@@ -1038,8 +1086,11 @@ def random_ones(state):
 
 
 def ran_with_lines(state, definitions, text, begun=None):
-    """A whole run that shows its lines, from a log that comes by a pipe, where there is one: its status, the lines without their `+`, the
-    replies, and what it said on standard error."""
+    """Run the program with `--lines`, from a log in a pipe, if any.
+
+    Returns:
+        The status, the lines without their `+`, the replies, and standard error.
+    """
     out, into = os.pipe()
     known = [] if begun is None else ["--from", f"/dev/fd/{out}"]
     command = [state.program, "drive", "--lines", *known, *definitions]
@@ -1067,72 +1118,79 @@ def ran_with_lines(state, definitions, text, begun=None):
 
 
 def drawn_lines(draw, book, driven, added):
-    """Random requests as lines, each with its reply if it asks for a definition. Such a request puts the next of the added definitions on
-    the shelf, or has a fault if there is no next one; it is refused where the shelf is fixed. The drive has these definitions from the start,
-    and is asked the other requests."""
-    asked, coming = [], list(added)
-    while len(asked) < 100:
+    """Return the lines of random requests, those that add a definition with their reply.
+
+    Such a request adds the next of the added definitions, or has a fault if there is none. It is
+    refused if the definitions are fixed. The drive has all definitions from the start, and gets the
+    other requests.
+    """
+    questions, coming = [], list(added)
+    while len(questions) < 100:
         request = defining("") if draw.random() < 0.04 else random_request(draw, book)
         if isinstance(request, bytes):
-            asked.append((request, None))
+            questions.append((request, None))
         elif request["do"] == "define":
             request = defining(coming.pop(0).read_text(encoding="utf-8") if coming else "x")
-            asked.append((line_of(request), book.replied(request, {})))
+            questions.append((line_of(request), book.replied(request, {})))
         elif request.get("def", 0) < len(book.definitions):
             book.replied(request, driven.ask(request))
-            asked.append((line_of(request), None))
-    return asked
+            questions.append((line_of(request), None))
+    return questions
 
 
-def with_places(asked, replies, more):
-    """The replies to all requests: those to the others, and those to requests for a definition, over a shelf with so many more."""
+def with_definition_numbers(questions, replies, more):
+    """Return the replies to all requests, after a start with `more` definitions."""
     others = iter(replies.splitlines(True))
     placed = [
         reply | {"def": reply["def"] + more} if reply and "def" in reply else reply
-        for _, reply in asked
+        for _, reply in questions
     ]
     return b"".join(next(others) if reply is None else line_of(reply) for reply in placed)
 
 
 def lines_of_a_conversation(state, seed):
-    """Random requests: with lines they have the replies and the log that they have with a file, from nothing and from each of some
-    beginnings of the log. A definition that a request puts on the shelf serves as one that was there from the start.
+    """Compare the replies and the log of random requests with `--lines` and with a file.
+
+    The starts are from nothing, and from some beginnings of the log. A definition that a request
+    adds serves like one from the start.
     """
     draw = random.Random(seed)
     name, log = f"lines {seed}", state.folder / f"lines{seed}"
     definitions = state.defined(*draw.sample(["trip", "order", "server", "licence", "pair"], 2))
     added = [
-        random_definition(draw, state.folder / f"lines{seed}.{place}.toml") for place in range(3)
+        random_definition(draw, state.folder / f"lines{seed}.{number}.toml") for number in range(3)
     ]
     longer = [*definitions, *added] if state.grows else definitions
     driven = Driven(state, longer, log)
-    asked = drawn_lines(draw, follower.Book(definitions, grows=state.grows), driven, added)
+    questions = drawn_lines(draw, follower.Book(definitions, grows=state.grows), driven, added)
     state.expect(f"{name}: the end", driven.end(), (0, ""))
-    text, whole = b"".join(line for line, _ in asked), whole_lines(log)
-    others = b"".join(line for line, reply in asked if reply is None)
+    text, whole = b"".join(line for line, _ in questions), whole_lines(log)
+    others = b"".join(line for line, reply in questions if reply is None)
     for count in [None, 0, 1, draw.randrange(1, len(whole)), len(whole)]:
         begun = None if count is None else b"".join(whole[:count])
-        shelf = longer if begun else definitions
+        known_definitions = longer if begun else definitions
         file = state.folder / f"lines{seed}.{count}"
         file.write_bytes(begun or b"")
-        status, replies, said = state.ran(longer, file, others)
+        status, replies, errors = state.ran(longer, file, others)
         left = begun or b""
-        if said:  # a plan that its last line begins is made anew
+        if errors:  # the plan of its last line is made again
             left = b"".join(whole[: count - 1])
-        wanted = (
+        expected = (
             status,
             file.read_bytes().removeprefix(left),
-            with_places(asked, replies, len(shelf) - len(definitions)),
-            said,
+            with_definition_numbers(questions, replies, len(known_definitions) - len(definitions)),
+            errors,
         )
         state.expect(
-            f"{name}: from {count} lines", ran_with_lines(state, shelf, text, begun), wanted
+            f"{name}: from {count} lines",
+            ran_with_lines(state, known_definitions, text, begun),
+            expected,
         )
-    return 5 * len(asked)
+    return 5 * len(questions)
 
 
 def lines(state):
-    """What is shown of a log, and a log that is only read, which comes by a pipe."""
+    """Test lines on standard output, and logs that are only read, from a pipe."""
     with concurrent.futures.ThreadPoolExecutor(PROCESSORS) as pool:
         return (
             sum(
@@ -1150,13 +1208,13 @@ def lines(state):
 LOG_FULL = {"refused": "log-full"}
 OPENED = {"def": 0, "event": "open"}
 
-# Two definitions, by their steps and needs: four sagas of the first and one of the second have room in one log to the byte; or there is a byte too
-# little, and the last is refused.
+# Two definitions, by their steps and needs. Four sagas of the first and one of the second exactly
+# fit into a log. Or one byte is missing, and the last one is refused.
 EDGES = [((1020, 8159), (662, 5735), True), ((1024, 8175), (802, 3750), False)]
 
 
 def large(state, name, steps, needs, first="", tries=""):
-    """A definition of that size, of the greatest costs to run: each step needs some of those right before it."""
+    """Return a definition of this size with the greatest costs. Steps need those before them."""
     each = f"run = 1_000_000_000\n{tries}"
     lines = [f'format = 2\nname = "{name}"\n[[step]]\nname = "s0"\n{each}{first}']
     for step in range(1, steps):
@@ -1172,8 +1230,8 @@ def large(state, name, steps, needs, first="", tries=""):
     return path
 
 
-class Followed:
-    """A conversation with a log, each reply of which the rules say."""
+class Conversation:
+    """A conversation with a log. The reference model has its expected replies."""
 
     def __init__(self, state, name, definitions):
         self.state, self.name, self.definitions = state, name, definitions
@@ -1185,11 +1243,11 @@ class Followed:
         self.start()
 
     def start(self):
-        """Starts the program on the log."""
+        """Start the program on the log."""
         self.driven = Driven(self.state, self.definitions, self.log)
 
     def ask(self, *requests):
-        """Sends requests together; gives the last reply."""
+        """Send requests together, and return the last reply."""
         self.driven.send(*requests)
         for request in requests:
             reply = self.driven.reply() or {}
@@ -1198,7 +1256,7 @@ class Followed:
         return self.pairs[-1][1]
 
     def fill(self, definition):
-        """Opens sagas until one is refused; gives how many there were. What is refused changes nothing."""
+        """Open sagas until one is refused, and return their number. The refusal changes nothing."""
         before = len(self.book.sagas)
         while not self.state.wrong and self.ask(opening(definition)) != LOG_FULL:
             pass
@@ -1212,95 +1270,114 @@ class Followed:
         return len(self.book.sagas) - before
 
     def abort(self, saga):
-        """Aborts a saga that has not begun, and plans it: it is ended, or stuck."""
-        self.ask(aborting(saga), opening(0))  # until it is planned it may write
+        """Abort a saga that has not started, and plan it, so that it has ended or is stuck."""
+        self.ask(aborting(saga), opening(0))  # before its plan it may write events
         return self.ask({"do": "take", "saga": saga}).get("phase")
 
     def end(self):
-        """Ends the program; the log is what was told, and legal."""
+        """End the program. The log is legal, and has the events of the replies."""
         self.state.expect(f"{self.name}: the end", self.driven.end(), (0, ""))
         self.state.expect(
             f"{self.name}: the log",
             self.log.read_bytes(),
-            HEADER + b"".join(told(reply for _, reply in self.pairs)),
+            HEADER + b"".join(lines_of_events(reply for _, reply in self.pairs)),
         )
         self.state.audited(self.log, self.definitions)
 
 
 def room(state):
-    """Sagas are opened as long as the log has room for their ends: until it has none, and again once one is ended, also after a kill and another
-    start; lines that are shown are counted as those of a file, and without a log there is no such limit.
+    """Open sagas as long as the log has room for their ends, and again after one has ended.
+
+    The same holds after a kill and a restart. Shown lines count like those of a file. Without a log
+    there is no limit.
     """
     definitions = [
         large(state, "long", 256, 255),
         large(state, "must", 256, 255, 'skip = "never"\n'),
         *state.defined("pair"),
     ]
-    one = Followed(state, "room", definitions)
-    state.expect("room: how many are opened", one.fill(0), follower.ROOM // one.book.mosts[0])
-    one.ask(
+    conversation = Conversation(state, "room", definitions)
+    opened_sagas = follower.CAPACITY // conversation.book.max_bytes[0]
+    state.expect("room: the number of sagas", conversation.fill(0), opened_sagas)
+    conversation.ask(
         opening(9),
         named("none", 0),
         opening(0) | {"saga": 0},
         opening(2),
         opening(1),
-        named("long", len(one.book.sagas) + 1),
+        named("long", len(conversation.book.sagas) + 1),
     )
-    state.expect("room: one that is aborted", (one.abort(0), one.fill(0)), ("ended", 1))
+    state.expect(
+        "room: one that is aborted", (conversation.abort(0), conversation.fill(0)), ("ended", 1)
+    )
     for first in range(0, 256, 64):
         steps = range(first, first + 64)
-        one.ask(
+        conversation.ask(
             *(
                 request
                 for step in steps
                 for request in ({"do": "take", "saga": 1, "step": step}, report(1, step, "ok"))
             )
         )
-    state.expect("room: one that is run", one.fill(0), 1)
-    stuck = len(one.book.sagas)
+    state.expect("room: one that is run", conversation.fill(0), 1)
+    stuck = len(conversation.book.sagas)
     state.expect(
         "room: one that is stuck has not ended",
-        (one.abort(2), one.fill(1), one.abort(stuck), one.fill(0)),
+        (
+            conversation.abort(2),
+            conversation.fill(1),
+            conversation.abort(stuck),
+            conversation.fill(0),
+        ),
         ("ended", 1, "stuck", 0),
     )
-    one.driven.kill()
-    begun, before = one.log.read_bytes(), len(one.pairs)
-    one.start()
-    state.expect("room: after a kill", (one.fill(0), one.abort(3), one.fill(0)), (0, "ended", 1))
-    one.end()
-    shown_from(state, one, begun, before)
+    conversation.driven.kill()
+    begun, before = conversation.log.read_bytes(), len(conversation.pairs)
+    conversation.start()
+    state.expect(
+        "room: after a kill",
+        (conversation.fill(0), conversation.abort(3), conversation.fill(0)),
+        (0, "ended", 1),
+    )
+    conversation.end()
+    shown_from(state, conversation, begun, before)
     return (
-        len(one.pairs) + edges(state) + crowd(state) + full(state) + unlimited(state, definitions),
+        len(conversation.pairs)
+        + edges(state)
+        + crowd(state)
+        + full(state)
+        + unlimited(state, definitions),
         "requests of full logs",
     )
 
 
-def shown_from(state, one, begun, before):
-    """The same requests with lines that are shown, from nothing and from the log of a kill: the same replies, and the same log."""
+def shown_from(state, conversation, begun, before):
+    """Repeat the requests with `--lines`, from nothing and from the log of a kill."""
     for known, first in [(None, 0), (begun, before)]:
-        asked, replies = (
-            b"".join(line_of(pair[place]) for pair in one.pairs[first:]) for place in (0, 1)
+        questions, replies = (
+            b"".join(line_of(pair[index]) for pair in conversation.pairs[first:])
+            for index in (0, 1)
         )
-        wanted = one.log.read_bytes().removeprefix(known or b"")
+        expected = conversation.log.read_bytes().removeprefix(known or b"")
         state.expect(
-            f"room: lines behind {first} requests",
-            ran_with_lines(state, one.definitions, asked, known),
-            (0, wanted, replies, b""),
+            f"room: lines after {first} requests",
+            ran_with_lines(state, conversation.definitions, questions, known),
+            (0, expected, replies, b""),
         )
 
 
 def edges(state):
-    """The last byte of the room is used, and no more; a log has room for four sagas of the greatest definition that there is."""
+    """Fill logs to their last byte. A log has room for four sagas of the greatest definition."""
     for number, (first, second, fits) in enumerate(EDGES):
-        one = Followed(
+        conversation = Conversation(
             state,
             f"edge{number}",
             [large(state, f"first{number}", *first), large(state, f"second{number}", *second)],
         )
-        one.ask(opening(0), opening(0), opening(0), opening(0))
-        state.expect(f"room: the edge {number}", one.ask(opening(1)) != LOG_FULL, fits)
-        one.end()
-    greatest = Followed(
+        conversation.ask(opening(0), opening(0), opening(0), opening(0))
+        state.expect(f"room: the edge {number}", conversation.ask(opening(1)) != LOG_FULL, fits)
+        conversation.end()
+    greatest = Conversation(
         state,
         "greatest",
         [large(state, "greatest", 1024, 8192, tries="tries = 9\nundo_tries = 9\n")],
@@ -1310,26 +1387,33 @@ def edges(state):
     return 5 * len(EDGES) + 5
 
 
-# A saga of a start, fifty items that need it, and a step that needs them all. While an item is left, it is cheaper to run it than to do without.
+# A saga of a start, fifty items that need it, and a step that needs all items. To run an item costs
+# less than to skip it.
 ITEMS = 50
 
 
 def crowded(state):
-    """The definition of such a saga."""
+    """Write the definition of such a saga, and return its path."""
     items = "".join(
         f'[[step]]\nname = "item{item}"\nneeds = ["start"]\nskip = 1_000_000\n'
         for item in range(ITEMS)
     )
     names = ", ".join(f'"item{item}"' for item in range(ITEMS))
     path = state.folder / "crowd.toml"
-    text = f'format = 2\nname = "crowd"\n[[step]]\nname = "start"\nundo = 1\nkeep = 900_000\n{items}[[step]]\nname = "join"\nneeds = [{names}]\n'
+    text = (
+        'format = 2\nname = "crowd"\n[[step]]\nname = "start"\nundo = 1\nkeep = 900_000\n'
+        f'{items}[[step]]\nname = "join"\nneeds = [{names}]\n'
+    )
     path.write_text(text, encoding="utf-8")
     return path
 
 
 def failing(saga):
-    """The requests by which a saga of a crowd ends in the worst way: each item but one fails, one after the other, each failure is planned, it is aborted,
-    and the compensation of its start fails too."""
+    """Return the requests by which a saga of a crowd ends in the worst way.
+
+    Each item except one fails, one after another, and each failure is planned. Then the saga is
+    aborted, and the compensation of its start fails too.
+    """
     take, planned = {"do": "take", "saga": saga}, [{"do": "take", "saga": saga}]
     failed = [
         [take | {"step": item}, report(saga, item, "fail"), *planned] for item in range(1, ITEMS)
@@ -1344,7 +1428,7 @@ def failing(saga):
 
 
 def crowd(state):
-    """A thousand sagas of 52 steps are open in one log. All of them fail in the worst way, in turn, and end: the log takes every line."""
+    """End a thousand sagas of 52 steps in the worst way. The log has room for every line."""
     definition, log = crowded(state), state.folder / "crowd.log"
     requests = [
         line_of(opening(0)) * 1000,
@@ -1352,15 +1436,15 @@ def crowd(state):
         line_of({"do": "status"}),
     ]
     status, replies, wrong = state.ran([definition], log, b"".join(requests), seconds=600)
-    told = replies.splitlines()
+    answers = replies.splitlines()
     state.expect("crowd: the end", (status, wrong), (0, b""))
     state.expect(
         "crowd: refused",
-        [line for line in told if line.startswith((b'{"refused"', b'{"fault"'))][:1],
+        [line for line in answers if line.startswith((b'{"refused"', b'{"fault"'))][:1],
         [],
     )
     events = 1000 * (1 + 2 + 2 * (ITEMS - 1) + 3 + 2 * (ITEMS + 1))
-    wanted = {
+    expected = {
         "definitions": ["crowd"],
         "ended": 1000,
         "events": events,
@@ -1368,9 +1452,9 @@ def crowd(state):
         "room": 0,
         "stuck": 0,
     }
-    state.expect("crowd: how all stand", json.loads(told[-1]), wanted)
+    state.expect("crowd: the status", json.loads(answers[-1]), expected)
     state.audited(log, [definition])
-    return len(told)
+    return len(answers)
 
 
 START, DROP = b'{"event":"start_plan","saga":0}\n', b'{"event":"drop_plan","saga":0}\n'
@@ -1380,8 +1464,11 @@ PLANS = 8192
 
 
 def filled(state, log, left):
-    """A log of two sagas, of which plans of the first were begun and dropped, with blanks before the first event, until so many bytes are left of the
-    most that a log may have. Gives its bytes."""
+    """Write a log that is full except for `left` bytes, and return its size.
+
+    It has two sagas. Plans of the first one were started and dropped, and blanks precede the first
+    event.
+    """
     begun = b"".join(
         event.encode() + b"\n"
         for event in map(
@@ -1400,15 +1487,15 @@ def filled(state, log, left):
     return log.stat().st_size
 
 
-def behind(log, size):
-    """What a log has behind so many bytes."""
+def tail_of(log, size):
+    """Return the bytes of a log from an offset."""
     with log.open("rb") as file:
         file.seek(size)
         return file.read()
 
 
 def full(state):
-    """A log that is filled to its last byte: what fits is written and told, and what does not is neither, not in part."""
+    """Fill a log to its last byte. An event that does not fit is neither written nor reported."""
     pair = state.defined("pair")
     log = state.folder / "full.log"
     line = line_of({"event": "abort", "saga": 1})
@@ -1416,44 +1503,46 @@ def full(state):
     aborted = {"event": {"event": "abort", "saga": 1}, "phase": "draining"}
     for left, more in [(len(line), True), (len(line) - 1, False)]:
         before = filled(state, log, left)
-        beside(log).unlink(missing_ok=True)
-        one = Driven(state, pair, log)
+        definitions_file(log).unlink(missing_ok=True)
+        driven = Driven(state, pair, log)
         state.expect(
-            f"full: an abort where {left} bytes are left",
-            one.ask(aborting(1)),
+            f"full: an abort with {left} bytes left",
+            driven.ask(aborting(1)),
             aborted if more else None,
         )
-        state.expect(f"full: the next task where {left} bytes were left", one.ask(NEXT), None)
-        state.expect(f"full: the end where {left} bytes were left", one.end(), (4, wrong))
+        state.expect(f"full: the next task with {left} bytes left", driven.ask(NEXT), None)
+        state.expect(f"full: the end with {left} bytes left", driven.end(), (4, wrong))
         state.expect(
-            f"full: what was written where {left} bytes were left",
-            behind(log, before),
+            f"full: the written bytes with {left} bytes left",
+            tail_of(log, before),
             line if more else b"",
         )
         state.expect(
-            f"full: a start where {left} bytes were left", state.ran(pair, log, b""), (0, b"", b"")
+            f"full: a start with {left} bytes left", state.ran(pair, log, b""), (0, b"", b"")
         )
     log.unlink()
     return 4
 
 
 def unlimited(state, definitions):
-    """Without a log sagas of any size are opened, a thousand of them."""
-    asked = line_of(opening(0)) * 1001
-    wanted = b"".join(line_of(opened(saga)) for saga in range(1000)) + line_of({"refused": "full"})
+    """Open a thousand sagas of any size without a log."""
+    questions = line_of(opening(0)) * 1001
+    expected = b"".join(line_of(opened(saga)) for saga in range(1000)) + line_of(
+        {"refused": "full"}
+    )
     state.expect(
         "room: without a log",
-        state.ran([large(state, "whole", 1024, 8192), *definitions], None, asked),
-        (0, wanted, b""),
+        state.ran([large(state, "whole", 1024, 8192), *definitions], None, questions),
+        (0, expected, b""),
     )
     return 1001
 
 
-# ---- what of a log is on the disk
+# ---- the durable part of a log
 
 
 class Disk:
-    """What of a log is on the disk, whatever comes, as the library of tests/power.c notes it."""
+    """The durable part of a log, as the library of tests/power.c notes it."""
 
     def __init__(self, state, log, kept=0):
         self.library, self.log = state.libraries / "power.so", log
@@ -1462,14 +1551,13 @@ class Disk:
         self.note(kept)
 
     def note(self, kept):
-        """So many bytes are on the disk; of a log that is there its name is, too."""
-        self.known.write_text(
-            f"kept {kept:12} named {int(self.log.exists())} beside {int(beside(self.log).exists())} early 0\n"
-        )
+        """Note that `kept` bytes are durable, and the name of the log if it exists."""
+        log, definitions = (int(path.exists()) for path in (self.log, definitions_file(self.log)))
+        self.known.write_text(f"kept {kept:12} named {log} beside {definitions} early 0\n")
         self.image.unlink(missing_ok=True)
 
     def settings(self, stop=0):
-        """What lets a program note it, and end before a call."""
+        """Return the settings of the library, which notes the state, and stops before a call."""
         return {
             "LD_PRELOAD": str(self.library),
             "LOG": str(self.log),
@@ -1477,27 +1565,36 @@ class Disk:
             "STOP": str(stop),
         }
 
-    def beside_wrong(self, wanted):
-        """What is wrong with the file of definitions, which is there as a whole or not at all, and is on the disk before an event."""
-        words = self.known.read_text().split()
-        found = beside(self.log).read_bytes() if beside(self.log).exists() else None
-        if words[7] != "0":
+    def definitions_fault(self, expected):
+        """Return the fault of the file of definitions, if any.
+
+        It exists as a whole or not, and is durable before an event.
+        """
+        fields = self.known.read_text().split()
+        actual = (
+            definitions_file(self.log).read_bytes() if definitions_file(self.log).exists() else None
+        )
+        if fields[7] != "0":
             return "it was not on the disk before an event, or got its name before its bytes"
-        return "" if found == wanted or found is None and words[5] == "0" else f"it is {found}"
+        return (
+            "" if actual == expected or actual is None and fields[5] == "0" else f"it is {actual}"
+        )
 
     def may_be(self):
-        """All that the log may be if power goes off now: what is on the disk, with each beginning of what was not synced; the same of
-        what it was before a cut that was not synced; and no file, where its name is not on the disk.
+        """Return all possible contents of the log after a power failure.
+
+        It has its durable part, and any prefix of the rest. The same holds for the state before a
+        cut that was not synced. If its name is not durable, the log may not exist.
         """
-        words = self.known.read_text().split()
-        kept, named = int(words[1]), words[3] == "1"
+        fields = self.known.read_text().split()
+        kept, named = int(fields[1]), fields[3] == "1"
         files = [file.read_bytes() for file in (self.log, self.image) if file.exists()]
         return [text[:end] for text in files for end in range(kept, len(text) + 1)] + (
             [] if named else [None]
         )
 
     def leave(self, text):
-        """Power went off, and that is left, all of it on the disk."""
+        """Set the content of the log after a power failure; all of it is durable."""
         if text is None:
             self.log.unlink(missing_ok=True)
         else:
@@ -1505,13 +1602,13 @@ class Disk:
         self.note(len(text or b""))
 
 
-def beside(log):
-    """The file of definitions beside a log."""
+def definitions_file(log):
+    """Return the path of the file of definitions of a log."""
     return log.with_name(f"{log.name}.definitions")
 
 
 def file_of(definitions):
-    """What that file has."""
+    """Return the content of the file of definitions."""
     texts = [pathlib.Path(path).read_bytes() for path in definitions]
     return b"".join(b"definition of %d bytes\n%b\n" % (len(text), text) for text in texts)
 
@@ -1522,33 +1619,32 @@ CHAINS = ["chain3", "chain6", "pair", "must"]
 OF_A_BOOK = 24
 
 
-def outcome_of(one):
-    """How a task ends: by its saga, step, action and attempt alone."""
-    key = f"{one['saga']} {one['step']} {one['task']} {one['attempt']}"
+def outcome_of(busy_task):
+    """Return the outcome of a task, which depends only on its saga, step, action and attempt."""
+    key = f"{busy_task['saga']} {busy_task['step']} {busy_task['task']} {busy_task['attempt']}"
     return "fail" if zlib.crc32(key.encode()) % 4 == 0 else "ok"
 
 
 class Load:
-    """A client that opens sagas and drives them to their end, several requests together, through any number of starts."""
+    """A client that opens sagas and executes them, over any number of restarts of the program."""
 
     def __init__(self, state, log, draw):
         self.state, self.log, self.draw = state, log, draw
         self.definitions = state.defined(*CHAINS, "trip")
         self.base = []
-        self.told = []
+        self.reported = []
         self.sure = []
         self.disk = Disk(state, log) if state.libraries else None
 
     def start(self):
-        """Starts the program on what is in the log, and takes up what was begun."""
+        """Start the program on the log, and continue its sagas."""
         before = whole_lines(self.log)
-        while (
-            before and b'"start_plan"' in before[-1]
-        ):  # its adopt was cut off: the plan is made anew
+        # The adoption of a last plan was cut off, so the plan is made again.
+        while before and b'"start_plan"' in before[-1]:
             before.pop()
         cut = self.log.exists() and self.log.read_bytes()[sum(map(len, before)) :]
         self.base = [line for line in before if line != HEADER]
-        self.told = []
+        self.reported = []
         self.line = f"sagas: log: cut line taken away: {len(cut)} bytes\n" if cut else ""
         self.sagas = sum(b'"open"' in line for line in self.base)
         self.child = Driven(
@@ -1559,21 +1655,24 @@ class Load:
         self.started = False
 
     def batch(self):
-        """Requests that are sent together."""
+        """Return the requests that are sent together."""
         if not self.started:
             return [BUSY]
         requests = [
             opening((self.sagas + number) % len(self.definitions))
             for number in range(min(3, OF_A_BOOK - self.sagas))
         ]
-        requests += [report(one["saga"], one["step"], outcome_of(one)) for one in self.tasks]
+        requests += [
+            report(busy_task["saga"], busy_task["step"], outcome_of(busy_task))
+            for busy_task in self.tasks
+        ]
         requests += [NEXT] * self.draw.randint(1, 6)
         return requests
 
     def take(self, replies):
-        """Takes replies, in their order."""
+        """Apply replies in their order."""
         for reply in replies:
-            self.told += events_of(reply)
+            self.reported += events_of(reply)
             if "busy" in reply:
                 self.started, self.tasks = True, reply["busy"]
             elif reply.get("task") in ("run", "undo"):
@@ -1581,9 +1680,9 @@ class Load:
             elif "step" in reply.get("event", {}):
                 ended = reply["event"]
                 self.tasks = [
-                    one
-                    for one in self.tasks
-                    if (one["saga"], one["step"]) != (ended["saga"], ended["step"])
+                    busy_task
+                    for busy_task in self.tasks
+                    if (busy_task["saga"], busy_task["step"]) != (ended["saga"], ended["step"])
                 ]
             elif "def" in reply.get("event", {}):
                 self.sagas += 1
@@ -1593,46 +1692,50 @@ class Load:
                 self.state.fail("kills: refused:", reply)
 
     def step(self):
-        """One batch and its replies."""
+        """Send a batch, and apply its replies."""
         requests = self.batch()
         self.settled = False
         self.child.send(*requests)
         self.take(filter(None, (self.child.reply() for _ in requests)))
 
     def killed(self):
-        """Sends one batch more, kills the program at some moment of it, and looks at the log."""
+        """Send a batch, kill the program at some moment, and check the log."""
         if self.draw.random() < 0.9:
             self.child.send(*self.batch())
             time.sleep(self.draw.choice([0, 0.0002, 0.001, 0.003]) * self.draw.random())
         self.take(self.child.kill())
-        self.look(self.base + self.told)
+        self.look(self.base + self.reported)
         if self.disk and self.draw.random() < 0.5:
-            # power goes off as well: what was told, and all that it rests on, is there
-            self.sure = self.base + self.told if self.started else self.sure
+            # With a power failure too: the log has all acknowledged events, and those before.
+            self.sure = self.base + self.reported if self.started else self.sure
             self.disk.leave(self.draw.choice(self.disk.may_be()))
             self.look(self.sure)
 
     def look(self, sure):
-        """These events are in the log, in their order: those told, behind what was there at the start; and the log is legal."""
+        """Check that the log is legal, and begins with these events."""
         self.state.expect(
             "kills: the log after a kill", whole_lines(self.log)[1:][: len(sure)], sure
         )
         self.state.audited(self.log, self.definitions)
 
     def end(self):
-        """Ends the program; gives each saga's story and how it stands."""
-        stands = [self.child.ask(shown(saga)) for saga in range(OF_A_BOOK)]
+        """End the program, and return the state and the events of each saga."""
+        shown_states = [self.child.ask(shown(saga)) for saga in range(OF_A_BOOK)]
         self.state.expect("kills: the end of a book", self.child.end(), (0, self.line))
-        self.look(self.base + self.told)
+        self.look(self.base + self.reported)
         stories = [[] for _ in range(OF_A_BOOK)]
         for line in whole_lines(self.log)[1:]:
-            told_event = json.loads(line)
-            stories[told_event["saga"]].append(told_event)
-        return stands, stories
+            event_of_line = json.loads(line)
+            stories[event_of_line["saga"]].append(event_of_line)
+        return shown_states, stories
 
 
 def driven_to_its_end(state, log, draw, kills):
-    """Drives a book, with at most so many kills; gives how many there were, and how the sagas stand and their stories."""
+    """Execute the sagas of a book, with at most `kills` kills.
+
+    Returns:
+        The number of kills, and the states and events of the sagas.
+    """
     load = Load(state, log, draw)
     load.start()
     count = 0
@@ -1649,7 +1752,7 @@ def driven_to_its_end(state, log, draw, kills):
 
 
 def kills(state):
-    """Kills at random moments, also while requests are under way: nothing that was told is lost, and all sagas end as without kills."""
+    """Kill at random moments. No reported event is lost, and all sagas end as without kills."""
     draw = random.Random(state.seed)
     folder = state.folder / "kills"
     folder.mkdir()
@@ -1657,17 +1760,16 @@ def kills(state):
     count = books = 0
     while count < state.kills and not state.wrong:
         log = folder / f"killed{books}.log"
-        found, book = driven_to_its_end(state, log, draw, state.kills - count)
-        count, books = count + found, books + 1
+        actual, book = driven_to_its_end(state, log, draw, state.kills - count)
+        count, books = count + actual, books + 1
         if book is None or whole is None:
             break
-        for saga, (now, then, story, wanted) in enumerate(
+        for saga, (now, then, story, expected) in enumerate(
             zip(book[0], whole[0], book[1], whole[1])
         ):
-            if saga % (len(CHAINS) + 1) < len(
-                CHAINS
-            ):  # of a chain each step waits for the one before, so there is one story
-                state.expect(f"kills: saga {saga}", (now, story), (then, wanted))
+            # The steps of a chain run in order, so there is only one sequence of events.
+            if saga % (len(CHAINS) + 1) < len(CHAINS):
+                state.expect(f"kills: saga {saga}", (now, story), (then, expected))
             elif now["phase"] not in ("ended", "stuck"):
                 state.fail(f"kills: saga {saga}: {now}")
     return count, f"kills of {books} books"
@@ -1677,8 +1779,11 @@ def kills(state):
 
 
 def stopped(state, disk, requests, stop):
-    """The program is ended before a call, or ends with the requests, each of which is sent once the one before is replied to; gives the
-    replies, and whether it was ended."""
+    """Send requests one by one to a program that stops before a call.
+
+    Returns:
+        The replies, and whether the program was stopped.
+    """
     driven = Driven(state, state.defined("pair"), disk.log, disk.settings(stop))
     replies = []
     for request in requests:
@@ -1689,28 +1794,31 @@ def stopped(state, disk, requests, stop):
     with contextlib.suppress(BrokenPipeError):
         driven.child.stdin.close()
     replies += driven.rest()
-    status, said = driven.end()
+    status, errors = driven.end()
     if status not in (0, -signal.SIGKILL):
-        state.fail(f"power: status {status}: {said}")
+        state.fail(f"power: status {status}: {errors}")
     return replies, status != 0
 
 
 def left_whole(state, disk, name, sure):
-    """Whatever power leaves of the log, another start makes of it a log that begins with these lines; gives how many were tried."""
+    """Restart on each possible log after a power failure, and return their number.
+
+    Each log then begins with these lines.
+    """
     left = disk.may_be()
     for number, text in enumerate(left):
-        place = disk.log.with_name(f"{disk.log.name}.left")
-        place.unlink(missing_ok=True)
+        path = disk.log.with_name(f"{disk.log.name}.left")
+        path.unlink(missing_ok=True)
         if text is not None:
-            place.write_bytes(text)
-        status, _, _ = state.ran(state.defined("pair"), place, line_of(BUSY))
-        found = whole_lines(place)[1:][: len(sure)]
-        state.expect(f"{name}: {number} of {len(left)} left", (status, found), (0, sure))
+            path.write_bytes(text)
+        status, _, _ = state.ran(state.defined("pair"), path, line_of(BUSY))
+        actual = whole_lines(path)[1:][: len(sure)]
+        state.expect(f"{name}: {number} of {len(left)} left", (status, actual), (0, sure))
     return len(left)
 
 
 def settled_lines(log):
-    """The events that a start goes on with: without what was cut off, and without the plans that the last ones begin."""
+    """Return the events with which a start continues, without a cut line and a last plan."""
     lines = whole_lines(log)[1:]
     while lines and b'"start_plan"' in lines[-1]:
         lines.pop()
@@ -1718,8 +1826,11 @@ def settled_lines(log):
 
 
 def power_at(state, case, stop):
-    """Power goes off as the program has come to a call, in a case: what the log is at the start, how much of that is on the disk, and
-    the requests. Gives how many logs may be left, or 0 where the program ended before."""
+    """Fail the power as the program comes to a call, and return the number of possible logs.
+
+    A case is the log at the start, its durable bytes, and the requests. The number is 0 if the
+    program ended before the call.
+    """
     name, text, kept, requests = case
     disk = Disk(state, state.folder / f"power.{name}.{stop}")
     if text is not None:
@@ -1730,16 +1841,16 @@ def power_at(state, case, stop):
     replies, was_stopped = stopped(state, disk, requests, stop)
     state.expect(
         f"power: {name} at call {stop}: the file of definitions",
-        disk.beside_wrong(file_of(state.defined("pair"))),
+        disk.definitions_fault(file_of(state.defined("pair"))),
         "",
     )
-    sure = before + told(replies) if replies else sure
+    sure = before + lines_of_events(replies) if replies else sure
     count = left_whole(state, disk, f"power: {name} at call {stop}", sure)
     return count if was_stopped else 0
 
 
 def power(state):
-    """Power goes off between any two calls of the system: what was told, and all that it rests on, is in each log that may be left."""
+    """Fail the power between any two system calls. Each possible log has all reported events."""
     requests = [request for request, _ in UNDONE] + [report(0, 0, "ok"), NEXT]
     at_once = [b"".join(line_of(request) for request in requests)]
     lines = HEADER + OPEN + RUN
@@ -1760,34 +1871,37 @@ def power(state):
                 counts.append(power_at(state, case, len(counts) + 1))
             return counts
 
-        found = list(pool.map(tried, cases))
-    for case, counts in zip(cases, found):
+        actual = list(pool.map(tried, cases))
+    for case, counts in zip(cases, actual):
         if len(counts) < 10:
             state.fail(f"power: {case[0]}: {len(counts)} calls")
-    return sum(map(sum, found)), "logs left by power cuts"
+    return sum(map(sum, actual)), "logs left by power cuts"
 
 
 # ---- logs that are cut or changed
 
 
-def gone_on(state, definitions, log):
-    """Drives a book on from its log: its sagas can be settled, and the log is legal then."""
-    name = f"cuts: {log.read_bytes()[-60:]}: gone on"
+def continued(state, definitions, log):
+    """Continue a book from its log. Its sagas can end, and the log is legal then."""
+    name = f"cuts: {log.read_bytes()[-60:]}: continued"
     driven = Driven(state, definitions, log)
     tasks = driven.ask(BUSY)["busy"]
     for _ in range(100):
-        one = tasks.pop() if tasks else driven.ask(NEXT)
-        if one.get("task") in ("run", "undo"):
-            driven.ask(report(one["saga"], one["step"], "ok"))
-        elif one.get("task") == "none":
+        next_task = tasks.pop() if tasks else driven.ask(NEXT)
+        if next_task.get("task") in ("run", "undo"):
+            driven.ask(report(next_task["saga"], next_task["step"], "ok"))
+        elif next_task.get("task") == "none":
             break
-    state.expect(name, one, none(True))
+    state.expect(name, next_task, none(True))
     state.expect(name, driven.end(), (0, ""))
     state.audited(log, definitions)
 
 
 def cuts(state):
-    """A log cut at each byte, and with each byte changed: refused and left as it was, or taken up to its last whole line."""
+    """Cut a log at each byte, and change each byte.
+
+    The program refuses it and leaves it unchanged, or continues it from its last whole line.
+    """
     pair = state.defined("pair")
     whole = state.folder / "cuts.log"
     pairs = UNDONE + [
@@ -1800,44 +1914,44 @@ def cuts(state):
     status, _, _ = state.ran(pair, whole, b"".join(line_of(request) for request, _ in pairs))
     state.expect("cuts: the log", status, 0)
     text = whole.read_bytes()
-    asked = line_of(shown(0)) + line_of(shown(1)) + line_of(BUSY)
+    questions = line_of(shown(0)) + line_of(shown(1)) + line_of(BUSY)
     books = {}
 
     def taken(end):
-        """Where the lines end that are gone on with: a last line that begins a plan is taken away with what was cut off."""
+        """Return the end of the lines that are used, without a last line that begins a plan."""
         last = text.rfind(b"\n", 0, max(end - 1, 0)) + 1
         return last if b'"start_plan"' in text[last:end] else end
 
     def noted(count):
         return f"sagas: log: cut line taken away: {count} bytes\n".encode() if count else b""
 
-    for end in [0] + [place + 1 for place, byte in enumerate(text) if byte == 10]:
+    for end in [0] + [position + 1 for position, byte in enumerate(text) if byte == 10]:
         whole.write_bytes(text[:end])
-        found = state.ran(pair, whole, asked)
-        books[end] = (found[1], whole.read_bytes())
+        actual = state.ran(pair, whole, questions)
+        books[end] = (actual[1], whole.read_bytes())
         left = taken(end)
-        wanted = (0, noted(end - left), True)
+        expected = (0, noted(end - left), True)
         state.expect(
             f"cuts: {end} bytes",
-            (found[0], found[2], books[end][1].startswith(text[:left])),
-            wanted,
+            (actual[0], actual[2], books[end][1].startswith(text[:left])),
+            expected,
         )
-        gone_on(state, pair, whole)
+        continued(state, pair, whole)
 
     def tried(number, changed):
-        place = state.folder / f"cuts.{number}"
-        place.write_bytes(changed)
+        position = state.folder / f"cuts.{number}"
+        position.write_bytes(changed)
         end = changed.rfind(b"\n") + 1
-        found = state.ran(pair, place, asked)
-        after = place.read_bytes()
-        place.unlink()
+        actual = state.ran(pair, position, questions)
+        after = position.read_bytes()
+        position.unlink()
         if text.startswith(changed[:end]) and (end > 0 or HEADER.startswith(changed)):
             note = noted(len(changed) - taken(end))
             state.expect(
-                f"cuts: {changed[-60:]}", (found, after), ((0, books[end][0], note), books[end][1])
+                f"cuts: {changed[-60:]}", (actual, after), ((0, books[end][0], note), books[end][1])
             )
             return
-        line = found[2].decode()
+        line = actual[2].decode()
         named = (
             line == "sagas: log: no-header\n"
             or line.startswith(("sagas: log: line ", "sagas: log: no "))
@@ -1845,14 +1959,14 @@ def cuts(state):
         )
         state.expect(
             f"cuts: {line}: {changed[:80]}",
-            (found[0], found[1], named, after),
+            (actual[0], actual[1], named, after),
             (3, b"", True, changed),
         )
 
-    texts = [text[:place] for place in range(len(text))]
+    texts = [text[:position] for position in range(len(text))]
     texts += [
-        text[:place] + byte + text[place + 1 :]
-        for place in range(len(text))
+        text[:position] + byte + text[position + 1 :]
+        for position in range(len(text))
         for byte in (b"\0", b"\xff", b"}")
     ]
     with concurrent.futures.ThreadPoolExecutor(PROCESSORS) as pool:
@@ -1864,13 +1978,17 @@ def cuts(state):
 
 
 def calls_of(path):
-    """What a library told: how many calls were refused, -1 where it told nothing; and its last number."""
-    words = path.read_text().split() if path.exists() else ["", "0", "", "-1", "", "0"]
-    return int(words[3]), int(words[5])
+    """Return the refused calls and the last number of a library's report, or -1 without it."""
+    fields = path.read_text().split() if path.exists() else ["", "0", "", "-1", "", "0"]
+    return int(fields[3]), int(fields[5])
 
 
 def story(state, log, settings, at_once):
-    """A saga of `pair` is driven until the program ends, or no task is left; gives the replies, the status and the lines."""
+    """Execute sagas of `pair` until the program ends or no task is left.
+
+    Returns:
+        The replies, the status and the text on standard error.
+    """
     driven = Driven(state, state.defined("pair"), log, settings)
     requests = [request for request, _ in UNDONE] + [
         report(0, 0, "ok"),
@@ -1895,23 +2013,26 @@ def story(state, log, settings, at_once):
     return replies, *driven.end()
 
 
-# Which calls of a kind a first start makes for the file of definitions.
+# The calls of a kind that a first start makes for the file of definitions.
 DEFINING = {"write": [1], "half": [1], "sync": [1, 2], "folder": [1]}
 
 
 def refusal(log, kind, number, error):
-    """The line on a refused call: on the definitions beside the log, on the log, or a read of standard input."""
+    """Return the error line of a refused call: for the definitions, the log or standard input."""
     if kind != "read":
-        return f"sagas: cannot write {beside(log) if number in DEFINING.get(kind, ()) else log}\n"
+        path = definitions_file(log) if number in DEFINING.get(kind, ()) else log
+        return f"sagas: cannot write {path}\n"
     return "sagas: out of memory\n" if error == errno.ENOMEM else "sagas: cannot read -\n"
 
 
 def refused_once(state, kind, number, error, at_once, cut):
-    """A run in which a call on the log, or a read of requests, is refused: nothing was told that is not in the log. Gives whether there
-    was such a call."""
+    """Refuse a call on the log, or a read of requests, and return whether there was such a call.
+
+    The log has the events of all replies.
+    """
     name = f"writes: {kind} {number} {errno.errorcode[error]}{' at once' if at_once else ''}"
     log = state.folder / f"writes.{kind}.{number}.{error}.{at_once}"
-    told_by = log.with_name(f"{log.name}.told")
+    report_file = log.with_name(f"{log.name}.told")
     log.write_bytes(cut)
     library = state.libraries / "unwritten.so"
     settings = {
@@ -1919,24 +2040,24 @@ def refused_once(state, kind, number, error, at_once, cut):
         "FAIL": kind,
         "NUMBER": str(number),
         "ERROR": str(error),
-        "TOLD": str(told_by),
+        "TOLD": str(report_file),
     }
-    replies, status, said_then = story(state, log, settings, at_once)
-    refusals, early = calls_of(told_by)
+    replies, status, error_text = story(state, log, settings, at_once)
+    refusals, early = calls_of(report_file)
     if refusals < 0:
-        return state.fail(f"{name}: status {status}: {said_then}") or False
+        return state.fail(f"{name}: status {status}: {error_text}") or False
     state.expect(f"{name}: replies before a sync", early, 0)
     note = f"sagas: log: cut line taken away: {len(cut) - cut.rfind(LF) - 1} bytes\n" if cut else ""
     if refusals != 0:
         state.expect(
-            name, (refusals > 0, status, said_then), (True, 4, refusal(log, kind, number, error))
+            name, (refusals > 0, status, error_text), (True, 4, refusal(log, kind, number, error))
         )
         if cut and not replies and log.read_bytes() == cut:
             return True
     else:
-        state.expect(f"{name}, {told_by.read_text()}", (status, said_then), (0, note))
+        state.expect(f"{name}, {report_file.read_text()}", (status, error_text), (0, note))
     kept = whole_lines(log)[1:]
-    lines = told(replies)
+    lines = lines_of_events(replies)
     state.expect(f"{name}: the log", kept[: len(lines)], lines)
     driven = Driven(state, state.defined("pair"), log)
     driven.ask(BUSY)
@@ -1946,9 +2067,8 @@ def refused_once(state, kind, number, error, at_once, cut):
         (status, line if not line.startswith("sagas: log: cut line taken away: ") else ""),
         (0, ""),
     )
-    left = (
-        kept[:-1] if kept and b'"start_plan"' in kept[-1] else kept
-    )  # a plan that its last line begins is made anew
+    # The plan of a last line is made again.
+    left = kept[:-1] if kept and b'"start_plan"' in kept[-1] else kept
     state.expect(f"{name}: the log after it", whole_lines(log)[1:], left)
     state.audited(log, state.defined("pair"))
     return refusals != 0
@@ -1956,14 +2076,16 @@ def refused_once(state, kind, number, error, at_once, cut):
 
 LF = b"\n"
 
-# How many calls of a kind there are, by whether all requests come at once: then the definitions, their folder, the header, its folder and all
-# events have one sync each.
+# The number of calls of a kind, by whether all requests come at once. Then the definitions, their
+# folder, the header, its folder and all events have one sync each.
 CALLS = {("folder", False): 2, ("sync", True): 5}
 
 
 def writes(state):
-    """Each write, sync and cut of the log's file, the sync of its folder and each read of requests is refused in turn, with one request at
-    a time and with all at once."""
+    """Refuse each write, sync and cut of the log, the sync of its folder and each read in turn.
+
+    The requests come one at a time, or all at once.
+    """
     refused = 0
     cases = [
         (kind, error, at_once, b"")
@@ -1986,8 +2108,8 @@ def writes(state):
         return state.fail(f"writes: {kind} without end") or 0
 
     with concurrent.futures.ThreadPoolExecutor(PROCESSORS) as pool:
-        found = list(pool.map(tried, cases))
-    for case, count in zip(cases, found):
+        actual = list(pool.map(tried, cases))
+    for case, count in zip(cases, actual):
         if count == 0:
             state.fail("writes: none was refused:", case)
         state.expect(f"writes: calls of {case}", count, CALLS.get((case[0], case[2]), count))
@@ -1996,40 +2118,43 @@ def writes(state):
 
 
 def events_in(log):
-    """What a log has behind its header, which may not be there yet."""
+    """Return the bytes of a log after its header, which may not exist yet."""
     return log.read_bytes().removeprefix(HEADER) if log.exists() else b""
 
 
-def memory_once(state, number, the_rest, wanted):
-    """A run in which a growth of memory is refused, or all from it on: each reply is right, or says so and changes nothing."""
+def memory_once(state, number, the_rest, expected):
+    """Refuse a growth of memory, or all from it on, and return whether it was refused.
+
+    Each reply is right, or reports the refusal and changes nothing.
+    """
     name = f"memory: growth {number}{' and the rest' if the_rest else ''}"
     log = state.folder / f"memory.{number}.{the_rest}"
-    told_by = log.with_name(f"{log.name}.told")
+    report_file = log.with_name(f"{log.name}.told")
     settings = {
         "LD_PRELOAD": str(state.libraries / "refusing.so"),
         "COUNT": "all",
         "REFUSE": str(number),
-        "TOLD": str(told_by),
+        "TOLD": str(report_file),
     }
     driven = Driven(
         state, state.defined("pair"), log, settings | ({"REST": "1"} if the_rest else {})
     )
     replies, faults = [], 0
-    for request, reply in wanted:
+    for request, reply in expected:
         before = events_in(log)
-        found = driven.ask(request)
-        if found == NO_MEMORY:
+        actual = driven.ask(request)
+        if actual == NO_MEMORY:
             faults += 1
             state.expect(f"{name}: {request}: the log", events_in(log), before)
             if the_rest:
                 break
-            found = driven.ask(request)
-        if found is None:
+            actual = driven.ask(request)
+        if actual is None:
             break
-        replies.append(found)
-        state.expect(f"{name}: {request}", found, reply)
+        replies.append(actual)
+        state.expect(f"{name}: {request}", actual, reply)
     status, line = driven.end()
-    refusals, _ = calls_of(told_by)
+    refusals, _ = calls_of(report_file)
     if refusals < 0:
         return state.fail(f"{name}: status {status}: {line}") or False
     started = line != "sagas: out of memory\n"
@@ -2040,64 +2165,78 @@ def memory_once(state, number, the_rest, wanted):
         state.fail(f"{name}: it ended after replies")
     if refusals == 0 and faults:
         state.fail(f"{name}: no growth was refused")
-    state.expect(f"{name}: the log", events_in(log), b"".join(told(replies)))
+    state.expect(f"{name}: the log", events_in(log), b"".join(lines_of_events(replies)))
     log.unlink(missing_ok=True)
-    told_by.unlink(missing_ok=True)
+    report_file.unlink(missing_ok=True)
     return refusals > 0
 
 
-# How many sagas begin a task each: one reply that tells of all of them grows more than once.
+# The number of sagas that start a task each: the reply with all of them grows more than once.
 TOGETHER = 12
 
 
 def many_refused_once(state, number, the_rest):
-    """A run in which a growth of memory is refused, or all from it on, while many tasks are asked for at once: those that have begun are
-    told, and each once. Gives whether there was such a growth, and whether it came in the middle.
+    """Refuse a growth of memory, or all from it on, during a request for many tasks.
+
+    The replies have each started task once.
+
+    Returns:
+        Whether the growth was refused, and whether it came after some tasks.
     """
     name = f"memory: many tasks, growth {number}{' and the rest' if the_rest else ''}"
     log = state.folder / f"many.{number}.{the_rest}"
-    told_by = log.with_name(f"{log.name}.told")
+    report_file = log.with_name(f"{log.name}.told")
     settings = {
         "LD_PRELOAD": str(state.libraries / "refusing.so"),
         "COUNT": "all",
         "REFUSE": str(number),
-        "TOLD": str(told_by),
+        "TOLD": str(report_file),
     }
     driven = Driven(
         state, state.defined("pair"), log, settings | ({"REST": "1"} if the_rest else {})
     )
-    opened_ones, tasks, faults, cut = 0, [], 0, False
-    while opened_ones < TOGETHER or tasks[-1:] != [task("run", TOGETHER - 1, 0, "a")]:
+    opened_count, tasks, faults, cut = 0, [], 0, False
+    while opened_count < TOGETHER or tasks[-1:] != [task("run", TOGETHER - 1, 0, "a")]:
         before = events_in(log)
-        found = driven.ask(opening(0) if opened_ones < TOGETHER else many(64))
-        if found == NO_MEMORY:
-            state.expect(f"{name}: the log of a request that lacked memory", events_in(log), before)
+        actual = driven.ask(opening(0) if opened_count < TOGETHER else many(64))
+        if actual == NO_MEMORY:
+            state.expect(f"{name}: the log of a request without memory", events_in(log), before)
             faults += 1
-        elif found is not None and "tasks" in found:
-            tasks += found["tasks"]
-            cut = cut or "settled" not in found
-        elif found is not None:
-            opened_ones += 1
-        if found is None or (faults and the_rest):
+        elif actual is not None and "tasks" in actual:
+            tasks += actual["tasks"]
+            cut = cut or "settled" not in actual
+        elif actual is not None:
+            opened_count += 1
+        if actual is None or (faults and the_rest):
             break
     status, line = driven.end()
-    refusals, _ = calls_of(told_by)
+    refusals, _ = calls_of(report_file)
     if status == 0:
         state.expect(
             f"{name}: tasks",
             tasks,
             [task("run", saga, 0, "a") for saga in range(len(tasks) if faults else TOGETHER)],
         )
-        state.expect(f"{name}: the log", events_in(log).splitlines(True)[opened_ones:], told(tasks))
+        state.expect(
+            f"{name}: the log",
+            events_in(log).splitlines(True)[opened_count:],
+            lines_of_events(tasks),
+        )
     else:
         state.expect(f"{name}: the end", (status, line, tasks), (4, "sagas: out of memory\n", []))
     log.unlink(missing_ok=True)
-    told_by.unlink(missing_ok=True)
+    report_file.unlink(missing_ok=True)
     return refusals > 0, cut
 
 
 def many_refused(state):
-    """Each growth of memory is refused in turn while many tasks are asked for at once, alone and with all behind it; gives how many were."""
+    """Refuse each growth of memory in turn during requests for many tasks.
+
+    It is refused alone, or with all later ones.
+
+    Returns:
+        The number of refused growths.
+    """
     refused, cut = 0, False
     with concurrent.futures.ThreadPoolExecutor(PROCESSORS) as pool:
         for the_rest in (False, True):
@@ -2112,12 +2251,12 @@ def many_refused(state):
                 cut = cut or any(of_one for _, of_one in tried)
                 if not all(met for met, _ in tried):
                     break
-    state.expect("memory: many tasks: growths that came in the middle", cut, True)
+    state.expect("memory: many tasks: growths after some tasks", cut, True)
     return refused
 
 
 def memory(state):
-    """Each growth of memory is refused in turn, alone and with all behind it."""
+    """Refuse each growth of memory in turn, alone and with all later ones."""
     requests = [request for request, _ in UNDONE] + [
         report(0, 0, "ok"),
         opening(0),
@@ -2129,14 +2268,14 @@ def memory(state):
     ]
     requests += [opening(0), {"do": "ready"}, {"do": "list"}, {"do": "status"}, shown(0)]
     _, replies, _ = state.ran(state.defined("pair"), None, b"".join(map(line_of, requests)))
-    wanted = list(zip(requests, map(json.loads, replies.splitlines())))
+    expected = list(zip(requests, map(json.loads, replies.splitlines())))
     refused = 0
     with concurrent.futures.ThreadPoolExecutor(PROCESSORS) as pool:
         for the_rest in (False, True):
             for first in range(0, 5000, 64):
                 met = list(
                     pool.map(
-                        lambda number: memory_once(state, number, the_rest, wanted),
+                        lambda number: memory_once(state, number, the_rest, expected),
                         range(first, first + 64),
                     )
                 )
@@ -2154,7 +2293,7 @@ LOCKED = (4, b"", b"sagas: log: locked\n")
 
 
 def lock(state):
-    """A second process on the same log is refused, and the first goes on; then another one may have it."""
+    """Start a second process on a log. It is refused until the first one has ended."""
     pair, log = state.defined("pair"), state.folder / "lock.log"
     driven = Driven(state, pair, log)
     state.expect("lock: the first", driven.ask(opening(0)), opened(0))
@@ -2163,7 +2302,7 @@ def lock(state):
     (state.folder / "link.log").symlink_to(log)
     state.expect("lock: by a link", state.ran(pair, state.folder / "link.log", b""), LOCKED)
     state.expect("lock: the log", log.read_bytes(), before)
-    state.expect("lock: the first goes on", driven.ask(NEXT), task("run", 0, 0, "a"))
+    state.expect("lock: the first continues", driven.ask(NEXT), task("run", 0, 0, "a"))
     state.expect("lock: the end of the first", driven.end(), (0, ""))
     state.expect(
         "lock: after it",
@@ -2177,7 +2316,7 @@ def lock(state):
 
 
 def run_of(state, log, definitions):
-    """Runs definitions with a log; gives status, output and errors."""
+    """Run definitions with a log, and return the status, the output and the errors."""
     done = subprocess.run(
         [state.program, "run", "--log", log, *definitions],
         capture_output=True,
@@ -2188,9 +2327,9 @@ def run_of(state, log, definitions):
 
 
 def refused_runs(state, pair, log):
-    """A run whose log a drive or a reader holds is refused, by its path or by a link, before anything is run or written."""
+    """Run on a log that another process holds. The run is refused before it writes anything."""
     driven = Driven(state, pair, log)
-    # (its first answer says that it holds the log)
+    # After its first reply it holds the log.
     state.expect(
         "lock: the drive before the runs", driven.ask(BUSY), {"busy": [task("run", 0, 0, "a")]}
     )
@@ -2200,14 +2339,14 @@ def refused_runs(state, pair, log):
         state.expect(f"lock: the log after a run by {name}", log.read_bytes(), before)
     bad = state.folder / "bad.toml"
     bad.write_text("x")
-    state.expect("lock: a run of a text that is no definition", run_of(state, log, [bad]), LOCKED)
+    state.expect("lock: a run of an invalid definition", run_of(state, log, [bad]), LOCKED)
     none = state.folder / "none"
     state.expect(
         "lock: a run without a file",
         run_of(state, log, [none]),
         (4, b"", f"sagas: cannot read {none}\n".encode()),
     )
-    state.expect("lock: the drive goes on", driven.ask(BUSY), {"busy": [task("run", 0, 0, "a")]})
+    state.expect("lock: the drive continues", driven.ask(BUSY), {"busy": [task("run", 0, 0, "a")]})
     state.expect("lock: the end of the drive", driven.end(), (0, ""))
     with log.open("rb") as file:
         fcntl.flock(file, fcntl.LOCK_SH)
@@ -2223,7 +2362,7 @@ def refused_runs(state, pair, log):
 
 
 def full_pipe():
-    """A pipe that takes no more until it is read."""
+    """Return a full pipe."""
     out, into = os.pipe()
     os.set_blocking(into, False)
     with contextlib.suppress(BlockingIOError):
@@ -2234,13 +2373,16 @@ def full_pipe():
 
 
 def is_held(log):
-    """Whether a process holds a log; asked of the kernel, since to try its lock would refuse it to others."""
+    """Return whether a process holds a log, by the kernel's list of locks.
+
+    A trial of the lock would refuse it to others.
+    """
     held = pathlib.Path("/proc/locks").read_text().split("\n")
     return any("FLOCK" in line and f":{log.stat().st_ino} " in line for line in held)
 
 
 def held_by_a_run(state, pair, log):
-    """A run holds its log until it has written it: a drive and another run are refused, and the file is as it was until then."""
+    """Hold a log by a run. A drive and another run are refused until the run has written it."""
     before = log.read_bytes() + b"{"
     log.write_bytes(before)
     out, into = full_pipe()
@@ -2251,8 +2393,8 @@ def held_by_a_run(state, pair, log):
     patience = time.monotonic() + 60
     while not is_held(log) and child.poll() is None and time.monotonic() < patience:
         time.sleep(0.01)
-    state.expect("lock: a drive beside a run", state.ran(pair, log, b""), LOCKED)
-    state.expect("lock: a run beside a run", run_of(state, log, pair), LOCKED)
+    state.expect("lock: a drive during a run", state.ran(pair, log, b""), LOCKED)
+    state.expect("lock: a run during a run", run_of(state, log, pair), LOCKED)
     state.expect("lock: the log before the report is taken", log.read_bytes(), before)
     with open(out, "rb") as report:
         report.read()
@@ -2268,7 +2410,7 @@ def held_by_a_run(state, pair, log):
 
 SERVICES = [["python3", EXAMPLES / "booking.py"], ["node", EXAMPLES / "booking.js"]]
 
-# The same services over bookings that take each request, and answer it only when it is asked again.
+# The same services, with bookings that execute each request, and reply only to its repetition.
 LATE = [
     [
         "python3",
@@ -2309,7 +2451,10 @@ main(process.argv[2]);
 
 
 def serve(state, service, folder, lines=None):
-    """Runs the service in a folder, and kills it, with its child, once it has printed so many lines; gives what it printed."""
+    """Run the service in a folder, and return its lines.
+
+    After `lines` lines it is killed, with its child.
+    """
     settings = os.environ | {"SAGAS": str(state.program), "PYTHONDONTWRITEBYTECODE": "1"}
     child = subprocess.Popen(
         [*service, folder], env=settings, stdout=subprocess.PIPE, text=True, start_new_session=True
@@ -2326,54 +2471,56 @@ def serve(state, service, folder, lines=None):
     return printed
 
 
-def late(state, service, wanted):
-    """The service's bookings are answered late: what was done is not reported as failed, and nothing is booked twice."""
+def late(state, service, expected):
+    """Delay the replies of bookings. Each success is reported, and nothing is booked twice."""
     folder = state.folder / f"late{service[-1].suffix}"
     folder.mkdir()
     printed = serve(state, service, folder)
-    found = (printed[-2:], sorted(json.loads((folder / "bookings.json").read_text())))
-    state.expect(f"{service[-1].name}: late answers", found, wanted)
+    actual = (printed[-2:], sorted(json.loads((folder / "bookings.json").read_text())))
+    state.expect(f"{service[-1].name}: late answers", actual, expected)
     state.audited(folder / "trips.log", state.defined("booking"))
 
 
-def service_at(state, service, lines, wanted):
-    """The service is killed after some lines and started again: nothing is done twice, and the end is the same."""
+def service_at(state, service, lines, expected):
+    """Kill the service after some lines, and start it again. It does nothing twice."""
     folder = state.folder / f"{service[1].suffix}{lines}"
     folder.mkdir()
     serve(state, service, folder, lines)
-    with (folder / "trips.log").open("rb") as log:  # until the killed child has let go of it
+    with (folder / "trips.log").open("rb") as log:  # wait for the end of the killed child
         fcntl.flock(log, fcntl.LOCK_EX)
     printed = serve(state, service, folder)
     entries = json.loads((folder / "bookings.json").read_text())
-    found = (printed[-2:], sorted(entries))
-    state.expect(f"{service[1].name}: killed after {lines} lines", found, wanted)
+    actual = (printed[-2:], sorted(entries))
+    state.expect(f"{service[1].name}: killed after {lines} lines", actual, expected)
     state.audited(folder / "trips.log", state.defined("booking"))
     return 1
 
 
 def service(state):
-    """The examples: killed after each line that they print, they end as without it, and book nothing twice."""
+    """Kill the examples after each of their lines. They end the same, and book nothing twice."""
     runs = []
-    for one, answers_late in zip(SERVICES, LATE, strict=True):
-        if not shutil.which(one[0]):
+    for service_command, answers_late in zip(SERVICES, LATE, strict=True):
+        if not shutil.which(service_command[0]):
             continue
-        folder = state.folder / f"whole{one[1].suffix}"
+        folder = state.folder / f"whole{service_command[1].suffix}"
         folder.mkdir()
-        printed = serve(state, one, folder)
-        wanted = (printed[-2:], sorted(json.loads((folder / "bookings.json").read_text())))
+        printed = serve(state, service_command, folder)
+        expected = (printed[-2:], sorted(json.loads((folder / "bookings.json").read_text())))
         ended = [
             "trip 0: ended: committed committed committed\n",
             "trip 1: ended: committed undone failed\n",
         ]
-        state.expect(f"{one[1].name}: the end", (printed[-2:], len(wanted[1])), (ended, 6))
-        late(state, answers_late, wanted)
-        runs += [(one, lines, wanted) for lines in range(1, len(printed) - 1)]
+        state.expect(
+            f"{service_command[1].name}: the end", (printed[-2:], len(expected[1])), (ended, 6)
+        )
+        late(state, answers_late, expected)
+        runs += [(service_command, lines, expected) for lines in range(1, len(printed) - 1)]
     with concurrent.futures.ThreadPoolExecutor(PROCESSORS) as pool:
         return sum(pool.map(lambda run: service_at(state, *run), runs)), "services killed"
 
 
 SECTIONS = {
-    "said": said,
+    "said": conversations,
     "starts": starts,
     "random": random_ones,
     "lines": lines,
@@ -2389,6 +2536,7 @@ SECTIONS = {
 
 
 def main():
+    """Run the sections, and return the status."""
     parser = argparse.ArgumentParser(description=__doc__.splitlines()[0])
     parser.add_argument(
         "--program",
@@ -2402,27 +2550,25 @@ def main():
     parser.add_argument(
         "--libraries",
         type=pathlib.Path,
-        help="the folder of the preloaded libraries; without it nothing is refused, and power stays on",
+        help="the folder of the preloaded libraries (default: no refusals and power failures)",
     )
-    parser.add_argument("--only", choices=SECTIONS, help="one section alone")
-    parser.add_argument("--kills", type=int, default=50, help="how many kills")
-    parser.add_argument("--seed", type=int, default=1, help="the first seed")
-    words = parser.parse_args()
+    parser.add_argument("--only", choices=SECTIONS, help="run only this section")
+    parser.add_argument("--kills", type=int, default=50, help="the number of kills (default: 50)")
+    parser.add_argument("--seed", type=int, default=1, help="the first seed (default: 1)")
+    options = parser.parse_args()
     bad = 0
     counts = []
     for name, section in SECTIONS.items():
-        if words.only not in (None, name) or (
-            name in ("power", "writes", "memory") and not words.libraries
+        if options.only not in (None, name) or (
+            name in ("power", "writes", "memory") and not options.libraries
         ):
             continue
         with tempfile.TemporaryDirectory() as folder:
-            state = State(words, folder)
+            state = State(options, folder)
             begin = time.monotonic()
-            count, what = section(state)
-            print(
-                f"{name}: {count:,} {what}, {len(state.wrong)} wrong, {time.monotonic() - begin:.1f} s",
-                flush=True,
-            )
+            count, unit = section(state)
+            took = time.monotonic() - begin
+            print(f"{name}: {count:,} {unit}, {len(state.wrong)} wrong, {took:.1f} s", flush=True)
         for line in state.wrong[:8]:
             print(f"wrong: {line}")
         counts.append(count)

@@ -1,10 +1,15 @@
 #!/usr/bin/env python3
-"""Hostile texts through the program: each gets an answer, or one line about a fault by its name; nothing else is printed.
+"""Run the program on hostile texts: it must print an answer, or one line that names a fault.
 
-First each prefix of the examples' texts and of the shortest text of each kind, and each of these texts with one byte changed to 0, to 255
-and to `}`. Then texts that are nested deeply, have long keys, many tiny lines or many steps, needs of unknown names or numbers of a thousand
-digits, each at a size and at twice that: the program may hold 32 times a definition, a case or an answer at most, or 200 times where it is
-all small tables or objects, and 8 times a log or a script (tests/refusing.c tells), and take not ten times as long for twice the text. Runs go side by side, as many as there are processors.
+The first texts are each prefix of the examples' texts and of the shortest text of each kind, and
+each of these texts with one byte changed to 0, to 255 and to `}`. The next ones are nested deeply,
+or have long keys, many tiny lines, many steps, needs of unknown names or numbers of a thousand
+digits. Each has a size and twice that size.
+
+The program may use at most 32 times the memory of a definition, a case or an answer, 200 times if
+the text consists of small tables or objects, and 8 times that of a log or a script (by
+tests/refusing.c). It may not take ten times as long for twice the text. Runs are parallel, one for
+each processor.
 """
 
 from __future__ import annotations
@@ -21,16 +26,18 @@ from pathlib import Path
 
 from refusing import TOP, build, path_of, refused, run
 
-# A line about a fault; its last word, or words, name the fault.
+# A line about a fault, which names the fault at its end.
 FAULT = re.compile(
-    rb"sagas: (?:definition|case|answer|log|script)(?: 0)?: ((?:line \d+: )?[a-z]+(?:-[a-z]+)*|busy \d+|line \d+)\n"
+    rb"sagas: (?:definition|case|answer|log|script)(?: 0)?: "
+    rb"((?:line \d+: )?[a-z]+(?:-[a-z]+)*|busy \d+|line \d+)\n"
 )
 
-# How many places of a text one task goes through.
-PLACES = 64
+# The number of positions of a text that one task tries.
+POSITIONS = 64
 
-# How many times a text of a kind the program may hold; and where it is all small tables or objects, each of which takes about a thousand bytes in the
-# trees of `toml` and `serde_json`, however short it is.
+# The limit of the memory as a multiple of the text, and the limit for texts of small tables or
+# objects. Each of these takes about a thousand bytes in the trees of `toml` and `serde_json`, even
+# if it is short.
 TIMES = {"definition": 32, "case": 32, "answer": 32, "log": 8, "script": 8}
 TIMES_OF_SMALL = 200
 
@@ -46,15 +53,15 @@ SHORT = {
 
 @dataclass(frozen=True)
 class Judged:
-    """Texts of a kind with what they are judged by; the program is run with `{}` in its words replaced by the file of each text."""
+    """A text, and the arguments of the program that reads it; `{}` is the path of its file."""
 
     name: str
     text: bytes
-    words: list[str]
+    arguments: list[str]
 
 
-def words_of(kind: str, definition: str, case: str) -> list[str]:
-    """The words that judge a text of a kind, whose file `{}` stands for."""
+def arguments_of(kind: str, definition: str, case: str) -> list[str]:
+    """Return the arguments of the program that reads a text of a kind from the file `{}`."""
     return {
         "definition": ["plan", "{}", case],
         "case": ["plan", definition, "{}"],
@@ -65,7 +72,7 @@ def words_of(kind: str, definition: str, case: str) -> list[str]:
 
 
 def judged(short: Path) -> Iterator[Judged]:
-    """The examples' texts and the shortest ones, which stand in a folder."""
+    """Yield the texts of the examples, and the shortest ones, which are in a folder."""
     examples = TOP / "examples"
     for name in ("order", "trip", "server", "licence"):
         definition, case = f"{examples}/{name}.toml", f"{examples}/{name}.case.json"
@@ -80,25 +87,29 @@ def judged(short: Path) -> Iterator[Judged]:
             yield Judged(
                 f"{kind} {Path(path).name}",
                 Path(path).read_bytes(),
-                words_of(kind, definition, case),
+                arguments_of(kind, definition, case),
             )
     for kind, text in SHORT.items():
         yield Judged(
-            f"shortest {kind}", text, words_of(kind, str(short / "definition"), str(short / "case"))
+            f"shortest {kind}",
+            text,
+            arguments_of(kind, str(short / "definition"), str(short / "case")),
         )
 
 
-def variants(text: bytes, places: range) -> Iterator[tuple[str, bytes]]:
-    """The prefixes of a text that end at these places, and the text with the byte there changed."""
-    for place in places:
-        yield f"up to {place}", text[:place]
-        if place < len(text):
+def variants(text: bytes, positions: range) -> Iterator[tuple[str, bytes]]:
+    """Yield the prefixes of a text up to these positions, and the text with another byte there."""
+    for position in positions:
+        yield f"up to {position}", text[:position]
+        if position < len(text):
             for byte in (0, 255, ord("}")):
-                yield f"with {byte} at {place}", text[:place] + bytes([byte]) + text[place + 1 :]
+                yield f"with {byte} at {position}", text[:position] + bytes([byte]) + text[
+                    position + 1 :
+                ]
 
 
 def outcome(status: int, out: bytes, err: bytes) -> str | None:
-    """What a run came to: its answer's first word, or the name of a fault; nothing where it is none of these."""
+    """Return the kind of a run's answer, or the name of its fault, or None for other output."""
     if status in (0, 1) and out and not err:
         return "an answer" if status == 0 else "no"
     fault = FAULT.fullmatch(err)
@@ -107,21 +118,25 @@ def outcome(status: int, out: bytes, err: bytes) -> str | None:
     )
 
 
-def go_through(asked: Judged, places: range) -> tuple[collections.Counter[str], list[str]]:
-    """Runs the program on variants of a text; gives how often it came to what, and what is wrong."""
+def go_through(judged_text: Judged, positions: range) -> tuple[collections.Counter[str], list[str]]:
+    """Run the program on variants of a text, and return the outcomes and the faults."""
     counts: collections.Counter[str] = collections.Counter()
     wrong: list[str] = []
     with tempfile.TemporaryDirectory(prefix="hostile-") as folder:
         room = Path(folder)
         text = room / "text"
-        words = [path_of("program"), *(str(text) if word == "{}" else word for word in asked.words)]
-        for what, changed in variants(asked.text, places):
+        arguments = (
+            str(text) if argument == "{}" else argument for argument in judged_text.arguments
+        )
+        command = [path_of("program"), *arguments]
+        for variant, changed in variants(judged_text.text, positions):
             text.write_bytes(changed)
-            found = run(words, room)
-            name = outcome(found.status, found.out, found.err)
+            ran = run(command, room)
+            name = outcome(ran.status, ran.out, ran.err)
             if name is None:
                 wrong.append(
-                    f"{asked.name} {what}: status {found.status}: {found.out[:80]!r} {found.err[:160]!r}"
+                    f"{judged_text.name} {variant}: status {ran.status}: "
+                    f"{ran.out[:80]!r} {ran.err[:160]!r}"
                 )
             else:
                 counts[name] += 1
@@ -132,7 +147,7 @@ def go_through(asked: Judged, places: range) -> tuple[collections.Counter[str], 
 
 
 def numbered(count: int, form: Callable[[int], str]) -> str:
-    """A form with 0, 1 and so on."""
+    """Return the texts of a form for 0, 1 and so on."""
     return "".join(map(form, range(count)))
 
 
@@ -142,7 +157,7 @@ NEEDS = NAMED + '[[step]]\nname = "b"\nneeds = ['
 OPEN = '{"def":0,"event":"open","saga":'
 BLOCKED = '{"kind":"blocked","chain":['
 
-# The texts, by how many times something stands in them.
+# The texts, by the number of repetitions in them.
 MADE: dict[str, Callable[[int], str]] = {
     "lists in toml": lambda n: NAMED + "step = " + "[" * n,
     "tables in toml": lambda n: "format = 1\nname" + ".a" * n + " = 1\n",
@@ -173,11 +188,11 @@ MADE: dict[str, Callable[[int], str]] = {
     "opens in log": lambda n: numbered(n, lambda i: f"{OPEN}{i}}}\n") + OPEN + "0}\n",
     "digits in script": lambda n: "7" * n + " b run ok\n",
     "lines in script": lambda n: "\n" * n + "x",
-    "told in script": lambda n: numbered(n, lambda i: f"{i} b run ok 1\n") + "x",
+    "retries in script": lambda n: numbered(n, lambda i: f"{i} b run ok 1\n") + "x",
 }
 
-# Each text with its kind, the lesser size, and what comes of it: the fault; of an answer that is refused `no` and why. `{}` is the size, and
-# `{+}` one more.
+# Each text with its kind, the lesser size, and its outcome: the fault, or of a refused answer `no`
+# and the reason. `{}` is the size, and `{+}` one more.
 GROWN = [
     ("definition", "lists in toml", 400_000, "not-toml"),
     ("definition", "tables in toml", 200_000, "not-toml"),
@@ -211,56 +226,62 @@ GROWN = [
     ("script", "digits in script", 1_000, "line 1"),
     ("script", "digits in script", 400_000, "line 1"),
     ("script", "lines in script", 500_000, "line {+}"),
-    ("script", "told in script", 30_000, "line {+}"),
+    ("script", "retries in script", 30_000, "line {+}"),
 ]
 
 SMALL = ("small tables", "small objects", "named steps in toml")
 
 
 def grow(library: Path, kind: str, name: str, count: int, comes: str) -> tuple[str, list[str]]:
-    """Runs the program on a text of a size, and on one of twice that; gives a line of what it took, and what is wrong."""
+    """Run the program on a text of a size and of twice that, and return its costs and faults."""
     wrong: list[str] = []
     took: list[float] = []
     with tempfile.TemporaryDirectory(prefix="hostile-") as folder:
         room = Path(folder)
         for part, text in SHORT.items():
             (room / part).write_bytes(text)
-        words = [path_of("program"), *words_of(kind, str(room / "definition"), str(room / "case"))]
+        command = [
+            path_of("program"),
+            *arguments_of(kind, str(room / "definition"), str(room / "case")),
+        ]
         (room / "text").touch()
         for many in (count, 2 * count):
             text = MADE[name](many).encode()
             (room / "text").write_bytes(text)
-            said = comes.replace("{}", str(many)).replace("{+}", str(many + 1))
-            wanted = (
-                (1, f"{said}\n", "")
-                if said.startswith("no ")
-                else (3, "", f"sagas: {kind}: {said}\n")
+            expected_text = comes.replace("{}", str(many)).replace("{+}", str(many + 1))
+            expected = (
+                (1, f"{expected_text}\n", "")
+                if expected_text.startswith("no ")
+                else (3, "", f"sagas: {kind}: {expected_text}\n")
             )
-            found, told = refused(
+            ran, report = refused(
                 library,
                 None,
-                [str(room / "text") if word == "{}" else word for word in words],
+                [str(room / "text") if argument == "{}" else argument for argument in command],
                 room,
             )
-            what = f"{name}, {len(text)} bytes"
-            if (found.status, found.out.decode(), found.err.decode()) != wanted:
-                wrong.append(
-                    f"{what}: status {found.status}: {found.out[:80]!r} {found.err[:80]!r}"
-                )
-            held = told.held / len(text) if told else 0.0
+            label = f"{name}, {len(text)} bytes"
+            if (
+                ran.status,
+                ran.out.decode(),
+                ran.err.decode(),
+            ) != expected:
+                wrong.append(f"{label}: status {ran.status}: {ran.out[:80]!r} {ran.err[:80]!r}")
+            held = report.held / len(text) if report else 0.0
             if not 0 < held <= (TIMES_OF_SMALL if name in SMALL else TIMES[kind]):
-                wrong.append(f"{what}: {held:.0f} times as many held")
-            took.append(found.seconds)
+                wrong.append(f"{label}: {held:.0f} times as many held")
+            took.append(ran.seconds)
     if took[1] > 10 * took[0] + 0.05:
         wrong.append(f"{name}: {took[0]:.3f} and {took[1]:.3f} seconds")
     return (
-        f"{f'{kind}: {name}':32} {len(text):9} bytes {took[1]:6.3f} s, at half {took[0]:6.3f} s; held {held:4.0f} times the text",
+        f"{f'{kind}: {name}':32} {len(text):9} bytes {took[1]:6.3f} s, at half {took[0]:6.3f} s; "
+        f"held {held:4.0f} times the text",
         wrong,
     )
 
 
 def main() -> int:
-    """Runs all of it, and gives the status."""
+    """Run all texts, and return the status."""
     path_of("program")
     texts = 0
     wrong: list[str] = []
@@ -273,22 +294,25 @@ def main() -> int:
         all_judged = list(judged(Path(folder)))
         parts = [
             [
-                pool.submit(go_through, asked, range(at, min(at + PLACES, len(asked.text) + 1)))
-                for at in range(0, len(asked.text) + 1, PLACES)
+                pool.submit(
+                    go_through,
+                    judged_text,
+                    range(at, min(at + POSITIONS, len(judged_text.text) + 1)),
+                )
+                for at in range(0, len(judged_text.text) + 1, POSITIONS)
             ]
-            for asked in all_judged
+            for judged_text in all_judged
         ]
         grown = [pool.submit(grow, library, *row) for row in GROWN]
-        for asked, tasks in zip(all_judged, parts):
-            found = [task.result() for task in tasks]
+        for judged_text, tasks in zip(all_judged, parts):
+            results = [task.result() for task in tasks]
             counts: collections.Counter[str] = sum(
-                (part[0] for part in found), collections.Counter()
+                (result[0] for result in results), collections.Counter()
             )
             texts += counts.total()
-            wrong += [line for part in found for line in part[1]]
-            print(
-                f"{asked.name:28} {', '.join(f'{count} {name}' for name, count in counts.most_common())}"
-            )
+            wrong += [line for result in results for line in result[1]]
+            outcomes = ", ".join(f"{count} {name}" for name, count in counts.most_common())
+            print(f"{judged_text.name:28} {outcomes}")
         for task in grown:
             line, faults = task.result()
             texts += 2

@@ -1,7 +1,7 @@
-"""Resolves each name in backquotes of docs/dev against the tree: files, folders, and identifiers.
+"""Resolve each name in backquotes of docs/dev against the tree: files, folders, and identifiers.
 
-An identifier with an underscore is known if it stands in a file that is no page, or is the name of
-a file. A word in capitals within a path stands for any name (`crates/CRATE/mutants/NAME.edit`).
+An identifier with an underscore is known if a file that is not a page has it, or if it is the name
+of a file. A word in capitals within a path means any name (`crates/CRATE/mutants/NAME.edit`).
 """
 
 from __future__ import annotations
@@ -22,11 +22,11 @@ ELSEWHERE = {
     "read_to_end": "of Rust",
     "remote_write": "of PostgreSQL",
 }
-"""Names that stand for something outside of the tree."""
+"""Names of things outside of the tree."""
 
 
 class Tree:
-    """The files of a checkout, and the words in them."""
+    """The files of a checkout, and the identifiers in them."""
 
     def __init__(self, top: Path) -> None:
         listed = ["git", "ls-files", "--cached", "--others", "--exclude-standard"]
@@ -37,14 +37,14 @@ class Tree:
             *self.files,
             *(str(folder) for file in self.files for folder in PurePosixPath(file).parents),
         }
-        self.words = {PurePosixPath(file).stem for file in self.files}
+        self.identifiers = {PurePosixPath(file).stem for file in self.files}
         for file in self.files:
             if not file.endswith(".md"):
                 text = (top / file).read_bytes().decode(errors="ignore")
-                self.words.update(WORD.findall(text))
+                self.identifiers.update(WORD.findall(text))
 
     def has_path(self, name: str) -> bool:
-        """Whether a path leads to a file or folder, from the top or from some folder."""
+        """Return whether a path leads to a file or folder, from the top or from some folder."""
         pattern = ANY.sub("*", name.removeprefix("./").rstrip("/"))
         if "*" not in pattern:
             return pattern in self.paths or any(path.endswith(f"/{pattern}") for path in self.paths)
@@ -52,22 +52,22 @@ class Tree:
 
 
 def walked(top: Path) -> list[str]:
-    """The files of a tree without git."""
+    """Return the files of a tree without git."""
     return [str(path.relative_to(top)) for path in top.rglob("*") if "out" not in path.parts]
 
 
 def unknown(top: Path) -> Iterator[str]:
-    """The names in backquotes of docs/dev that the tree does not have."""
+    """Yield the names in backquotes of docs/dev that the tree does not have."""
     tree = Tree(top)
     for page in sorted((top / "docs" / "dev").rglob("*.md")):
         text = BLOCK.sub("", page.read_text(encoding="utf-8"))
         for code in sorted(set(CODE.findall(text))):
             if code.startswith(("/", "out/")):
-                continue  # a path of the machine or a route, or what is built
-            words = {word for word in WORD.findall(code) if "_" in word.strip("_")}
+                continue  # a path of the machine, a route, or a built file
+            identifiers = {word for word in WORD.findall(code) if "_" in word.strip("_")}
             if FILE.fullmatch(code):
-                is_known = tree.has_path(code) or words and words <= tree.words
+                is_known = tree.has_path(code) or identifiers and identifiers <= tree.identifiers
             else:
-                is_known = words <= tree.words | ELSEWHERE.keys()
+                is_known = identifiers <= tree.identifiers | ELSEWHERE.keys()
             if not is_known:
                 yield f"{page.relative_to(top)} names `{code}`, which the tree does not have"

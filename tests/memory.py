@@ -1,13 +1,16 @@
 #!/usr/bin/env python3
-"""Refuses growths of memory, one after another, to the program `sagas` and to public calls that none of its commands shows.
+"""Refuse each growth of memory to the program `sagas`, and to public calls without a command.
 
-The commands of the table ROWS are run with each growth refused alone, and then with all behind it, up to the run that meets no refusal. Each
-run has to give what it gives with ample memory, or to say that memory was refused, with nothing else printed but the report of a run that
-stopped; then its log, and what a drive has told, are as far as they go right.
+The script runs the commands of the table ROWS with each growth refused alone, and then with all
+later growths refused too, until a run meets no refusal. Each run must print the same as with ample
+memory, or report that memory was refused, with no other output except the report of a run that
+stopped. Then its log and the replies of a drive must be correct as far as they exist.
 
-The calls are tried by `saga_trials` (crates/saga_trials): where a growth is refused all has to be as before, and the call made again gives
-what is expected. Of each row it is printed how many growths were refused; `none` where a call has to succeed without a growth, and did not
-ask for any; `ample` where it is tried at the greatest sizes. Rows run side by side, as many as there are processors.
+`saga_trials` (crates/saga_trials) tries the calls. After a refused growth everything must be
+unchanged, and a repeated call must return the expected value. For each row the script prints the
+number of refused growths. It prints `none` for a call that must succeed without a growth, and
+requested none, and `ample` for a call at the greatest sizes. Rows run in parallel, one for each
+processor.
 """
 
 from __future__ import annotations
@@ -21,22 +24,26 @@ from concurrent.futures import Future, ProcessPoolExecutor
 from dataclasses import dataclass
 from pathlib import Path
 
-from refusing import TOP, Run, Told, build, path_of, refused, run
+from refusing import TOP, Run, Report, build, path_of, refused, run
 
-# The most growths of one row.
-MOST = 5000
+# The maximum number of growths of one row.
+MAX_GROWTHS = 5000
 
-STEPS = 'step = [{{ name = "a", undo = 1, keep = 5{a} }}, {{ name = "b", undo = 2, keep = 5, needs = ["a"]{b} }}, {{ name = "c", needs = ["b"]{c} }}]\n'
+STEPS = (
+    'step = [{{ name = "a", undo = 1, keep = 5{a} }}, '
+    '{{ name = "b", undo = 2, keep = 5, needs = ["a"]{b} }}, '
+    '{{ name = "c", needs = ["b"]{c} }}]\n'
+)
 LEAVING = '{{"cost":{},"kept":[],"kind":"plan","leave":[{}],"links":[{}],"stand":[{}]}}'
 
 
 def definition(head: str, a: str = "", b: str = "", c: str = "") -> str:
-    """A definition of three steps in a chain, with more keys of each."""
+    """Return a definition of three steps in a chain, with more keys for each."""
     return f"{head}\n{STEPS.format(a=a, b=b, c=c)}"
 
 
 def history(*events: str) -> str:
-    """The log of saga 0 by events, each a name with a step behind it, or a plan that is adopted."""
+    """Return a log of saga 0. An event is a name and a step, or `adopt` and a plan."""
     lines = []
     for event in events:
         name, _, step = event.partition(" ")
@@ -83,7 +90,9 @@ FILES = {
     "misses": "0 b run fail 1\n0 c run fail\n0 b undo fail 1\n",
     "aborts": "0 b run abort\n",
     "both": "0 c run fail\n1 c run fail\n",
-    "record": "fleet 1 sync\ntook 1 0 0\nheard 0\nsent 0 81\nwrote 0 0 81\nsafe 1\nheard 0\ntold 0 1\n",
+    "record": (
+        "fleet 1 sync\ntook 1 0 0\nheard 0\nsent 0 81\nwrote 0 0 81\nsafe 1\nheard 0\ntold 0 1\n"
+    ),
     "early": "fleet 1 sync\ntook 1 0 0\nheard 0\nsent 0 81\nwrote 0 0 81\nheard 0\n",
     "parts": "",
     "log": history(*GONE, *BACK),
@@ -99,48 +108,49 @@ FILES = {
 FILES["parts"] = "---\n".join(FILES[name] for name in ("trip", "case", "answer"))
 
 
-def asked(**keys: object) -> bytes:
-    """A request, with its line feed."""
+def request_of(**keys: object) -> bytes:
+    """Return the line of a request."""
     return json.dumps(keys, separators=(",", ":")).encode() + b"\n"
 
 
-def said(outcome: str, step: int) -> bytes:
-    """The report of a step's outcome."""
-    return asked(do="report", outcome=outcome, saga=0, step=step)
+def report_of(outcome: str, step: int) -> bytes:
+    """Return the request that reports the outcome of a step."""
+    return request_of(do="report", outcome=outcome, saga=0, step=step)
 
 
-NEXT, BUSY, SHOW = asked(do="next"), asked(do="busy"), asked(do="show", saga=0)
+NEXT, BUSY, SHOW = request_of(do="next"), request_of(do="busy"), request_of(do="show", saga=0)
 
 # Requests of each kind, on the trip.
 TALK = b"".join(
     [
-        asked(do="open", **{"def": 0}),
+        request_of(do="open", **{"def": 0}),
         NEXT,
         BUSY,
-        said("ok", 0),
-        asked(do="take", saga=0, step=1),
-        said("ok", 1),
+        report_of("ok", 0),
+        request_of(do="take", saga=0, step=1),
+        report_of("ok", 1),
         SHOW,
         NEXT,
-        said("fail", 2),
+        report_of("fail", 2),
         NEXT,
         NEXT,
-        said("ok", 1),
-        asked(do="open", **{"def": 0}),
-        asked(do="abort", saga=1),
+        report_of("ok", 1),
+        request_of(do="open", **{"def": 0}),
+        request_of(do="abort", saga=1),
         NEXT,
         BUSY,
-        asked(do="show", saga=7),
+        request_of(do="show", saga=7),
         b"{\n",
         SHOW,
-        asked(do="open", **{"def": 0}),
-        asked(do="ready"),
-        asked(do="list", phase="going"),
-        asked(do="status"),
+        request_of(do="open", **{"def": 0}),
+        request_of(do="ready"),
+        request_of(do="list", phase="going"),
+        request_of(do="status"),
     ]
 )
 
-# Commands: a name, and words, of which `{x}` is the path of the file x. Behind `<` stands the file of standard input, or the talk.
+# Commands: a name, and arguments, in which `{x}` is the path of the file x. After `<` comes the
+# file of standard input, or the talk.
 ROWS = [
     ("check", "check {trip} {case} {answer}"),
     ("check,refused", "check {free} {case} {answer}"),
@@ -183,20 +193,20 @@ STOPPED = re.compile(rb"^sagas (\d+) ended \d+ stuck 0 events (\d+)\n\Z", re.MUL
 
 @dataclass(frozen=True)
 class Command:
-    """A command in a folder of its own, and the program that runs it."""
+    """A command with its own folder."""
 
-    words: list[str]
+    arguments: list[str]
     stdin: Path
     log: Path | None
     room: Path
 
     @staticmethod
     def of(row: str, room: Path) -> Command:
-        """The command of a row; writes its files to the folder."""
-        words, _, stdin = row.partition("<")
+        """Write the files of a row to the folder, and return its command."""
+        arguments, _, stdin = row.partition("<")
         (room / "talk").write_bytes(TALK)
         paths = {name: str(room / name) for name in ("made", *FILES)}
-        named = words.format(**paths).split()
+        named = arguments.format(**paths).split()
         log = Path(named[named.index("--log") + 1]) if "--log" in named else None
         return Command(
             [path_of("program"), *named],
@@ -206,42 +216,48 @@ class Command:
         )
 
     def laid(self) -> None:
-        """Writes the files anew that a run may have changed."""
+        """Write the files again that a run may have changed."""
         if self.log:
             self.log.unlink(missing_ok=True)
             if self.log.name in FILES:
                 self.log.write_text(FILES[self.log.name])
 
     def written(self) -> bytes | None:
-        """What the log holds, if it is there."""
+        """Return the content of the log, if it exists."""
         return self.log.read_bytes() if self.log and self.log.exists() else None
 
 
 def kept_of(command: Command) -> bytes:
-    """What a drive keeps of the log that it starts from: its whole lines, but for a last one that begins a plan."""
+    """Return the lines that a drive keeps of its first log.
+
+    These are the whole lines, except a last one that begins a plan.
+    """
     start = FILES.get(command.log.name, "").encode() if command.log else b""
     lines = [line for line in start.splitlines(keepends=True) if line.endswith(b"\n")]
     return b"".join(lines[:-1] if lines and b'"start_plan"' in lines[-1] else lines)
 
 
-def stands(log: bytes, command: Command) -> bool:
-    """Whether an audit says yes to the log of a run."""
+def is_legal(log: bytes, command: Command) -> bool:
+    """Return whether an audit accepts the log of a run."""
     path = command.room / "audited"
     path.write_bytes(log)
     definitions = [
-        word for word in command.words if Path(word).name in ("trip", "stubborn", "forced")
+        word for word in command.arguments if Path(word).name in ("trip", "stubborn", "forced")
     ]
     return run([path_of("program"), "audit", str(path), *definitions], command.room).out.startswith(
         b"yes "
     )
 
 
-def stopped_rightly(command: Command, found: Run, whole: bytes | None) -> bool:
-    """Whether a run that stopped has whole events: its report tells of as many as its log has, which is legal; no step is busy and no saga
-    planning. With one worker they are the first events of the whole run, but for a plan that was dropped.
+def stopped_rightly(command: Command, ran: Run, whole: bytes | None) -> bool:
+    """Return whether a run that stopped has whole events.
+
+    Its report has the number of events of its log, the log is legal, no step is busy and no saga is
+    planning. With one worker they are the first events of the whole run, except a plan that was
+    dropped.
     """
-    report, log = STOPPED.search(found.out), command.written()
-    if not report or re.search(rb"running|undoing|planning", found.out):
+    report, log = STOPPED.search(ran.out), command.written()
+    if not report or re.search(rb"running|undoing|planning", ran.out):
         return False
     if log is None:
         return True
@@ -251,99 +267,103 @@ def stopped_rightly(command: Command, found: Run, whole: bytes | None) -> bool:
         if events and '"drop_plan"' in events[-1] and '"start_plan"' in events[-2]
         else events
     )
-    alone = "--workers" not in command.words
+    alone = "--workers" not in command.arguments
     first = (whole or b"").decode().removeprefix(HEADER).splitlines()[: len(kept)]
-    return len(events) == int(report[2]) and (not alone or kept == first) and stands(log, command)
+    return len(events) == int(report[2]) and (not alone or kept == first) and is_legal(log, command)
 
 
-def told_rightly(command: Command, found: Run, whole: Run, before: bytes) -> bool:
-    """Whether a drive's replies are those with ample memory up to the first that tells of a refusal, and its log has just the events told."""
-    replies, wanted = found.out.splitlines(), whole.out.splitlines()
-    if len(replies) != len(wanted) or found.err != whole.err:
+def replied_rightly(command: Command, ran: Run, whole: Run, before: bytes) -> bool:
+    """Return whether the replies of a drive are right, and its log has exactly their events.
+
+    They must equal those with ample memory up to the first that reports a refusal.
+    """
+    replies, expected = ran.out.splitlines(), whole.out.splitlines()
+    if len(replies) != len(expected) or ran.err != whole.err:
         return False
     first = replies.index(NO_MEMORY) if NO_MEMORY in replies else len(replies)
-    if replies[:first] != wanted[:first]:
+    if replies[:first] != expected[:first]:
         return False
     log = command.written()
     if log is None or before and not log.startswith(before):
         return not command.log
     events = [reply["event"] for reply in map(json.loads, replies) if "event" in reply]
     added = [json.loads(line) for line in log.removeprefix(before or HEADER.encode()).splitlines()]
-    begun = ("start_run", "start_undo", "start_plan", "adopt")
+    starts_of_tasks = ("start_run", "start_undo", "start_plan", "adopt")
     tasks = sum(
         {"run": 1, "undo": 1, "plan": 2}.get(json.loads(reply).get("task"), 0) for reply in replies
     )
-    return [line for line in added if line["event"] not in begun] == events and len(added) == len(
-        events
-    ) + tasks
+    return [line for line in added if line["event"] not in starts_of_tasks] == events and len(
+        added
+    ) == len(events) + tasks
 
 
-def is_right(command: Command, found: Run, whole: Run, log: bytes | None) -> bool:
-    """Whether a run to which memory was refused ended as it may."""
-    if command.words[1:2] == ["drive"] and found.status == whole.status == 0:
-        return told_rightly(command, found, whole, kept_of(command))
-    if found.status == whole.status:
-        return (found.out, found.err, command.written()) == (whole.out, whole.err, log)
-    if found.status != 4:
+def is_right(command: Command, ran: Run, whole: Run, log: bytes | None) -> bool:
+    """Return whether a run with refused memory ended in an allowed way."""
+    if command.arguments[1:2] == ["drive"] and ran.status == whole.status == 0:
+        return replied_rightly(command, ran, whole, kept_of(command))
+    if ran.status == whole.status:
+        return (ran.out, ran.err, command.written()) == (whole.out, whole.err, log)
+    if ran.status != 4:
         return False
-    if found.err == b"sagas: stopped: out-of-memory\n":
-        return stopped_rightly(command, found, log)
+    if ran.err == b"sagas: stopped: out-of-memory\n":
+        return stopped_rightly(command, ran, log)
     start = FILES.get(command.log.name, "").encode() if command.log else b""
-    note = NOTE.match(found.err)
+    note = NOTE.match(ran.err)
     starts = (kept_of(command),) if note else (None, start, HEADER.encode())
     return (
-        found.err[note.end() if note else 0 :] == b"sagas: out of memory\n"
-        and not found.out
+        ran.err[note.end() if note else 0 :] == b"sagas: out of memory\n"
+        and not ran.out
         and command.written() in starts
     )
 
 
 def commanded(library: Path, row: str, the_rest: bool) -> tuple[int, str]:
-    """Runs a command until it meets no refusal; gives how many growths were refused, and what is wrong."""
+    """Run a command until it meets no refusal, and return the number of refusals, and the fault."""
     with tempfile.TemporaryDirectory(prefix="memory-") as folder:
         room = Path(folder)
         for name, text in FILES.items():
             (room / name).write_text(text)
         command = Command.of(row, room)
         command.laid()
-        whole = run(command.words, room, command.stdin)
+        whole = run(command.arguments, room, command.stdin)
         log = command.written()
         more = {"COUNT": "all", **({"REST": "1"} if the_rest else {})}
-        for number in range(MOST):
+        for number in range(MAX_GROWTHS):
             command.laid()
-            found, told = refused(library, number, command.words, room, command.stdin, **more)
-            if told is None or not is_right(command, found, whole, log):
+            ran, report = refused(library, number, command.arguments, room, command.stdin, **more)
+            if report is None or not is_right(command, ran, whole, log):
                 return (
                     number,
-                    f"growth {number}: status {found.status}: {found.err[:200]!r} {found.out[-300:]!r} {command.written()!r}",
+                    f"growth {number}: status {ran.status}: {ran.err[:200]!r} "
+                    f"{ran.out[-300:]!r} {command.written()!r}",
                 )
-            if told.refused == 0:
+            if report.refused == 0:
                 return number, ""
-    return MOST, "growths without end"
+    return MAX_GROWTHS, "growths without end"
 
 
 def tried(library: Path, how: str, name: str) -> tuple[int, str]:
-    """Makes a trial until it meets no refusal; gives how many growths were refused, and what is wrong."""
+    """Try a call until it meets no refusal, and return the number of refusals, and the fault."""
     with tempfile.TemporaryDirectory(prefix="memory-") as folder:
-        for number in range(MOST):
-            found, told = refused(library, number, [path_of("trials"), "try", name], Path(folder))
-            if told is None or found.status != 0 or found.out not in (b"whole\n", b"refused\n"):
-                return number, f"growth {number}: status {found.status}: {found.err[:200]!r}"
-            if how == "none" and told.growths:
-                return number, f"it asks for memory, {told.growths} times"
-            if how != "each" or told.refused == 0:
+        for number in range(MAX_GROWTHS):
+            ran, report = refused(library, number, [path_of("trials"), "try", name], Path(folder))
+            if report is None or ran.status != 0 or ran.out not in (b"whole\n", b"refused\n"):
+                return number, f"growth {number}: status {ran.status}: {ran.err[:200]!r}"
+            if how == "none" and report.growths:
+                return number, f"it asks for memory, {report.growths} times"
+            if how != "each" or report.refused == 0:
                 return number, ""
-    return MOST, "growths without end"
+    return MAX_GROWTHS, "growths without end"
 
 
 def trials(room: Path) -> list[tuple[str, str]]:
-    """How each trial is made, and its name."""
+    """Return the kind and the name of each trial."""
     lines = run([path_of("trials"), "names"], room).out.decode().splitlines()
     return [(how, name) for how, _, name in (line.partition(" ") for line in lines)]
 
 
-def main(words: list[str]) -> int:
-    """Runs all rows, or with a word the commands alone, and gives the status."""
+def main(arguments: list[str]) -> int:
+    """Run all rows, or only the commands with `commands`, and return the status."""
     path_of("program")
     with tempfile.TemporaryDirectory(prefix="memory-") as folder, ProcessPoolExecutor(
         os.cpu_count()
@@ -354,12 +374,12 @@ def main(words: list[str]) -> int:
             for the_rest in (False, True):
                 rows.append(
                     (
-                        f"sagas {name}{', and all behind it' if the_rest else ''}",
+                        f"sagas {name}{', and all later growths' if the_rest else ''}",
                         "each",
                         pool.submit(commanded, library, row, the_rest),
                     )
                 )
-        for how, name in [] if words == ["commands"] else trials(Path(folder)):
+        for how, name in [] if arguments == ["commands"] else trials(Path(folder)):
             rows.append((name, how, pool.submit(tried, library, how, name)))
         met = wrong = 0
         for name, how, task in rows:

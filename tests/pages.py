@@ -1,15 +1,15 @@
-"""Runs each command that the pages show and compares what it prints with the page.
+"""Run each command on the pages, and compare its output with the page.
 
     tests/pages.py           README.md and the pages in docs/
     tests/pages.py --site    the pages of the documentation site: docs/ and its folders
 
-A command is a line that begins with `$ ` in a fenced block of a page. What follows it, up to the
-next command or the end of the block, is what it prints, on standard output and standard error
-together; `...` at the end stands for any further lines, and any time of day for any other. A block
-below a line that ends in "as `NAME`:" is saved as the file NAME. The commands of a page run one
-after the other in a folder of its own, which has the examples and the program, and on its path
-`python` and `sagas` as where the package is installed. docs/tutorials/service.md and
-docs/guides/celery.md leave programs running, and python/tests runs them.
+A command is a line that begins with `$ ` in a fenced block of a page. The lines up to the next
+command or the end of the block are its output, on standard output and standard error together.
+`...` at the end means any further lines, and a time of day means any time. A block below a line
+that ends in "as `NAME`:" is saved as the file NAME. The commands of a page run in order in a
+temporary folder, which has the examples and the program. The path has `python` and `sagas` as if
+the package were installed. docs/tutorials/service.md and docs/guides/celery.md leave programs
+running, so python/tests runs them.
 """
 
 import os
@@ -22,13 +22,13 @@ import tempfile
 ROOT = pathlib.Path(__file__).resolve().parent.parent
 SKIPPED = tuple(ROOT / "docs" / name for name in ("tutorials/service.md", "guides/celery.md"))
 FOLDERS = ("tutorials", "guides", "reference", "concepts", "dev")
-# What a command of a page may take, in seconds: each takes a few at most.
+# The time limit of a command, in seconds. Each takes a few at most.
 LIMIT = 120
 
 BLOCK = re.compile(r"(?:as `([\w./-]+)`:\n\n)?^```\w*\n(.*?)^```", re.M | re.S)
 TIME = re.compile(r"\d{4}-\d\d-\d\d[T ]\d\d:\d\d:\d\d(?:\.\d+)?Z?")
 
-# What stands on the path of a page's commands.
+# The programs on the path of the commands.
 PROGRAMS = {
     "python": 'exec /usr/bin/python3 "$@"',
     "sagas": 'exec /usr/bin/python3 -m sagas "$@"',
@@ -36,7 +36,7 @@ PROGRAMS = {
 
 
 def parts(page):
-    """What a page asks for, in order: a file's name and text, or a command and what it prints."""
+    """Yield the parts of a page in order: a file's name and text, or a command and its output."""
     for name, block in BLOCK.findall(page.read_text(encoding="utf-8")):
         if name:
             yield "save", name, block
@@ -46,16 +46,16 @@ def parts(page):
             yield "run", command, printed
 
 
-def agrees(found, wanted):
-    """Whether a command printed what the page says."""
-    found, wanted = (TIME.sub("TIME", text) for text in (found, wanted))
-    if wanted.endswith("...\n"):
-        return found.startswith(wanted[: -len("...\n")])
-    return found == wanted
+def agrees(output, expected):
+    """Return whether the output of a command is that of the page."""
+    output, expected = (TIME.sub("TIME", text) for text in (output, expected))
+    if expected.endswith("...\n"):
+        return output.startswith(expected[: -len("...\n")])
+    return output == expected
 
 
 def furnish(folder):
-    """Puts into a folder what commands use; gives their environment."""
+    """Prepare a folder for commands, and return their environment."""
     for name in ["examples", "crates", "clients", "python", "dist", "docs", "bench"]:
         (folder / name).symlink_to(ROOT / name)
     scripts = {folder / "sagas": f'exec "{ROOT}/sagas" "$@"'}
@@ -64,7 +64,7 @@ def furnish(folder):
     for path, text in scripts.items():
         path.write_text(f"#!/bin/sh\n{text}\n", encoding="utf-8")
         path.chmod(0o755)
-    # (what is printed stands in the order of time)
+    # Without buffers, standard output and standard error are in order of time.
     return os.environ | {
         "PATH": f"{folder}/.bin:{os.environ['PATH']}",
         "PYTHONPATH": str(ROOT / "python/src"),
@@ -74,17 +74,17 @@ def furnish(folder):
 
 
 def tried(page):
-    """Runs the commands of a page; gives how many there are and how many print something else."""
+    """Run the commands of a page, and return their number, and the number of differences."""
     runs = wrong = 0
     with tempfile.TemporaryDirectory() as name:
         folder = pathlib.Path(name)
         environment = furnish(folder)
-        for kind, what, wanted in parts(page):
+        for kind, content, expected in parts(page):
             if kind == "save":
-                (folder / what).write_text(wanted, encoding="utf-8")
+                (folder / content).write_text(expected, encoding="utf-8")
                 continue
             done = subprocess.run(
-                ["timeout", "--kill-after=5", str(LIMIT), "bash", "-c", what],
+                ["timeout", "--kill-after=5", str(LIMIT), "bash", "-c", content],
                 cwd=folder,
                 env=environment,
                 stdin=subprocess.DEVNULL,
@@ -94,10 +94,10 @@ def tried(page):
                 check=False,
             )
             runs += 1
-            if not agrees(done.stdout, wanted):
+            if not agrees(done.stdout, expected):
                 wrong += 1
-                print(f"wrong in {page.relative_to(ROOT)}: $ {what}")
-                print(f"{done.stdout}instead of\n{wanted}", end="", flush=True)
+                print(f"wrong in {page.relative_to(ROOT)}: $ {content}")
+                print(f"{done.stdout}instead of\n{expected}", end="", flush=True)
     return runs, wrong
 
 

@@ -1,4 +1,7 @@
-"""Runs programs beside the library of `refusing.c`, which refuses growths of memory and tells how much was held."""
+"""Run programs with the library of `refusing.c`.
+
+The library refuses growths of memory, and reports how much memory was in use.
+"""
 
 from __future__ import annotations
 
@@ -11,13 +14,16 @@ from pathlib import Path
 
 TOP = Path(__file__).resolve().parent.parent
 
-# How long a run may take, in seconds.
+# The time limit of a run, in seconds.
 SECONDS = 120
 
 
 @functools.cache
 def path_of(which: str) -> str:
-    """The path of the `program` sagas, or of saga_trials (`trials`), which the variable SAGAS, or TRIALS, names where it is set."""
+    """Return the path of sagas (`program`) or saga_trials (`trials`).
+
+    The variables SAGAS and TRIALS can name them.
+    """
     named = os.environ.get("SAGAS" if which == "program" else "TRIALS")
     return (
         named
@@ -28,7 +34,7 @@ def path_of(which: str) -> str:
 
 
 def build(folder: Path) -> Path:
-    """Builds the library in a folder, and gives its path."""
+    """Build the library in a folder, and return its path."""
     library = folder / "refusing.so"
     subprocess.run(
         ["gcc", "-O2", "-shared", "-fPIC", "-o", library, TOP / "tests" / "refusing.c"], check=True
@@ -38,7 +44,14 @@ def build(folder: Path) -> Path:
 
 @dataclass(frozen=True)
 class Run:
-    """What a run gave: its status (of a signal below 0), what it printed, and the processor's seconds that it took."""
+    """The outcome of a run.
+
+    Attributes:
+        status: The exit status, or below 0 the signal.
+        out: Standard output.
+        err: Standard error.
+        seconds: The processor time.
+    """
 
     status: int
     out: bytes
@@ -47,12 +60,12 @@ class Run:
 
 
 def run(
-    words: list[str],
+    command: list[str],
     room: Path,
     stdin: Path = Path(os.devnull),
     settings: dict[str, str] | None = None,
 ) -> Run:
-    """Runs a program by its path, which is the first word; what it prints goes through files of the folder `room`."""
+    """Run a command. The folder `room` has the files of its output."""
     out, err = room / ".out", room / ".err"
     flags = os.O_WRONLY | os.O_CREAT | os.O_TRUNC
     files = [
@@ -60,7 +73,9 @@ def run(
         (os.POSIX_SPAWN_OPEN, 1, str(out), flags, 0o600),
         (os.POSIX_SPAWN_OPEN, 2, str(err), flags, 0o600),
     ]
-    child = os.posix_spawn(words[0], words, {**os.environ, **(settings or {})}, file_actions=files)
+    child = os.posix_spawn(
+        command[0], command, {**os.environ, **(settings or {})}, file_actions=files
+    )
     signal.signal(signal.SIGALRM, lambda _number, _frame: os.kill(child, signal.SIGKILL))
     signal.alarm(SECONDS)
     _, status, used = os.wait4(child, 0)
@@ -74,8 +89,14 @@ def run(
 
 
 @dataclass(frozen=True)
-class Told:
-    """What the library told of a run: how many growths there were, how many of them it refused, and the most bytes held at one time."""
+class Report:
+    """The report of the library on a run.
+
+    Attributes:
+        growths: The number of growths.
+        refused: The number of refused growths.
+        held: The peak memory in bytes.
+    """
 
     growths: int
     refused: int
@@ -85,22 +106,22 @@ class Told:
 def refused(
     library: Path,
     number: int | None,
-    words: list[str],
+    command: list[str],
     room: Path,
     stdin: Path = Path(os.devnull),
     **more: str,
-) -> tuple[Run, Told | None]:
-    """Runs a program to which one growth is refused, or none; also what the library told, if it came to that."""
-    told = room / ".told"
-    told.unlink(missing_ok=True)
+) -> tuple[Run, Report | None]:
+    """Run a program with one refused growth, or none; return its outcome, and the report if any."""
+    report = room / ".told"
+    report.unlink(missing_ok=True)
     settings = {
         "LD_PRELOAD": str(library),
-        "TOLD": str(told),
+        "TOLD": str(report),
         **({} if number is None else {"REFUSE": str(number)}),
         **more,
     }
-    found = run(words, room, stdin, settings)
-    if not told.exists():
-        return found, None
-    line = told.read_text().split()
-    return found, Told(int(line[1]), int(line[3]), int(line[5]))
+    outcome = run(command, room, stdin, settings)
+    if not report.exists():
+        return outcome, None
+    line = report.read_text().split()
+    return outcome, Report(int(line[1]), int(line[3]), int(line[5]))

@@ -1,11 +1,12 @@
 #!/usr/bin/env python3
-"""Runs the program `sagas` on rows of data: texts in; standard output, standard error and status out.
+"""Run the program `sagas` on rows of data: texts, and the expected output, errors and status.
 
-    tests/rows.py [--fixed-shelf] [FOLDER[/FILE] ..]
+    tests/rows.py [--fixed-shelf] [FOLDER[/FILE] ...]
 
-A row is a table of a file `tests/rows/COMMAND/SUBJECT.toml`; docs/dev/changing/tests.md has its keys. Rows run side by side, as many as there are
-processors, over the program that the variable SAGAS names, or over the one that `./sagas` starts. That program adds definitions while it runs, or, with
-`--fixed-shelf`, adds none: the rows that need the other kind are left out.
+A row is a table of a file `tests/rows/COMMAND/SUBJECT.toml`; docs/dev/changing/tests.md has its
+keys. Rows run in parallel, one for each processor. The program is the one that the variable SAGAS
+names, or the one that `./sagas` starts. It adds definitions while it runs, or, with
+`--fixed-shelf`, adds none. The script omits rows that need the other kind of program.
 """
 
 from __future__ import annotations
@@ -29,7 +30,7 @@ TOP = Path(__file__).resolve().parent.parent
 ROWS = TOP / "tests" / "rows"
 SECONDS = 60
 
-# The keys that are texts, each of which is a file that the program is given.
+# The keys of texts. The program gets each of these texts as a file.
 FILES = ("def", "case", "answer", "log", "script")
 KEYS = {
     *FILES,
@@ -53,33 +54,33 @@ KEYS = {
     "needs",
 }
 
-# What a program does with definitions that it is asked to add while it runs; a row may need either.
-SHELVES = ("define", "fixed-shelf")
+# How a program handles requests to add a definition while it runs. A row may need either.
+MODES = ("define", "fixed-shelf")
 
 
 class BadRow(Exception):
-    """A row that cannot be run as it is written."""
+    """A row that cannot be executed."""
 
 
 @dataclass(frozen=True)
 class Row:
-    """A row with its place, and the texts that it may name."""
+    """A row with its label, and the texts that it may name."""
 
     command: str
-    place: str
+    label: str
     keys: Mapping[str, Any]
     texts: Mapping[str, Any]
 
-    def text(self, said: Any) -> bytes:
-        """The bytes of a text: a string, `@NAME`, or a table `{ make = EXPRESSION }`."""
-        if isinstance(said, dict):
+    def text(self, value: Any) -> bytes:
+        """Return the bytes of a text: a string, `@NAME`, or a table `{ make = EXPRESSION }`."""
+        if isinstance(value, dict):
             made: object = eval(
-                said["make"], {**vars(making), "text": lambda name: self.text(f"@{name}").decode()}
+                value["make"], {**vars(making), "text": lambda name: self.text(f"@{name}").decode()}
             )
             return made if isinstance(made, bytes) else str(made).encode()
-        if not said.startswith("@"):
-            return str(said).encode()
-        name = str(said[1:])
+        if not value.startswith("@"):
+            return str(value).encode()
+        name = str(value[1:])
         if "/" in name:
             return (TOP / name).read_bytes()
         if name not in self.texts:
@@ -89,20 +90,20 @@ class Row:
 
 @dataclass
 class Run:
-    """What a run of the program gave."""
+    """The status and the output of a run, and its differences from the row."""
 
     status: int
     out: bytes
     err: bytes
     wrong: list[str] = field(default_factory=list)
 
-    def compare(self, what: str, found: bytes, wanted: bytes) -> None:
-        """Notes what was found, where another was wanted."""
-        if found != wanted:
-            self.wrong.append(f"{what}: {shown(found)}\n    wanted: {shown(wanted)}")
+    def compare(self, label: str, actual: bytes, expected: bytes) -> None:
+        """Note a difference from the expected bytes."""
+        if actual != expected:
+            self.wrong.append(f"{label}: {shown(actual)}\n    expected: {shown(expected)}")
 
-    def compare_pieces(self, what: str, found: bytes, pieces: list[str]) -> None:
-        """Notes what was found, where it has not these pieces in this order."""
+    def compare_pieces(self, label: str, actual: bytes, pieces: list[str]) -> None:
+        """Note a text that does not have these pieces in this order."""
         pattern = (
             "*"
             + "*".join(
@@ -111,19 +112,19 @@ class Run:
             )
             + "*"
         )
-        if not fnmatch.fnmatchcase(found.decode(errors="replace"), pattern):
-            self.wrong.append(f"{what}: {shown(found)}\n    wanted pieces: {pieces}")
+        if not fnmatch.fnmatchcase(actual.decode(errors="replace"), pattern):
+            self.wrong.append(f"{label}: {shown(actual)}\n    expected pieces: {pieces}")
 
 
 def shown(text: bytes) -> str:
-    """A text as a line, cut where it is long."""
+    """Return a text as a line, shortened if it is long."""
     return repr(text[:300].decode(errors="replace")) + (
-        f" .. of {len(text)} bytes" if len(text) > 300 else ""
+        f"... of {len(text)} bytes" if len(text) > 300 else ""
     )
 
 
 def rows_of(path: Path) -> Iterator[Row]:
-    """The rows of a file, those of its tables among them, in order."""
+    """Yield the rows of a file and of its tables, in order."""
     command = path.parent.name
     common = (
         tomllib.loads((ROWS / "texts.toml").read_text()) if (ROWS / "texts.toml").exists() else {}
@@ -139,26 +140,25 @@ def rows_of(path: Path) -> Iterator[Row]:
             rows.append({**shared, **dict(zip(table["keys"], row))})
     names: set[str] = set()
     for row in rows:
-        place = f"{command}/{path.stem}: {row.get('name', '')}"
+        label = f"{command}/{path.stem}: {row.get('name', '')}"
         unknown = set(row) - KEYS
         if unknown or not row.get("name") or row["name"] in names:
-            raise BadRow(
-                f"{place}: {f'unknown keys {sorted(unknown)}' if unknown else 'it needs a name of its own'}"
-            )
-        if row.get("needs", SHELVES[0]) not in SHELVES:
-            raise BadRow(f"{place}: it needs one of {', '.join(SHELVES)}")
+            fault = f"unknown keys {sorted(unknown)}" if unknown else "it needs a unique name"
+            raise BadRow(f"{label}: {fault}")
+        if row.get("needs", MODES[0]) not in MODES:
+            raise BadRow(f"{label}: it needs one of {', '.join(MODES)}")
         names.add(row["name"])
-        yield Row(command, place, row, texts)
+        yield Row(command, label, row, texts)
 
 
 def write_files(row: Row, room: Path) -> dict[str, list[str]]:
-    """Writes the row's texts to files, and gives their paths by key."""
+    """Write the texts of a row to files, and return their paths by key."""
     paths: dict[str, list[str]] = {}
     for key in FILES:
         if key not in row.keys:
             continue
-        said = row.keys[key]
-        texts = said if isinstance(said, list) else [said]
+        value = row.keys[key]
+        texts = value if isinstance(value, list) else [value]
         for number, text in enumerate(texts):
             path = room / (f"{key}{number}" if len(texts) > 1 else key)
             path.write_bytes(row.text(text))
@@ -168,43 +168,43 @@ def write_files(row: Row, room: Path) -> dict[str, list[str]]:
     return paths
 
 
-def words_of(row: Row, paths: dict[str, list[str]], room: Path) -> list[str]:
-    """The words of the command line."""
+def arguments_of(row: Row, paths: dict[str, list[str]], room: Path) -> list[str]:
+    """Return the arguments of the program."""
     if "args" in row.keys:
-        places = {"room": str(room), **{key: found[0] for key, found in paths.items()}}
-        places |= {
+        values = {"room": str(room), **{key: files[0] for key, files in paths.items()}}
+        values |= {
             f"{key}{number}": path
-            for key, found in paths.items()
-            for number, path in enumerate(found)
+            for key, files in paths.items()
+            for number, path in enumerate(files)
         }
-        words = []
-        for word in row.keys["args"]:
-            more = row.keys.get("times", 1) if word == "{def}" else 1
-            words += [word.format(**places) if "{" in word else word] * more
-        return [word.replace("\\xff", "\udcff") for word in words]
-    words = [row.command, *row.keys.get("options", [])]
+        arguments = []
+        for argument in row.keys["args"]:
+            more = row.keys.get("times", 1) if argument == "{def}" else 1
+            arguments += [argument.format(**values) if "{" in argument else argument] * more
+        return [argument.replace("\\xff", "\udcff") for argument in arguments]
+    arguments = [row.command, *row.keys.get("options", [])]
     definitions = paths.get("def", []) * row.keys.get("times", 1)
     match row.command:
         case "run":
             if "script" in paths:
-                words += ["--script", *paths["script"]]
+                arguments += ["--script", *paths["script"]]
             if "writes" in row.keys or "audited" in row.keys:
-                words += ["--log", str(room / "log")]
-            words += definitions
+                arguments += ["--log", str(room / "log")]
+            arguments += definitions
         case "drive":
             if {"log", "writes", "audited", "beside", "defines"} & set(row.keys):
-                words += ["--log", str(room / "log")]
-            words += definitions
+                arguments += ["--log", str(room / "log")]
+            arguments += definitions
         case "audit":
-            words += paths.get("log", []) + definitions
+            arguments += paths.get("log", []) + definitions
         case _:
-            words += [path for key in FILES for path in paths.get(key, [])]
-    return words
+            arguments += [path for key in FILES for path in paths.get(key, [])]
+    return arguments
 
 
 @functools.cache
 def program() -> str:
-    """The path of the program."""
+    """Return the path of the program."""
     return (
         os.environ.get("SAGAS")
         or subprocess.run(
@@ -213,13 +213,13 @@ def program() -> str:
     )
 
 
-def sagas(words: list[str], stdin: Any, stdout: Any = subprocess.PIPE) -> Run:
-    """Runs the program on standard input, which is bytes or a file."""
-    given: dict[str, Any] = {"input": stdin} if isinstance(stdin, bytes) else {"stdin": stdin}
+def sagas(arguments: list[str], stdin: Any, stdout: Any = subprocess.PIPE) -> Run:
+    """Run the program on standard input, which is bytes or a file."""
+    source: dict[str, Any] = {"input": stdin} if isinstance(stdin, bytes) else {"stdin": stdin}
     try:
         done = subprocess.run(
-            [program(), *words],
-            **given,
+            [program(), *arguments],
+            **source,
             stdout=stdout,
             stderr=subprocess.PIPE,
             cwd=TOP,
@@ -230,54 +230,54 @@ def sagas(words: list[str], stdin: Any, stdout: Any = subprocess.PIPE) -> Run:
     return Run(done.returncode, done.stdout or b"", done.stderr)
 
 
-def in_shell(redirection: str, words: list[str], stdin: bytes) -> Run:
-    """Runs the program with one of its streams as the shell redirects it."""
-    words = ["sh", "-c", f'exec "$@" {redirection}', "sh", program(), *words]
-    done = subprocess.run(words, input=stdin, capture_output=True, cwd=TOP, timeout=SECONDS)
+def in_shell(redirection: str, arguments: list[str], stdin: bytes) -> Run:
+    """Run the program with a stream that the shell redirects."""
+    arguments = ["sh", "-c", f'exec "$@" {redirection}', "sh", program(), *arguments]
+    done = subprocess.run(arguments, input=stdin, capture_output=True, cwd=TOP, timeout=SECONDS)
     return Run(done.returncode, done.stdout, done.stderr)
 
 
-def in_terminal(words: list[str]) -> Run:
-    """Runs the program with a terminal on standard input."""
+def in_terminal(arguments: list[str]) -> Run:
+    """Run the program with a terminal on standard input."""
     leader, terminal = os.openpty()
     try:
-        return sagas(words, terminal)
+        return sagas(arguments, terminal)
     finally:
         os.close(leader)
         os.close(terminal)
 
 
-def on_path(path: str, words: list[str]) -> Run:
-    """Runs the program with what is at a path, a folder maybe, on standard input."""
+def on_path(path: str, arguments: list[str]) -> Run:
+    """Run the program with a file or folder on standard input."""
     stream = os.open(path, os.O_RDONLY)
     try:
-        return sagas(words, stream)
+        return sagas(arguments, stream)
     finally:
         os.close(stream)
 
 
-def run_row(row: Row, words: list[str]) -> Run:
-    """Runs the program as the row says."""
-    said = row.keys.get("stdin", "")
-    match (said, row.keys.get("stdout")):
+def run_row(row: Row, arguments: list[str]) -> Run:
+    """Run the program with the streams of the row."""
+    stdin = row.keys.get("stdin", "")
+    match (stdin, row.keys.get("stdout")):
         case ("terminal", _):
-            return in_terminal(words)
+            return in_terminal(arguments)
         case ("closed", _):
-            return in_shell("<&-", words, b"")
+            return in_shell("<&-", arguments, b"")
         case (_, "full"):
-            return in_shell(">/dev/full", words, row.text(said))
+            return in_shell(">/dev/full", arguments, row.text(stdin))
         case (_, "closed"):
-            return in_shell(">&-", words, row.text(said))
+            return in_shell(">&-", arguments, row.text(stdin))
         case (str(path), _) if path.startswith("/dev/"):
-            return on_path(path, words)
-    return sagas(words, row.text(said))
+            return on_path(path, arguments)
+    return sagas(arguments, row.text(stdin))
 
 
 def look(row: Row, run: Run, paths: dict[str, list[str]], room: Path) -> None:
-    """Compares what a run gave with what the row wants."""
+    """Compare a run with its row."""
     keys = row.keys
     if run.status != keys.get("status", 0):
-        run.wrong.append(f"status {run.status}, wanted: {keys.get('status', 0)}")
+        run.wrong.append(f"status {run.status}; expected: {keys.get('status', 0)}")
     if "has" in keys:
         run.compare_pieces("standard output", run.out, keys["has"])
     elif "out" in keys or "checked" not in keys:
@@ -290,10 +290,10 @@ def look(row: Row, run: Run, paths: dict[str, list[str]], room: Path) -> None:
     if "writes" in keys:
         run.compare("the log", log.read_bytes() if log.exists() else b"", row.text(keys["writes"]))
     if "defines" in keys:
-        beside = room / "log.definitions"
+        definitions = room / "log.definitions"
         run.compare(
-            "the definitions beside it",
-            beside.read_bytes() if beside.exists() else b"",
+            "the file of definitions",
+            definitions.read_bytes() if definitions.exists() else b"",
             row.text(keys["defines"]),
         )
     if keys.get("absent") and Path(keys["absent"].format(room=room)).exists():
@@ -308,36 +308,38 @@ def look(row: Row, run: Run, paths: dict[str, list[str]], room: Path) -> None:
 
 
 def wrong(row: Row) -> str:
-    """Runs a row; gives nothing, or what is wrong."""
+    """Run a row, and return its faults, or an empty text."""
     with tempfile.TemporaryDirectory(prefix="row-") as folder:
         room = Path(folder)
         try:
             paths = write_files(row, room)
-            words = words_of(row, paths, room)
-            run = run_row(row, words)
+            arguments = arguments_of(row, paths, room)
+            run = run_row(row, arguments)
             look(row, run, paths, room)
         except (BadRow, KeyError, OSError, SyntaxError, NameError, TypeError) as error:
             return f"wrong: {row.place}: {type(error).__name__}: {error}"
-        found = "\n  ".join(run.wrong)
-        return f"wrong: {row.place}\n  sagas {' '.join(words)}\n  {found}" if found else ""
+        faults = "\n  ".join(run.wrong)
+        return f"wrong: {row.place}\n  sagas {' '.join(arguments)}\n  {faults}" if faults else ""
 
 
-def files_of(words: list[str]) -> list[Path]:
-    """The files of rows that the words name; all where there is no word."""
-    if not words:
+def files_of(names: list[str]) -> list[Path]:
+    """Return the files of rows with these names, or all files."""
+    if not names:
         return sorted(ROWS.glob("*/*.toml"))
-    found: list[Path] = []
-    for word in words:
-        path = ROWS / word
-        found += sorted(path.glob("*.toml")) if path.is_dir() else [path.with_suffix(".toml")]
-    return found
+    files: list[Path] = []
+    for name in names:
+        path = ROWS / name
+        files += sorted(path.glob("*.toml")) if path.is_dir() else [path.with_suffix(".toml")]
+    return files
 
 
-def main(words: list[str]) -> int:
-    """Runs the rows of the files that the words name; gives the status."""
-    shelf = "fixed-shelf" if words[:1] == ["--fixed-shelf"] else "define"
+def main(arguments: list[str]) -> int:
+    """Run the rows of the files that the arguments name, and return the status."""
+    mode = "fixed-shelf" if arguments[:1] == ["--fixed-shelf"] else "define"
     try:
-        every = [row for path in files_of(words[shelf == "fixed-shelf" :]) for row in rows_of(path)]
+        every = [
+            row for path in files_of(arguments[mode == "fixed-shelf" :]) for row in rows_of(path)
+        ]
     except (BadRow, OSError, tomllib.TOMLDecodeError) as error:
         print(f"rows: {error}")
         return 1
@@ -346,12 +348,12 @@ def main(words: list[str]) -> int:
     except subprocess.CalledProcessError:
         print("rows: there is no program")
         return 1
-    rows = [row for row in every if row.keys.get("needs", shelf) == shelf]
+    rows = [row for row in every if row.keys.get("needs", mode) == mode]
     with ThreadPoolExecutor(os.cpu_count()) as pool:
-        found = [line for line in pool.map(wrong, rows) if line]
-    print("".join(f"{line}\n" for line in found), end="")
-    print(f"rows: {len(rows)} rows, {len(found)} wrong")
-    return 0 if rows and not found else 1
+        faults = [line for line in pool.map(wrong, rows) if line]
+    print("".join(f"{line}\n" for line in faults), end="")
+    print(f"rows: {len(rows)} rows, {len(faults)} wrong")
+    return 0 if rows and not faults else 1
 
 
 if __name__ == "__main__":

@@ -1,9 +1,10 @@
 #!/usr/bin/env python3
-"""Two trips on Celery's workers: a broker and a worker are started, a trip goes well, and of another the car is given back.
+"""Two trips on Celery's workers: one trip completes, and the other one cancels its car.
 
     PYTHONPATH=python/src python3 examples/celery/run.py
 
-It needs Celery and Redis: apt-get install python3-celery python3-redis redis-server. Everything is in a folder of its own, and is ended at the end.
+The program starts a broker and a worker, and stops them at its end. All files are in a temporary
+folder. It needs Celery and Redis: apt-get install python3-celery python3-redis redis-server.
 """
 
 from __future__ import annotations
@@ -19,38 +20,32 @@ import threading
 import sagas
 
 HERE = pathlib.Path(__file__).resolve().parent
+PACKAGES = "python3-celery python3-redis redis-server"
 
 
 class Program:
-    """A program that was started, and what it says."""
+    """A child process, and the lines that it prints."""
 
-    def __init__(self, *words: str) -> None:
-        self.said: list[str] = []
-        self._words = words
+    def __init__(self, *command: str) -> None:
+        self.lines: list[str] = []
+        self._command = command
 
     def _read(self) -> None:
         assert self.process.stdout
         for line in self.process.stdout:
-            self.said.append(line.rstrip())
+            self.lines.append(line.rstrip())
             if self._ready in line:
                 self._is_ready.set()
         self._is_ready.set()
 
     def start(self, ready: str) -> None:
-        """Starts it, and waits until it says this."""
+        """Start the process, and wait until it prints a text."""
         self._ready, self._is_ready = ready, threading.Event()
-        path = os.pathsep.join(
-            [
-                str(HERE),
-                *map(
-                    os.path.abspath,
-                    filter(None, os.environ.get("PYTHONPATH", "").split(os.pathsep)),
-                ),
-            ]
-        )
+        folders = filter(None, os.environ.get("PYTHONPATH", "").split(os.pathsep))
+        path = os.pathsep.join([str(HERE), *map(os.path.abspath, folders)])
         try:
             self.process = subprocess.Popen(
-                self._words,
+                self._command,
                 env=os.environ | {"PYTHONPATH": path},
                 stdout=subprocess.PIPE,
                 stderr=subprocess.STDOUT,
@@ -58,24 +53,22 @@ class Program:
                 start_new_session=True,
             )
         except FileNotFoundError:
-            raise SystemExit(
-                f"{self._words[0]} is missing: apt-get install python3-celery python3-redis redis-server"
-            ) from None
+            raise SystemExit(f"{self._command[0]} is missing: apt-get install {PACKAGES}") from None
         self._thread = threading.Thread(target=self._read)
         self._thread.start()
         self._is_ready.wait()
-        if not any(ready in line for line in self.said):
-            raise SystemExit("\n".join([f"{self._words[0]} did not start:", *self.said]))
+        if not any(ready in line for line in self.lines):
+            raise SystemExit("\n".join([f"{self._command[0]} did not start:", *self.lines]))
 
     def stop(self) -> None:
-        """Ends it."""
+        """Stop the process, and wait for its end."""
         self.process.terminate()
         self.process.wait()
         self._thread.join()
 
 
 async def book(store: sagas.Store, key: str, wish: str = "") -> None:
-    """Books a trip, and tells what became of it."""
+    """Book a trip, and print its result and its plan."""
     import shop
 
     run = await store.start(shop.trip, key, shop.Order("Rome", wish))
@@ -84,7 +77,7 @@ async def book(store: sagas.Store, key: str, wish: str = "") -> None:
 
 
 async def main(store: str) -> None:
-    """The program that has the store: it decides, and the workers do."""
+    """Open the store and book two trips. Workers execute their steps."""
     import shop
 
     async with sagas.open(store, [shop.trip]) as opened:
@@ -93,7 +86,7 @@ async def main(store: str) -> None:
 
 
 def run(folder: str) -> None:
-    """A broker, a worker, the program, and what the worker did."""
+    """Start a broker and a worker, book the trips, and print the worker's lines."""
     os.environ |= {"BROKER": f"redis+socket://{folder}/socket", "STORE": f"{folder}/trips.db"}
     broker = Program(
         "redis-server", "--port", "0", "--unixsocket", f"{folder}/socket", "--save", ""
@@ -122,8 +115,8 @@ def run(folder: str) -> None:
     finally:
         broker.stop()
     print("what the worker did:")
-    for line in worker.said:
-        if "WARNING/" in line:  # where Celery puts what a task prints
+    for line in worker.lines:
+        if "WARNING/" in line:  # Celery logs the output of tasks so
             print(" ", line.partition("] ")[2])
 
 

@@ -1,10 +1,11 @@
 #!/usr/bin/env python3
-"""An order in three steps, each of which can be undone: the stock is reserved, the card is charged, the parcel is sent.
+"""An order in three steps: the stock is reserved, the card is charged, and the parcel is sent.
 
     PYTHONPATH=python/src python3 examples/python/order.py
 
-Two orders are made. The first goes well. Of the second the parcel cannot be sent: the money is given back, and then the stock,
-since the charge needs the reservation. A service does each thing once for an idempotency key, so that a step may run again after a kill.
+The program makes two orders. The first one completes. The parcel of the second one cannot be sent,
+so the money is refunded, and then the stock is released, since the charge needs the reservation. A
+service executes an action once for each idempotency key, so that a step may run again after a kill.
 """
 
 from __future__ import annotations
@@ -19,24 +20,24 @@ import sagas
 
 @dataclass
 class Order:
-    """What is ordered."""
+    """The input: an item, and the amount to pay for it."""
 
     item: str
     amount: int
 
 
 class Service:
-    """A service outside: it does each thing once for an idempotency key, and answers the same when it is asked again."""
+    """An external service, which executes an action once for each idempotency key."""
 
     def __init__(self) -> None:
         self.done: dict[str, str] = {}
 
-    def do(self, key: str, what: str) -> str:
-        """Does something, unless it was done under this idempotency key."""
+    def execute(self, key: str, action: str) -> str:
+        """Execute an action, unless it was executed under this idempotency key."""
         if key not in self.done:
-            self.done[key] = what
-            print(f"  {what}")
-        return what
+            self.done[key] = action
+            print(f"  {action}")
+        return action
 
 
 service = Service()
@@ -45,43 +46,43 @@ order = sagas.Saga("order")
 
 @order.step
 def reserve(task: sagas.Task[Order]) -> str:
-    """Takes the item from the stock."""
-    return service.do(task.idempotency_key, f"reserve one {task.input.item}")
+    """Take the item from the stock."""
+    return service.execute(task.idempotency_key, f"reserve one {task.input.item}")
 
 
 @reserve.compensation(tries=5)
 def release(task: sagas.Task[Order]) -> None:
-    """Puts it back."""
-    service.do(task.idempotency_key, f"put the {task.input.item} back")
+    """Put the item back."""
+    service.execute(task.idempotency_key, f"put the {task.input.item} back")
 
 
 @order.step(needs=[reserve], tries=3, backoff=sagas.Backoff(initial=0.1))
 def charge(task: sagas.Task[Order]) -> int:
-    """Charges the card."""
-    service.do(task.idempotency_key, f"charge {task.input.amount} euros")
+    """Charge the card."""
+    service.execute(task.idempotency_key, f"charge {task.input.amount} euros")
     return task.input.amount
 
 
 @charge.compensation(tries=5)
 def refund(task: sagas.Task[Order]) -> None:
-    """Gives the money back: what the step returned is `task.result`."""
-    service.do(task.idempotency_key, f"give {task.result} euros back")
+    """Return the money. `task.result` is what the step returned."""
+    service.execute(task.idempotency_key, f"give {task.result} euros back")
 
 
 @order.step(needs=[charge])
 async def send(task: sagas.Task[Order]) -> None:
-    """Sends the parcel. Raising says that nothing was sent."""
+    """Send the parcel. The exception says that nothing was sent."""
     if task.input.item == "piano":
         raise sagas.Fail("a piano does not fit into a parcel")
-    service.do(task.idempotency_key, f"send the {task.input.item}")
+    service.execute(task.idempotency_key, f"send the {task.input.item}")
 
 
 async def main(path: pathlib.Path) -> None:
-    """Makes two orders."""
+    """Make two orders."""
     async with sagas.open(path, [order]) as store:
-        for key, wanted in (("order-1", Order("lamp", 40)), ("order-2", Order("piano", 900))):
-            print(f"{key}: one {wanted.item}")
-            run = await store.start(order, key=key, input=wanted)
+        for key, details in (("order-1", Order("lamp", 40)), ("order-2", Order("piano", 900))):
+            print(f"{key}: one {details.item}")
+            run = await store.start(order, key=key, input=details)
             end = await run.wait()
             print(
                 f"  {end.phase}: "

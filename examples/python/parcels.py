@@ -1,10 +1,11 @@
 #!/usr/bin/env python3
-"""An order that is sent in as many parcels as it has: a step for each parcel, and a hotel that another saga books.
+"""An order with a step for each of its parcels, and with the steps of another saga.
 
     PYTHONPATH=python/src python3 examples/python/parcels.py
 
-Three orders are made. The first goes well. In the second a parcel cannot be sent: those that are worth more than it costs to call
-them back come back. The third goes on without the parcel, since its failure is collected.
+The program makes three orders. The first one completes. In the second one a parcel cannot be sent:
+sent parcels that are worth more than their recall costs are recalled. The third one continues
+without the parcel, since its step collects the failures.
 """
 
 from __future__ import annotations
@@ -19,7 +20,7 @@ import sagas
 
 @dataclass
 class Parcel:
-    """What is sent."""
+    """A parcel: its town and its value."""
 
     to: str
     value: int
@@ -27,14 +28,14 @@ class Parcel:
 
 @dataclass
 class Order:
-    """What is ordered."""
+    """The input: parcels, and whether they are a gift."""
 
     parcels: list[Parcel]
     gift: bool = False
 
 
 def by_town(order: Order) -> dict[str, Parcel]:
-    """The parcels, each under the town that it goes to."""
+    """Return the parcels by their towns."""
     return {parcel.to: parcel for parcel in order.parcels}
 
 
@@ -88,10 +89,9 @@ def try_to_ship(task: sagas.ItemTask[Order, Parcel]) -> str:
 
 @best_effort.step(needs=[sagas.collect(try_to_ship)])
 def report(task: sagas.Task[Order]) -> str:
-    found = task.result_of(sagas.collect(try_to_ship))
-    return (
-        f"sent to {', '.join(map(str, found.results))}; not to {', '.join(map(str, found.errors))}"
-    )
+    shipped = task.result_of(sagas.collect(try_to_ship))
+    sent, failed = (", ".join(map(str, towns)) for towns in (shipped.results, shipped.errors))
+    return f"sent to {sent}; not to {failed}"
 
 
 async def main(folder: pathlib.Path) -> None:

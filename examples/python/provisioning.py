@@ -1,13 +1,15 @@
 #!/usr/bin/env python3
-"""A server is provisioned: a person approves it, it is set up, it is watched for three days, and then it is billed.
+"""A server is provisioned: approved by a person, set up, watched for three days, and then billed.
 
     PYTHONPATH=python/src python3 examples/python/provisioning.py
 
-Three days are half a second here. The first request is approved and goes well. The second is refused, and its address is given back.
-The third cannot be billed after its days: the server is removed and then its address given back, since the server needs that.
+Three days are half a second here. The first request is approved, and completes. The second one is
+refused, and its address is released. The third one cannot be billed after its three days: the
+server is removed, and then its address is released, since the server needs the address.
 
-With a path behind it, as `servers.db`, the store stays: an operator sees the same by `python3 -m sagas store servers.db list`, also while it runs,
-and says of a step that waits `python3 -m sagas store servers.db complete KEY approve`.
+If the command has a path as its argument, for example `servers.db`, the store remains. An operator
+lists its sagas with `python3 -m sagas store servers.db list`, also while the program runs, and
+completes a step that waits with `python3 -m sagas store servers.db complete KEY approve`.
 """
 
 from __future__ import annotations
@@ -21,54 +23,54 @@ from typing import Any
 
 import sagas
 
-Wanted = dict[str, Any]
+Request = dict[str, Any]
 DAYS = datetime.timedelta(seconds=0.5)
 provisioning = sagas.Saga("provisioning")
 
 
 @provisioning.step
-async def address(task: sagas.Task[Wanted]) -> str:
-    """Takes an address for the server."""
+async def address(task: sagas.Task[Request]) -> str:
+    """Take an address for the server."""
     print(f"  {task.key}: take an address")
     return "192.0.2.17"
 
 
 @address.compensation
-async def free_address(task: sagas.Task[Wanted]) -> None:
-    """Gives it back."""
+async def free_address(task: sagas.Task[Request]) -> None:
+    """Release the address."""
     print(f"  {task.key}: give {task.result} back")
 
 
 @provisioning.approval(needs=[address], timeout=datetime.timedelta(days=7))
-async def approve(task: sagas.Task[Wanted]) -> None:
-    """Asks somebody. Whoever answers calls `store.complete(key, "approve", ..)`; here a queue stands for the mail."""
+async def approve(task: sagas.Task[Request]) -> None:
+    """Ask the manager, who calls `store.complete(key, "approve", result)`, by a queue."""
     mailbox.put_nowait((task.key, task.input["size"]))
 
 
 @provisioning.step(needs=[approve, address], tries=3, timeout=60)
-async def server(task: sagas.Task[Wanted]) -> str:
-    """Starts the server at its address."""
-    print(
-        f"  {task.key}: start a {task.input['size']} server at {task.result_of(address)}, approved by {task.results['approve']}"
-    )
+async def server(task: sagas.Task[Request]) -> str:
+    """Start the server at its address."""
+    size, location = task.input["size"], task.result_of(address)
+    approved_by = task.results["approve"]
+    print(f"  {task.key}: start a {size} server at {location}, approved by {approved_by}")
     return "server 4"
 
 
 @server.compensation(tries=5)
-async def remove_server(task: sagas.Task[Wanted]) -> None:
-    """Removes it."""
+async def remove_server(task: sagas.Task[Request]) -> None:
+    """Remove the server."""
     print(f"  {task.key}: remove {task.result}")
 
 
 @provisioning.wait(needs=[server], until=DAYS)
-async def watch(task: sagas.Task[Wanted]) -> str:
-    """Is called when its days are over. Meanwhile the saga takes no place among those that run."""
+async def watch(task: sagas.Task[Request]) -> str:
+    """Return after three days. While the saga waits, it does not count as running."""
     return "quiet"
 
 
 @provisioning.step(needs=[watch])
-async def bill(task: sagas.Task[Wanted]) -> None:
-    """Bills it."""
+async def bill(task: sagas.Task[Request]) -> None:
+    """Bill the server."""
     if task.input["account"] == "closed":
         raise sagas.Fail("the account is closed")
     print(f"  {task.key}: bill it")
@@ -78,7 +80,7 @@ mailbox: asyncio.Queue[tuple[str, str]] = asyncio.Queue()
 
 
 async def manager(store: sagas.Store) -> None:
-    """Somebody who answers: everything but the huge ones."""
+    """Approve all requests except those for a huge server."""
     while True:
         key, size = await mailbox.get()
         if size == "huge":
@@ -88,15 +90,15 @@ async def manager(store: sagas.Store) -> None:
 
 
 async def main(path: pathlib.Path) -> None:
-    """Makes three requests."""
-    wanted = {
+    """Make three requests."""
+    requests = {
         "request-1": {"size": "small", "account": "open"},
         "request-2": {"size": "huge", "account": "open"},
         "request-3": {"size": "large", "account": "closed"},
     }
     async with sagas.open(path, [provisioning]) as store:
         answers = asyncio.create_task(manager(store))
-        for key, request in wanted.items():
+        for key, request in requests.items():
             print(key)
             run = await store.start(provisioning, key=key, input=request)
             end = await run.wait()

@@ -1,11 +1,12 @@
 #!/usr/bin/env python3
-"""A trip with costs: when the hotel is full, what costs least is undone, and no more.
+"""A trip with costs: if the hotel is full, the recovery with the least cost is executed.
 
     PYTHONPATH=python/src python3 examples/python/trip.py
 
-Flight and hotel cannot be given back. The car costs 5 to give back, and 30 if it is kept for a trip that failed. To do without a hotel
-costs 25, without the tour 10. So when no hotel is found, the flight stands and the car is given back, for 5 + 25 + 10 = 40; and when the
-tour is sold out, flight and hotel stand, for 5 + 10 = 15.
+Flight and hotel cannot be undone. It costs 5 to cancel the car, and 30 to keep it for a trip that
+failed. A trip without a hotel costs 25, and one without the tour 10. So if no hotel has a room, the
+flight remains in effect and the car is canceled, for 5 + 25 + 10 = 40. If the tour is sold out,
+flight and hotel remain in effect, for 5 + 10 = 15.
 """
 
 from __future__ import annotations
@@ -23,27 +24,27 @@ trip = sagas.Saga("trip")
 
 @trip.step
 async def flight(task: sagas.Task[Trip]) -> str:
-    """Books the flight. It has no compensation, so that it is never undone."""
+    """Book the flight. It has no compensation, so that it is never undone."""
     print(f"  flight {task.input['flight']}")
     return "Lisbon"
 
 
 @trip.step(needs=[flight], undo=5, keep=30)
 async def car(task: sagas.Task[Trip]) -> str:
-    """Hires a car where the flight goes."""
+    """Hire a car at the destination of the flight."""
     print(f"  car in {task.result_of(flight)}")
     return "car 7"
 
 
 @car.compensation
 async def cancel_car(task: sagas.Task[Trip]) -> None:
-    """Gives the car back."""
+    """Cancel the car."""
     print(f"  give {task.result} back")
 
 
 @trip.step(needs=[flight], skip=25, tries=3, backoff=sagas.Backoff(initial=0.05, maximum=0.1))
 async def hotel(task: sagas.Task[Trip]) -> str:
-    """Books a hotel, if one has a room."""
+    """Book a hotel, if one has a room."""
     if not task.input["rooms"]:
         print(f"  hotel in {task.result_of(flight)}: full (attempt {task.attempt})")
         raise LookupError("no room is free")
@@ -53,7 +54,7 @@ async def hotel(task: sagas.Task[Trip]) -> str:
 
 @trip.step(needs=[car, hotel], skip=10)
 async def tour(task: sagas.Task[Trip]) -> str:
-    """Books a tour from the hotel, if it is not sold out."""
+    """Book a tour from the hotel, if it is not sold out."""
     if not task.input["seats"]:
         print("  tour: sold out")
         raise sagas.Fail("no seat is free")
@@ -62,7 +63,7 @@ async def tour(task: sagas.Task[Trip]) -> str:
 
 
 async def main(path: pathlib.Path) -> None:
-    """Makes three trips: one goes well, one finds no hotel, and one no tour."""
+    """Make three trips: one completes, one finds no hotel, and one no tour."""
     async with sagas.open(path, [trip]) as store:
         for key, rooms, seats in (("trip-1", 2, 9), ("trip-2", 0, 9), ("trip-3", 2, 0)):
             print(key)
@@ -70,10 +71,8 @@ async def main(path: pathlib.Path) -> None:
                 trip, key=key, input={"flight": "LH1166", "rooms": rooms, "seats": seats}
             )
             end = await run.wait()
-            print(
-                f"  {end.phase}, stands: {', '.join(end.results)}"
-                + (f"; it costs {end.cost}" if end.cost else "")
-            )
+            cost = f"; it costs {end.cost}" if end.cost else ""
+            print(f"  {end.phase}, in effect: {', '.join(end.results)}{cost}")
 
 
 if __name__ == "__main__":

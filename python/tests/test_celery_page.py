@@ -122,4 +122,4 @@ def test_the_example() -> None:
         "  failed    tour: RuntimeError: the tour is full",
     ]
     worker = lines[lines.index("what the worker did:") + 1 :]
-    assert worker.count("  a car for seat 12A") == 2 and worker.count("  car 7 is given back") == 1
+    assert worker.count("  a car for seat 12A") == 2 and worker.count("  car 7 is canceled") == 1

@@ -28,11 +28,11 @@ SAYS = {
         "  completed: sent to Oslo, Rome; not to nowhere",
     ],
     "trip": [
-        "  completed, stands: flight, car, hotel, tour",
+        "  completed, in effect: flight, car, hotel, tour",
         "  hotel in Lisbon: full (attempt 3)",
         "  give car 7 back",
-        "  recovered, stands: flight; it costs 40",
-        "  recovered, stands: flight, hotel; it costs 15",
+        "  recovered, in effect: flight; it costs 40",
+        "  recovered, in effect: flight, hotel; it costs 15",
     ],
     "provisioning": [
         "  request-1: start a small server at 192.0.2.17, approved by Ada",

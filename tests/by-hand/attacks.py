@@ -1,14 +1,15 @@
 """Attacks on a service with tokens: `tests/by-hand/attacks.sh` runs this.
 
-Each prints what others get in the meantime, and says what it was without the limits of today.
+Each attack prints the replies that others get during it. The results without limits were:
 
-waits: one token opens 2,050 waits. Before: a reset for everybody, also for /health, for a minute.
-unread: 2,050 connections without a token ask for much, pipelined, and read nothing. Before: nobody
-was answered for 30 seconds and more.
-stop: 20 clients reset their connections with 30 requests, a claim or a wait pipelined on each; then
-SIGTERM. Before, with httptools: the process never ended.
-deep: 20 inputs of 968 levels, and 50 others for one worker. Before: 201, and each claim that had
-one of them was answered with 500 and kept its leases.
+waits: one token opens 2,050 waits. Without limits every client, and /health, got a reset for a
+minute.
+unread: 2,050 connections without a token send many requests, pipelined, and read nothing. Without
+limits no client got a reply for 30 seconds and more.
+stop: 20 clients reset their connections with 30 requests, a claim or a wait pipelined on each, and
+then comes SIGTERM. With httptools the process never ended.
+deep: 20 inputs of 968 levels, and 50 others for one worker. Without limits the starts got 201, and
+each claim with one of these inputs got 500 and kept its leases.
 """
 
 from __future__ import annotations
@@ -55,7 +56,7 @@ class Service:
                 check=True,
             )
             self.tokens[name] = done.stdout.decode().strip()
-        words = [
+        options = [
             "serve",
             "s.db",
             "--definitions",
@@ -66,7 +67,7 @@ class Service:
             "127.0.0.1:0",
         ]
         self.process = subprocess.Popen(
-            [*sagas, *words, "--log-level", "error"],
+            [*sagas, *options, "--log-level", "error"],
             cwd=folder,
             stderr=subprocess.DEVNULL,
             stdout=subprocess.PIPE,
@@ -78,11 +79,11 @@ class Service:
         self.address = host, int(port)
 
     def ask(
-        self, who: str | None, method: str, path: str, body: Any = None, timeout: float = 60
+        self, role: str | None, method: str, path: str, body: Any = None, timeout: float = 60
     ) -> tuple[int, Any]:
-        """The status of an answer, and the answer."""
+        """Return the status and the body of a reply."""
         link = http.client.HTTPConnection(*self.address, timeout=timeout)
-        headers = {"Authorization": f"Bearer {self.tokens[who]}"} if who else {}
+        headers = {"Authorization": f"Bearer {self.tokens[role]}"} if role else {}
         data = (
             body if isinstance(body, bytes) else None if body is None else json.dumps(body).encode()
         )
@@ -90,42 +91,42 @@ class Service:
             method, path, data, headers | ({"Content-Type": "application/json"} if data else {})
         )
         answer = link.getresponse()
-        told = answer.read()
+        reply = answer.read()
         link.close()
-        return answer.status, json.loads(told) if told.startswith((b"{", b"[")) else told
+        return answer.status, json.loads(reply) if reply.startswith((b"{", b"[")) else reply
 
-    def tried(self, who: str | None, path: str) -> str:
-        """What comes of a request, and in how many seconds."""
+    def tried(self, role: str | None, path: str) -> str:
+        """Return the outcome of a request, and its seconds."""
         began = time.monotonic()
         try:
-            found: object = self.ask(who, "GET", path, timeout=20)[0]
+            outcomes: object = self.ask(role, "GET", path, timeout=20)[0]
         except OSError as error:
-            found = type(error).__name__
-        return f"{found} in {time.monotonic() - began:.1f} s"
+            outcomes = type(error).__name__
+        return f"{outcomes} in {time.monotonic() - began:.1f} s"
 
     def open(self, text: bytes, buffer: int | None = None) -> socket.socket:
-        """A connection with these bytes sent."""
-        one = socket.socket()
+        """Return a new connection on which these bytes were sent."""
+        link = socket.socket()
         if buffer:
-            one.setsockopt(socket.SOL_SOCKET, socket.SO_RCVBUF, buffer)
-        one.settimeout(20)
-        one.connect(self.address)
-        one.sendall(text)
-        return one
+            link.setsockopt(socket.SOL_SOCKET, socket.SO_RCVBUF, buffer)
+        link.settimeout(20)
+        link.connect(self.address)
+        link.sendall(text)
+        return link
 
-    def head(self, line: str, who: str | None = None, more: str = "") -> bytes:
-        """A request without a body."""
-        right = f"Authorization: Bearer {self.tokens[who]}\r\n" if who else ""
+    def head(self, line: str, role: str | None = None, more: str = "") -> bytes:
+        """Return a request without a body."""
+        right = f"Authorization: Bearer {self.tokens[role]}\r\n" if role else ""
         return f"{line} HTTP/1.1\r\nHost: h\r\n{right}{more}\r\n".encode()
 
     def others(self) -> None:
-        """What health, another caller and an operator get."""
-        for who, path in (
+        """Print the outcomes for health, another caller and an operator."""
+        for role, path in (
             (None, "/health/live"),
             ("caller", "/v1/sagas?limit=1"),
             ("operator", "/v1/attention"),
         ):
-            print(f"  {who or 'health'}: {self.tried(who, path)}", flush=True)
+            print(f"  {role or 'health'}: {self.tried(role, path)}", flush=True)
 
 
 def waits(service: Service) -> None:
@@ -135,17 +136,17 @@ def waits(service: Service) -> None:
     for _ in range(3):
         time.sleep(3)
         service.others()
-    found: Counter[str] = Counter()
-    for one in held:
-        one.settimeout(0.01)
+    outcomes: Counter[str] = Counter()
+    for link in held:
+        link.settimeout(0.01)
         try:
-            found[one.recv(12).decode() or "closed"] += 1
+            outcomes[link.recv(12).decode() or "closed"] += 1
         except TimeoutError:
-            found["waits"] += 1
+            outcomes["waits"] += 1
         except OSError as error:
-            found[type(error).__name__] += 1
-        one.close()
-    print(f"  of the waits: {dict(found)}")
+            outcomes[type(error).__name__] += 1
+        link.close()
+    print(f"  of the waits: {dict(outcomes)}")
 
 
 def unread(service: Service) -> None:
@@ -154,8 +155,8 @@ def unread(service: Service) -> None:
     for _ in range(3):
         time.sleep(3)
         service.others()
-    for one in held:
-        one.close()
+    for link in held:
+        link.close()
 
 
 def stop(service: Service) -> None:
@@ -166,10 +167,10 @@ def stop(service: Service) -> None:
     service.ask("caller", "POST", "/v1/sagas", {"definition": "one", "key": "k"})
     wait = service.head("GET /v1/sagas/k/wait?seconds=60", "caller") + live
     for text in (service.head("GET /openapi.json") * 30, claim, wait) * 7:
-        one = service.open(text)
+        link = service.open(text)
         time.sleep(0.01)
-        one.setsockopt(socket.SOL_SOCKET, socket.SO_LINGER, RESET)
-        one.close()
+        link.setsockopt(socket.SOL_SOCKET, socket.SO_LINGER, RESET)
+        link.close()
     began = time.monotonic()
     service.process.send_signal(signal.SIGTERM)
     try:
@@ -180,7 +181,7 @@ def stop(service: Service) -> None:
 
 def deep(service: Service) -> None:
     levels = b"[" * 968 + b"]" * 968
-    found = Counter(
+    outcomes = Counter(
         service.ask(
             "evil",
             "POST",
@@ -194,16 +195,16 @@ def deep(service: Service) -> None:
     claims: Counter[int] = Counter()
     done, end = 0, time.monotonic() + 30
     while done < 50 and time.monotonic() < end:
-        status, told = service.ask(
+        status, reply = service.ask(
             "worker", "POST", "/v1/tasks/claim", {"steps": ["one/a"], "limit": 10, "wait": 1}
         )
         claims[status] += 1
-        for task in told.get("tasks", ()):
+        for task in reply.get("tasks", ()):
             path = f"/v1/tasks/{task['attempt_id']}/complete"
             done += (
                 service.ask("worker", "POST", path, {"lease": task["lease"], "result": 1})[0] == 200
             )
-    print(f"  starts {dict(found)}; claims {dict(claims)}; {done} of 50 tasks were done")
+    print(f"  starts {dict(outcomes)}; claims {dict(claims)}; {done} of 50 tasks were done")
 
 
 KINDS: dict[str, Callable[[Service], None]] = {
@@ -215,7 +216,7 @@ KINDS: dict[str, Callable[[Service], None]] = {
 
 
 def main(names: list[str]) -> int:
-    """The status of the command."""
+    """Run the attacks, and return the status."""
     hard = resource.getrlimit(resource.RLIMIT_NOFILE)[1]
     resource.setrlimit(resource.RLIMIT_NOFILE, (min(hard, 8192) if hard > 0 else 8192, hard))
     for name in names or KINDS:

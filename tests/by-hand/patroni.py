@@ -1,4 +1,7 @@
-"""The work of patroni.sh: a cluster, what happens to it, and a judgement by a witness, by the database and by the records of the nodes."""
+"""The program of patroni.sh: a cluster, its failures, and a verdict.
+
+The verdict is by the witness, by the database and by the records of the nodes.
+"""
 
 from __future__ import annotations
 
@@ -28,7 +31,7 @@ import sagas
 
 MEMBERS, LOOPS, LONG = 3, 8, 180.0
 TTL = 20
-"""Seconds after which Patroni gives up a leader that is silent: the least that it takes."""
+"""Seconds after which Patroni replaces a silent leader: the least that it accepts."""
 EVENTS = ("switchover", "kill", "haproxy", "etcd", "frozen")
 Json = dict[str, Any]
 
@@ -37,7 +40,7 @@ Json = dict[str, Any]
 
 
 async def node(url: str, socket: str, name: str) -> None:
-    """A program that starts sagas and waits for them, until it is asked to end."""
+    """Start sagas and wait for them, until SIGTERM."""
     witness, saga, over = Witness(socket), sagas.Saga("pair"), asyncio.Event()
 
     @saga.step
@@ -86,17 +89,17 @@ class Cluster:
         self.rests = [free_port() for _ in range(MEMBERS)]
         self.etcd, self.peer, self.proxy = free_port(), free_port(), free_port()
         self.url = f"postgresql://owner@127.0.0.1:{self.proxy}/postgres"
-        self.own(folder)
+        self.give_to_user(folder)
         (folder / "haproxy.cfg").write_text(self.haproxy())
         for number in range(MEMBERS):
             (folder / f"m{number}.json").write_text(json.dumps(self.patroni(number)))
 
-    def own(self, path: pathlib.Path) -> None:
+    def give_to_user(self, path: pathlib.Path) -> None:
         path.chmod(0o755)
         os.chown(path, OTHER, OTHER)
 
     def patroni(self, number: int) -> Json:
-        """The settings of a member. JSON is YAML, too."""
+        """Return the settings of a member. JSON is YAML too."""
         rest, port = f"127.0.0.1:{self.rests[number]}", f"127.0.0.1:{self.ports[number]}"
         dcs = {
             "ttl": TTL,
@@ -111,7 +114,7 @@ class Cluster:
                 "parameters": {"max_connections": 100, "wal_log_hints": "on"},
             }
         }
-        access = [f"host {what} all 127.0.0.1/32 trust" for what in ("all", "replication")]
+        access = [f"host {base} all 127.0.0.1/32 trust" for base in ("all", "replication")]
         return {
             "scope": "sagas",
             "name": f"m{number}",
@@ -144,9 +147,12 @@ class Cluster:
             for at, (port, rest) in enumerate(zip(self.ports, self.rests))
         )
         return (
-            "defaults\n  mode tcp\n  timeout connect 2s\n  timeout client 1h\n  timeout server 1h\n  timeout check 2s\n"
-            f"listen primary\n  bind 127.0.0.1:{self.proxy}\n  option httpchk OPTIONS /primary\n  http-check expect status 200\n"
-            f"  default-server inter 500ms fall 3 rise 2 on-marked-down shutdown-sessions\n{servers}"
+            "defaults\n  mode tcp\n  timeout connect 2s\n  timeout client 1h\n"
+            "  timeout server 1h\n  timeout check 2s\n"
+            f"listen primary\n  bind 127.0.0.1:{self.proxy}\n  option httpchk OPTIONS /primary\n"
+            "  http-check expect status 200\n"
+            "  default-server inter 500ms fall 3 rise 2 on-marked-down shutdown-sessions\n"
+            f"{servers}"
         )
 
     def start(self, name: str) -> None:
@@ -186,13 +192,13 @@ class Cluster:
         self.processes[name].wait(LONG)
 
     def postmaster(self, number: int) -> int | None:
-        """The process of a member's PostgreSQL."""
+        """Return the process of a member's PostgreSQL."""
         with contextlib.suppress(OSError, ValueError):
             return int((self.folder / f"data{number}" / "postmaster.pid").read_text().split()[0])
         return None
 
     def asks(self, number: int, path: str) -> bool:
-        """Whether a member's Patroni says yes."""
+        """Return whether the Patroni of a member reports a role."""
         try:
             with urllib.request.urlopen(
                 f"http://127.0.0.1:{self.rests[number]}/{path}", timeout=2
@@ -205,7 +211,7 @@ class Cluster:
         return next((number for number in range(MEMBERS) if self.asks(number, "primary")), None)
 
     def is_whole(self) -> bool:
-        """Whether there are a primary, its synchronous standby and all others."""
+        """Return whether the primary, its synchronous standby and all others run."""
         others = sum(self.asks(number, "replica") for number in range(MEMBERS))
         return (
             self.primary() is not None
@@ -223,7 +229,7 @@ class Cluster:
         until(self.is_whole)
 
     def close(self) -> None:
-        """End what it has started, and what Patroni has."""
+        """Stop all programs, and the servers that Patroni has started."""
         for name, process in reversed(self.processes.items()):
             with contextlib.suppress(OSError, subprocess.TimeoutExpired):
                 process.send_signal(signal.SIGCONT)
@@ -236,7 +242,7 @@ class Cluster:
 
 
 def until(condition: Callable[[], Any], seconds: float = LONG) -> None:
-    """Wait for something."""
+    """Wait for a condition."""
     end = time.monotonic() + seconds
     while not condition():
         if time.monotonic() > end:
@@ -244,7 +250,7 @@ def until(condition: Callable[[], Any], seconds: float = LONG) -> None:
         time.sleep(0.2)
 
 
-# -- what happens
+# -- events
 
 
 def switchover(cluster: Cluster) -> None:
@@ -264,7 +270,7 @@ def switchover(cluster: Cluster) -> None:
 
 
 def kill(cluster: Cluster) -> None:
-    """The primary and its Patroni fail at once, and come back once there is another primary."""
+    """Kill the primary and its Patroni, and start Patroni after another primary was promoted."""
     leader = cluster.primary()
     assert leader is not None
     postmaster = cluster.postmaster(leader)
@@ -282,14 +288,14 @@ def haproxy(cluster: Cluster) -> None:
 
 
 def etcd(cluster: Cluster) -> None:
-    """Without etcd Patroni lets no server take writes."""
+    """Stop etcd for a while. Without it Patroni allows no server to write."""
     cluster.kill("etcd")
     time.sleep(TTL + 10)
     cluster.start("etcd")
 
 
 def frozen(cluster: Cluster) -> None:
-    """The old primary takes writes still, as far as a standby answers, while another one was promoted."""
+    """Stop Patroni of the primary. It accepts writes still while another one is promoted."""
     leader = cluster.primary()
     assert leader is not None
     process = cluster.processes[f"m{leader}"]
@@ -305,11 +311,11 @@ def frozen(cluster: Cluster) -> None:
         process.send_signal(signal.SIGCONT)
 
 
-# -- the judgement
+# -- the verdict
 
 
 def longest_pause(notes: list[Json], begin: float, end: float) -> float:
-    """Seconds in which no caller was told anything."""
+    """Return the longest time in which no caller got a result, in seconds."""
     times = [
         begin,
         *sorted(
@@ -321,7 +327,7 @@ def longest_pause(notes: list[Json], begin: float, end: float) -> float:
 
 
 def faults_of(url: str, notes: list[Json], files: list[pathlib.Path]) -> list[str]:
-    """What a caller was told, and the database does not have."""
+    """Return the results that a caller got, and that the database does not have."""
     rows, faults = records.read(url).sagas, list[str]()
     for note in notes:
         row = rows.get(note["key"])
@@ -332,7 +338,7 @@ def faults_of(url: str, notes: list[Json], files: list[pathlib.Path]) -> list[st
             and row
             and (row.phase != "ended" or note["result"] != note["key"])
         ):
-            faults.append(f"{note['key']}: told to have ended, and is {row.phase}")
+            faults.append(f"{note['key']}: reported as ended, and is {row.phase}")
     return faults + [str(fault) for fault in fleet.judged(url, files, sync=True)[1]]
 
 
@@ -378,10 +384,8 @@ def main(events: list[str]) -> int:
                 )
                 time.sleep(3)
                 spans[name] = begin, time.time()
-                print(
-                    f"{name}: no caller was told anything for {longest_pause(read(folder / 'notes'), *spans[name]):.1f} s at most",
-                    flush=True,
-                )
+                pause = longest_pause(read(folder / "notes"), *spans[name])
+                print(f"{name}: no caller got a result for {pause:.1f} s at most", flush=True)
             for process in nodes:
                 process.terminate()
             until(lambda: all(process.poll() is not None for process in nodes))
@@ -389,7 +393,7 @@ def main(events: list[str]) -> int:
         faults = faults_of(cluster.url, notes, files)
         ends = sum(note["what"] == "told" for note in notes)
         print(
-            f"{ends} sagas were told to have ended, {len(faults)} faults", *faults[:10], sep="\n  "
+            f"{ends} sagas were reported as ended, {len(faults)} faults", *faults[:10], sep="\n  "
         )
     finally:
         for process in nodes:
@@ -402,7 +406,7 @@ def main(events: list[str]) -> int:
 
 
 def read(path: pathlib.Path) -> list[Json]:
-    """The witness's notes, as far as they are whole."""
+    """Return the complete notes of the witness."""
     text = path.read_text()
     return [json.loads(line) for line in text[: text.rfind("\n") + 1].splitlines()]
 

@@ -1,15 +1,15 @@
-"""How long one caller waits for a small answer while another one asks for what costs much.
+"""Measure how long one caller waits for a small reply while another one sends expensive requests.
 
     PYTHONPATH=python/src SAGAS_PROGRAM=dist/sagas python3 tests/by-hand/starvation.py [SECONDS]
 
-Starts a service with two tokens and a saga of 1,022 steps. Then it measures the median time of a
-small GET of one token: alone, and while the other token has ten what-ifs of the large saga open at
-once, or twenty GETs of it. The callers are processes of their own. It fails if ten what-ifs make
-the median more than three times as long, or twenty GETs more than ten times.
+The script starts a service with two tokens and a saga of 1,022 steps. Then it measures the median
+time of a small GET of one token: alone, and while the other token has ten concurrent what-ifs of
+the large saga, or twenty GETs of it. The callers are separate processes. The script fails if ten
+what-ifs make the median more than three times as long, or twenty GETs more than ten times.
 
-Measured on 2026-11-29 on four processors. Before tokens had queues of their own (load 12 to 20):
-103 times as long for what-ifs, 75 times for GETs. With queues, and with rests after long work (load
-2 to 4): 1.0 to 1.3 times for what-ifs in five runs, and 3.3 to 4.8 times for GETs.
+Measured on 2026-11-29 on four processors. Without queues for each token (load 12 to 20) it was 103
+times as long for what-ifs, and 75 times for GETs. With queues, and with rests after long work (load
+2 to 4), it is 1.0 to 1.3 times for what-ifs in five runs, and 3.3 to 4.8 times for GETs.
 """
 
 from __future__ import annotations
@@ -43,13 +43,13 @@ KINDS = {
     "ten what-ifs": (10, LARGE, 3),
     "twenty GETs": (20, ("GET", "/v1/sagas/large", b""), 10),
 }
-"""Connections, what they ask, and how many times as long others may wait."""
+"""Connections, their request, and the limit of the factor by which others wait longer."""
 
 
 def ask(
     link: http.client.HTTPConnection, token: str, method: str, path: str, body: bytes = b""
 ) -> int:
-    """The status of an answer, which is read to its end."""
+    """Send a request, read the whole reply, and return its status."""
     headers = {"Authorization": f"Bearer {token}", "Content-Type": "application/json"}
     link.request(method, path, body, headers)
     answer = link.getresponse()
@@ -58,26 +58,26 @@ def ask(
 
 
 def attack(address: tuple[str, int], token: str, request: tuple[str, str, bytes]) -> None:
-    """Asks the same again and again, until it is ended."""
+    """Repeat a request until the process is terminated."""
     link = http.client.HTTPConnection(*address, timeout=60)
     while True:
         assert ask(link, token, *request) in (200, 429, 503)
 
 
 def median(address: tuple[str, int], token: str, seconds: float) -> float:
-    """The median of a small GET, in milliseconds."""
-    link, found = http.client.HTTPConnection(*address, timeout=60), []
+    """Return the median of a small GET, in milliseconds."""
+    link, times = http.client.HTTPConnection(*address, timeout=60), []
     end = time.monotonic() + seconds
     while time.monotonic() < end:
         began = time.perf_counter()
         assert ask(link, token, "GET", "/v1/sagas/small") == 200
-        found.append((time.perf_counter() - began) * 1000)
+        times.append((time.perf_counter() - began) * 1000)
         time.sleep(0.02)
-    return statistics.median(found)
+    return statistics.median(times)
 
 
 def measured(address: tuple[str, int], tokens: dict[str, str], seconds: float) -> bool:
-    """Whether each median is within its limit."""
+    """Return whether each median is within its limit."""
     link, is_good = http.client.HTTPConnection(*address, timeout=60), True
     items = [
         {"undo": random.randrange(10**9), "keep": random.randrange(10**9)} for _ in range(1020)
@@ -93,35 +93,36 @@ def measured(address: tuple[str, int], tokens: dict[str, str], seconds: float) -
             )
             for _ in range(count)
         ]
-        for one in some:
-            one.start()
+        for attacker in some:
+            attacker.start()
         time.sleep(1)
-        beside = median(address, tokens["other"], seconds)
-        for one in some:
-            one.terminate()
-            one.join()
-        is_good &= beside <= limit * alone
+        during = median(address, tokens["other"], seconds)
+        for attacker in some:
+            attacker.terminate()
+            attacker.join()
+        is_good &= during <= limit * alone
         print(
-            f"{name}: {alone:.1f} ms alone, {beside:.1f} ms beside them: {beside / alone:.1f} times"
+            f"{name}: {alone:.1f} ms alone, {during:.1f} ms during them: "
+            f"{during / alone:.1f} times"
         )
     return is_good
 
 
 def main(seconds: float) -> int:
-    """The status of the command."""
+    """Measure, and return the status."""
     with tempfile.TemporaryDirectory() as room:
         folder = pathlib.Path(room)
         (folder / "starving.py").write_text(APP)
         source = os.environ.get("PYTHONPATH", str(HERE.parents[2] / "python/src"))
-        words = {**os.environ, "PYTHONPATH": f"{pathlib.Path(source).resolve()}:{folder}"}
-        if "SAGAS_PROGRAM" in words:
-            words["SAGAS_PROGRAM"] = str(pathlib.Path(words["SAGAS_PROGRAM"]).resolve())
+        environment = {**os.environ, "PYTHONPATH": f"{pathlib.Path(source).resolve()}:{folder}"}
+        if "SAGAS_PROGRAM" in environment:
+            environment["SAGAS_PROGRAM"] = str(pathlib.Path(environment["SAGAS_PROGRAM"]).resolve())
         sagas = [sys.executable, "-m", "sagas"]
         tokens = {
             name: subprocess.run(
                 [*sagas, "token", "tokens.toml", name, "caller"],
                 cwd=folder,
-                env=words,
+                env=environment,
                 stdout=subprocess.PIPE,
                 check=True,
             )
@@ -132,7 +133,7 @@ def main(seconds: float) -> int:
         serve = ["serve", "s.db", "--app", "starving:all", "--token-file", "tokens.toml"]
         serve += ["--listen", "127.0.0.1:0", "--log-level", "error"]
         with subprocess.Popen(
-            [*sagas, *serve], cwd=folder, env=words, stdout=subprocess.PIPE
+            [*sagas, *serve], cwd=folder, env=environment, stdout=subprocess.PIPE
         ) as service:
             try:
                 assert service.stdout

@@ -1,11 +1,12 @@
 #!/usr/bin/env python3
-"""Two programs on the same inputs at random, byte for byte: twins.py FIRST SECOND [--count N]
-[--seed N] [--jobs N]
+"""Compare two programs on the same random inputs, byte for byte.
 
-A program is a path, or words that start it ("qemu-aarch64-static dist/aarch64/sagas"). Compared
-are the status, standard output, standard error and each file that is written, of plans,
-judgements, drawings, audits, runs with scripts, and conversations with `drive`, half of them
-over changed texts.
+    twins.py FIRST SECOND [--count N] [--seed N] [--jobs N]
+
+A program is a path, or a command ("qemu-aarch64-static dist/aarch64/sagas"). The script compares
+the status, standard output, standard error and each written file. The inputs are plans,
+verifications, drawings, audits, runs with scripts, and conversations with `drive`, half of them
+with changed texts.
 """
 
 from __future__ import annotations
@@ -31,17 +32,16 @@ import same  # noqa: E402
 
 @dataclass
 class Case:
-    """What a program is given: its words, its texts by the names of their files, and what it
-    reads."""
+    """The input of a program: its arguments, its texts by file names, and standard input."""
 
-    words: list[str]
+    arguments: list[str]
     texts: dict[str, bytes]
     stdin: bytes = b""
     written: list[str] = field(default_factory=list)
 
 
 def script(chance: random.Random, count: int) -> str:
-    """How actions end."""
+    """Return a script of outcomes of actions."""
     lines = []
     for step in range(count):
         if chance.random() < 0.4:
@@ -55,8 +55,7 @@ def script(chance: random.Random, count: int) -> str:
 
 
 def requests(chance: random.Random, count: int) -> str:
-    """A conversation: sagas are opened, tasks are asked for and reported, in an order that may
-    be wrong."""
+    """Return a conversation that opens sagas, requests tasks and reports them, in any order."""
     lines: list[dict[str, object]] = [{"def": 0, "do": "open"}]
     for _ in range(chance.randrange(1, 40)):
         step = chance.randrange(count)
@@ -84,7 +83,7 @@ def requests(chance: random.Random, count: int) -> str:
 
 
 def case(number: int, seed: int) -> Case:
-    """What a number comes to."""
+    """Return the case of a number."""
     chance = random.Random(f"{seed} {number}")
     definition, count = same.definition(chance)
     texts = {"def": definition.encode(), "case": same.case(chance, count).encode()}
@@ -96,15 +95,15 @@ def case(number: int, seed: int) -> Case:
         texts["answer"] = chance.choice(
             [b'{"chain":[0],"kind":"blocked"}', b'{"cost":0,"kept":[],"kind":"plan"}', b"{}"]
         )
-        made.words += list(texts)[
+        made.arguments += list(texts)[
             : {"plan": 2, "check": 3, "draw": chance.randrange(1, 4)}[command]
         ]
     elif command == "audit":
         texts["log"] = same.log(chance, count).encode()
-        made.words += ["log", "def"]
+        made.arguments += ["log", "def"]
     elif command == "run":
         texts["script"] = script(chance, count).encode()
-        made.words += [
+        made.arguments += [
             "--script",
             "script",
             "--log",
@@ -112,7 +111,7 @@ def case(number: int, seed: int) -> Case:
             *["def"] * chance.choice([1, 1, 3]),
         ]
     else:
-        made.words = [
+        made.arguments = [
             "drive",
             *(["--lines"] if command == "lines" else ["--log", "out.log"]),
             "def",
@@ -128,14 +127,14 @@ def case(number: int, seed: int) -> Case:
 
 
 def answered(program: list[str], made: Case) -> tuple[int, bytes, bytes, dict[str, bytes]]:
-    """What a program answers, and the files that are there then."""
+    """Return the reply of a program, and the files afterwards."""
     with tempfile.TemporaryDirectory(
         dir="/dev/shm" if os.path.isdir("/dev/shm") else None
     ) as folder:
         for name, text in made.texts.items():
             Path(folder, name).write_bytes(text)
         done = subprocess.run(
-            [*program, *made.words],
+            [*program, *made.arguments],
             cwd=folder,
             input=made.stdin,
             capture_output=True,
@@ -146,40 +145,42 @@ def answered(program: list[str], made: Case) -> tuple[int, bytes, bytes, dict[st
     return done.returncode, done.stdout, done.stderr, files
 
 
-def words_of(text: str) -> list[str]:
-    """The words that start a program, with paths from the root."""
+def command_of(text: str) -> list[str]:
+    """Return the command of a program, with absolute paths."""
     return [
         str(Path(word).resolve()) if os.path.exists(word) else word for word in shlex.split(text)
     ]
 
 
 def main() -> int:
-    """Compares; gives the status."""
+    """Compare, and return the status."""
     parser = argparse.ArgumentParser(description=(__doc__ or "").splitlines()[0])
     parser.add_argument("first")
     parser.add_argument("second")
     parser.add_argument("--count", type=int, default=5000)
     parser.add_argument("--seed", type=int, default=1)
     parser.add_argument("--jobs", type=int, default=os.cpu_count())
-    words = parser.parse_args()
-    first, second = words_of(words.first), words_of(words.second)
+    options = parser.parse_args()
+    first, second = command_of(options.first), command_of(options.second)
 
     def compared(number: int) -> tuple[str, int, str]:
-        made = case(number, words.seed)
-        one, other = answered(first, made), answered(second, made)
+        made = case(number, options.seed)
+        first_reply, other = answered(first, made), answered(second, made)
         return (
-            made.words[0],
-            one[0],
-            "" if one == other else f"{number}: {made.words}: {one} and {other}",
+            made.arguments[0],
+            first_reply[0],
+            ""
+            if first_reply == other
+            else f"{number}: {made.arguments}: {first_reply} and {other}",
         )
 
-    with ThreadPoolExecutor(words.jobs) as pool:
-        found = list(pool.map(compared, range(words.count)))
-    differ = [why for _, _, why in found if why]
+    with ThreadPoolExecutor(options.jobs) as pool:
+        results = list(pool.map(compared, range(options.count)))
+    differ = [why for _, _, why in results if why]
     print("\n".join(differ[:5]), end="\n" if differ else "")
-    kinds = Counter(f"{command} {status}" for command, status, _ in found)
+    kinds = Counter(f"{command} {status}" for command, status, _ in results)
     print(
-        f"twins: {len(found)} runs, "
+        f"twins: {len(results)} runs, "
         f"{', '.join(f'{kind}: {count}' for kind, count in sorted(kinds.items()))}; "
         f"{len(differ)} differ"
     )

@@ -1,19 +1,20 @@
-"""Proves and tests everything, and says what it cost.
+"""Prove and test everything, and print the costs.
 
     ./test                      the full suite: scripts of seconds first, then `rt ci`, with
-                                mutants and the other scripts beside it
+                                mutants and the other scripts in parallel
     ./test --mutants            the same with all mutants and twins; writes crates/mutants.csv
-    ./test --mutants CRATE ..   the mutants and twins of crates, or CRATE/NAME, over what ./build
-                                left
-    ./test --since REVISION     what a change needs, over what is built; it is no gate
-    ./test --quick [NAME ..]    all scripts, or the scripts named, over the release; proves nothing
+    ./test --mutants CRATE ...  the mutants and twins of crates, or CRATE/NAME, over the crates that
+                                ./build has built
+    ./test --since REVISION     the parts that a change needs, over built crates; not the full suite
+    ./test --quick [NAME ...]   all scripts, or the scripts named, over the release; proves nothing
 
-A script `tests/NAME.sh` ends with status 0, or with 77 if the machine lacks what the script is
-about. The last line on standard output is `N passed, M failed`, and `, K skipped` if something was.
-The lines before it name what failed and what was skipped, and why. Standard error gets the costs.
+The status of a script `tests/NAME.sh` is 0, or 77 if the machine lacks the subject of the script.
+The last line on standard output is `N passed, M failed`, and `, K skipped` if something was
+skipped. The lines before it name the failed and skipped parts, and the reasons. Standard error gets
+the costs.
 
-The suite tries the mutants of each crate that crates/mutants.csv lacks, and of the others a tenth
-of the rounds, chosen by chance.
+The suite tries all mutants of the crates that crates/mutants.csv lacks, and a random tenth of the
+rounds of the others.
 """
 
 from __future__ import annotations
@@ -39,12 +40,12 @@ from proofs import Proofs
 from schedule import Job, Schedule
 
 SHARE = 0.1
-"""How much of the rounds of crates that the ledger has is tried all the same."""
+"""The share of the rounds that is tried for a crate that the ledger has."""
 
 
 @dataclass
 class Tally:
-    """What passed, failed and was skipped, and what each part cost."""
+    """The passed, failed and skipped parts, and the cost of each."""
 
     passed: int = 0
     failed: int = 0
@@ -55,7 +56,7 @@ class Tally:
     lock: threading.Lock = field(default_factory=threading.Lock)
 
     def add_script(self, ran: scripts.Ran, *, may_skip: bool) -> None:
-        """Adds a script."""
+        """Add the outcome of a script."""
         with self.lock:
             self.costs[f"tests/{ran.name}.sh"] = ran.cost
             if ran.status == 0:
@@ -66,13 +67,13 @@ class Tally:
                 self.fail(f"tests/{ran.name}.sh")
 
     def fail(self, fault: str) -> None:
-        """Adds something that failed."""
+        """Add a failed part."""
         self.failed += 1
         self.faults.append(fault)
         print(f"failed: {fault}", flush=True)
 
     def add_proofs(self, proofs: Proofs) -> None:
-        """Adds what `rt ci` came to."""
+        """Add the outcome of `rt ci`."""
         self.passed += proofs.passed
         self.failed += proofs.failed
         self.faults += proofs.faults
@@ -81,7 +82,7 @@ class Tally:
             self.crates.setdefault(crate, {}).update(kinds)
 
     def last_lines(self) -> str:
-        """The lines that end a run."""
+        """Return the last lines of a run."""
         lines = [f"failed: {fault}" for fault in self.faults]
         if self.skipped:
             reasons = "; ".join(f"{name}: {why}" for name, why in self.skipped.items())
@@ -93,7 +94,7 @@ class Tally:
 
 
 def table(tally: Tally) -> str:
-    """What everything cost, as text."""
+    """Return a table of all costs."""
     lines = [f"{'':28}{'processor minutes':>20}{'wall minutes':>15}"]
     for name, cost in tally.costs.items():
         lines.append(f"{name:28}{cost.processor / 60:20.1f}{cost.wall / 60:15.1f}")
@@ -111,12 +112,12 @@ def table(tally: Tally) -> str:
 class Suite:
     """One run of the full suite."""
 
-    def __init__(self, tree: Tree, toolchain: Toolchain, words: argparse.Namespace) -> None:
+    def __init__(self, tree: Tree, toolchain: Toolchain, options: argparse.Namespace) -> None:
         self.tree = tree
         self.toolchain = toolchain
-        self.is_whole = words.mutants is not None
+        self.is_whole = options.mutants is not None
         self.seed = (
-            words.seed if words.seed is not None else random.SystemRandom().randrange(10**6)
+            options.seed if options.seed is not None else random.SystemRandom().randrange(10**6)
         )
         self.tally = Tally()
         self.report = trials.Report()
@@ -125,7 +126,7 @@ class Suite:
         self.proofs: Proofs | None = None
 
     def run(self) -> Tally:
-        """Runs the cheap scripts, and then everything else side by side."""
+        """Run the cheap scripts, and then everything else in parallel."""
         for name in scripts.FIRST:
             self.run_script(name)
             if name == "release" and self.tally.failed:
@@ -135,7 +136,7 @@ class Suite:
                 )
                 return self.tally
         if self.tally.failed:
-            print("test: nothing is proved before these are mended", flush=True)
+            print("test: nothing is proved before these are fixed", flush=True)
             return self.tally
         self.plan = trials.plan_of(
             self.tree,
@@ -155,7 +156,7 @@ class Suite:
         return self.tally
 
     def fill(self) -> None:
-        """Adds the scripts, and the rounds of mutants, as jobs."""
+        """Add the scripts, and the rounds of mutants, as jobs."""
         for name in scripts.names(self.tree.top):
             if name not in scripts.FIRST:
                 self.add_script(name)
@@ -164,7 +165,7 @@ class Suite:
                 self.add_round(crate, round_)
 
     def add_script(self, name: str) -> None:
-        """Adds a script as a job. One over what `rt ci` builds waits for it."""
+        """Add a script as a job. One over what `rt ci` builds waits for it."""
         self.schedule.add(
             Job(
                 name,
@@ -176,14 +177,14 @@ class Suite:
         )
 
     def may_run(self, name: str) -> bool:
-        """Whether a script may begin: what `rt ci` builds is there once it has passed."""
+        """Return whether a script may start. Some need the crates that `rt ci` builds."""
         proofs = self.proofs
         if proofs is None or not proofs.is_over:
             return name not in (*scripts.TIMED, *scripts.LAST)
         return name not in scripts.LAST or not proofs.failed
 
     def add_round(self, crate: str, round_: Round) -> None:
-        """Adds a round as a job that waits for its crate."""
+        """Add a round as a job that waits for its crate."""
 
         def is_ready() -> bool:
             return self.proofs is not None and self.proofs.has(crate)
@@ -191,11 +192,11 @@ class Suite:
         self.schedule.add(Job(f"mutants of {crate}", lambda: self.try_round(round_), is_ready))
 
     def run_script(self, name: str) -> None:
-        """Runs a script. In the full suite none may be skipped."""
+        """Run a script. The full suite may not skip it."""
         self.tally.add_script(scripts.run(self.tree.top, name, is_quick=False), may_skip=False)
 
     def try_round(self, round_: Round) -> None:
-        """Tries a round; what is unclear becomes rounds of one."""
+        """Try a round. Each unclear mutant is tried again alone."""
         tried = mutants.try_round(self.tree, self.toolchain, round_)
         with self.tally.lock:
             self.report.add(round_.crate, tried)
@@ -206,7 +207,7 @@ class Suite:
             self.add_round(round_.crate, mutants.with_control([mutant], twins))
 
     def sum_up(self, proofs: Proofs) -> None:
-        """Adds the proofs and the mutants to the tally, and names what never began."""
+        """Add the proofs and the mutants to the tally, and the jobs that never started."""
         self.tally.add_proofs(proofs)
         add_mutants(self.tally, self.plan, self.report)
         for job in self.schedule.waiting:
@@ -219,7 +220,7 @@ class Suite:
 
 
 def add_mutants(tally: Tally, plan: trials.Plan, report: trials.Report) -> None:
-    """Adds the rounds that were tried to a tally."""
+    """Add the tried rounds to a tally."""
     wrong = report.wrong()
     tally.passed += len(report.outcomes) - len(wrong)
     for outcome in wrong:
@@ -231,14 +232,14 @@ def add_mutants(tally: Tally, plan: trials.Plan, report: trials.Report) -> None:
     for crate, reason in plan.reasons.items():
         print(f"mutants of {crate}: {reason}: {len(plan.rounds[crate])} rounds", flush=True)
     print(
-        f"mutants: {plan.total}, of which {report.refused()} are refused now, and {plan.known} by "
+        f"mutants: {plan.total}, {report.refused()} of them refused now, and {plan.known} by "
         "crates/mutants.csv",
         flush=True,
     )
 
 
 def quick(tree: Tree, names: list[str], has_toolchain: bool) -> Tally:
-    """Runs scripts over what is built."""
+    """Run scripts over the release."""
     tally = Tally()
     for name in names or scripts.names(tree.top):
         tally.add_script(scripts.run(tree.top, name, is_quick=True), may_skip=True)
@@ -248,21 +249,23 @@ def quick(tree: Tree, names: list[str], has_toolchain: bool) -> Tally:
 
 
 def lacks_library(tree: Tree, crates: list[str]) -> list[str]:
-    """The crates below some others whose library is missing or older than its sources."""
+    """Return the crates below others whose library is missing or older than its sources."""
     lower = {name for crate in crates for name in tree.below(crate)}
     lacking: list[str] = []
     for name in tree.crates:
         if name in lower:
             file = tree.folder(name) / f"out/rlib/{name}.rlib/format"
-            words = [str(tree.top / "sources"), "--newer", str(file), name]
-            newer = subprocess.run(words, capture_output=True, text=True) if file.exists() else None
+            command = [str(tree.top / "sources"), "--newer", str(file), name]
+            newer = (
+                subprocess.run(command, capture_output=True, text=True) if file.exists() else None
+            )
             if newer is None or newer.returncode or newer.stdout.strip():
                 lacking.append(name)
     return lacking
 
 
 def try_chosen(tree: Tree, toolchain: Toolchain, chosen: list[str]) -> Tally:
-    """Tries the mutants and twins of crates, or single ones, over what is built."""
+    """Try the mutants and twins of crates, or single ones, over built crates."""
     tally, report, plan = Tally(), trials.Report(), trials.Plan()
     crates = [*dict.fromkeys(it.partition("/")[0] for it in chosen)]
     if lacking := lacks_library(tree, crates):
@@ -289,7 +292,7 @@ def try_chosen(tree: Tree, toolchain: Toolchain, chosen: list[str]) -> Tally:
 def add_chosen(
     schedule: Schedule, tree: Tree, toolchain: Toolchain, report: trials.Report, round_: Round
 ) -> None:
-    """Adds a round as a job; what is unclear becomes rounds of one."""
+    """Add a round as a job. Each unclear mutant is tried again alone."""
 
     def run() -> None:
         tried = mutants.try_round(tree, toolchain, round_)
@@ -305,7 +308,7 @@ def add_chosen(
 
 
 def run_since(tree: Tree, toolchain: Toolchain | None, revision: str) -> Tally:
-    """Runs what a change needs, and says what it leaves out."""
+    """Run the parts that a change needs, and print the others."""
     needs = since.needs_of(tree, since.changed_files(tree.top, revision))
     print(f"test: {len(needs.files)} files changed since {revision}", flush=True)
     print(f"test: crates: {' '.join(needs.crates) or 'none'}", flush=True)
@@ -331,12 +334,15 @@ def run_since(tree: Tree, toolchain: Toolchain | None, revision: str) -> Tally:
     for name in needs.scripts:
         tally.add_script(scripts.run(tree.top, name, is_quick=True), may_skip=True)
     left = [*needs.left_crates, *(f"tests/{name}.sh" for name in needs.left_scripts)]
-    print(f"test: left out, so that this is no gate: {' '.join(left) or 'nothing'}", flush=True)
+    print(
+        f"test: left out, so that this is not the full suite: {' '.join(left) or 'nothing'}",
+        flush=True,
+    )
     return tally
 
 
 def arguments(tree: Tree) -> argparse.Namespace:
-    """The words of the command line."""
+    """Return the options of the command line."""
     names = scripts.names(tree.top)
     parser = argparse.ArgumentParser(
         prog="./test",
@@ -365,28 +371,28 @@ def arguments(tree: Tree) -> argparse.Namespace:
     parser.add_argument(
         "names", nargs="*", metavar="NAME", help=f"with --quick: {', '.join(names)}"
     )
-    words = parser.parse_args()
-    if words.quick + words.mutants + bool(words.since) > 1:
+    options = parser.parse_args()
+    if options.quick + options.mutants + bool(options.since) > 1:
         parser.error("--quick, --mutants and --since exclude each other")
-    if words.names and not (words.quick or words.mutants):
+    if options.names and not (options.quick or options.mutants):
         parser.error("names go with --quick or --mutants")
-    known = names if words.quick else [*tree.crates]
-    unknown = sorted({it.partition("/")[0] for it in words.names} - {*known})
+    known = names if options.quick else [*tree.crates]
+    unknown = sorted({it.partition("/")[0] for it in options.names} - {*known})
     if unknown:
         parser.error(f"there is no {', '.join(unknown)}; there are {', '.join(known)}")
-    words.mutants = words.names if words.mutants else None
-    return words
+    options.mutants = options.names if options.mutants else None
+    return options
 
 
-def run(tree: Tree, words: argparse.Namespace) -> Tally:
-    """Runs what the words ask for."""
+def run(tree: Tree, options: argparse.Namespace) -> Tally:
+    """Run the parts that the options name."""
     toolchain = Toolchain.find()
-    if words.since:
-        return run_since(tree, toolchain, words.since)
-    if words.quick:
-        return quick(tree, words.names, toolchain is not None)
+    if options.since:
+        return run_since(tree, toolchain, options.since)
+    if options.quick:
+        return quick(tree, options.names, toolchain is not None)
     if toolchain is None:
-        if words.mutants is not None:
+        if options.mutants is not None:
             tally = Tally()
             tally.fail("there is no toolchain (rt) on this machine, which mutants need")
             return tally
@@ -395,13 +401,13 @@ def run(tree: Tree, words: argparse.Namespace) -> Tally:
             flush=True,
         )
         return quick(tree, [], False)
-    if words.mutants:
-        return try_chosen(tree, toolchain, words.mutants)
-    return Suite(tree, toolchain, words).run()
+    if options.mutants:
+        return try_chosen(tree, toolchain, options.mutants)
+    return Suite(tree, toolchain, options).run()
 
 
 def read_mutants(tree: Tree) -> Tally:
-    """Reads all mutants and twins, and the ledger, and tries none."""
+    """Read all mutants and twins, and the ledger, without a trial."""
     tally = Tally()
     crates = mutants.crates_with_mutants(tree)
     ledger.check(tree, crates)
@@ -419,13 +425,13 @@ def read_mutants(tree: Tree) -> Tally:
 
 
 def main() -> int:
-    """Runs the suite; gives its status."""
+    """Run the suite, and return its status."""
     tree = Tree()
-    words = arguments(tree)
-    if words.install:
+    options = arguments(tree)
+    if options.install:
         os.environ["SAGAS_INSTALL"] = "1"
     try:
-        tally = read_mutants(tree) if words.read else run(tree, words)
+        tally = read_mutants(tree) if options.read else run(tree, options)
     except (InvalidMutant, ledger.InvalidLedger) as error:
         tally = Tally()
         tally.fail(str(error))

@@ -39,12 +39,12 @@ class Process:
 
     @property
     def key(self) -> tuple[int, int]:
-        """What tells it from a later process with its number."""
+        """The identity of the process, also among later ones with its number."""
         return self.number, self.began
 
 
 def processes() -> Iterator[Process]:
-    """All processes of the machine."""
+    """Yield all processes of the machine."""
     for name in os.listdir("/proc"):
         if name.isdigit():
             try:
@@ -56,7 +56,7 @@ def processes() -> Iterator[Process]:
 
 
 class Watch:
-    """Sums up what the processes below one process cost, until it is stopped."""
+    """The costs of the processes below one process, sampled until the watch is stopped."""
 
     def __init__(self, top: int, below_the_program: set[str]) -> None:
         self.top = top
@@ -70,7 +70,7 @@ class Watch:
         self.thread.start()
 
     def run(self) -> None:
-        """Samples until the watch is stopped."""
+        """Take samples until the watch is stopped."""
         before = time.monotonic()
         while not self.ended.wait(PAUSE):
             now = time.monotonic()
@@ -79,7 +79,7 @@ class Watch:
             before = now
 
     def look(self) -> set[str]:
-        """Samples each process once; gives the kinds of work that are under way."""
+        """Sample each process once, and return the kinds of work that run."""
         seen = {process.number: process for process in processes()}
         kinds: set[str] = set()
         running = 0
@@ -98,27 +98,29 @@ class Watch:
         return kinds
 
     def kind_of(self, number: int) -> tuple[str, str]:
-        """What a process works for: a kind of work, and a crate."""
+        """Return the kind of work of a process, and its crate."""
         try:
             command = Path(f"/proc/{number}/cmdline").read_bytes().decode(errors="replace")
         except OSError:
             return UNKNOWN
-        words = command.split("\0")
-        if os.path.basename(words[0]) != "rattle":
+        arguments = command.split("\0")
+        if os.path.basename(arguments[0]) != "rattle":
             return UNKNOWN
-        crate = words[words.index("--crate-name") + 1] if "--crate-name" in words else ""
-        if "--test" in words:
+        crate = (
+            arguments[arguments.index("--crate-name") + 1] if "--crate-name" in arguments else ""
+        )
+        if "--test" in arguments:
             return "tests", crate
         return ("proofs" if crate in self.below_the_program or not crate else "programs"), crate
 
     def stop(self) -> None:
-        """Stops sampling."""
+        """Stop sampling."""
         self.ended.set()
         self.thread.join()
         self.running = 0
 
     def costs(self) -> dict[str, Cost]:
-        """What each kind of work cost."""
+        """Return the cost of each kind of work."""
         costs = {kind: Cost() for kind in ("proofs", "tests", "programs")}
         for key, seconds in self.seconds.items():
             costs[self.kinds[key][0]].processor += seconds
@@ -127,7 +129,7 @@ class Watch:
         return costs
 
     def crates(self) -> dict[str, dict[str, float]]:
-        """The processor seconds of each crate, by kind of work."""
+        """Return the processor seconds of each crate, by kind of work."""
         crates: dict[str, dict[str, float]] = defaultdict(lambda: defaultdict(float))
         for key, seconds in self.seconds.items():
             kind, crate = self.kinds[key]

@@ -1,4 +1,4 @@
-"""The crates of crates.txt: which stand on which, and what a crate above sees of one."""
+"""The crates of crates.txt, their dependencies, and the parts that a dependent crate can read."""
 
 from __future__ import annotations
 
@@ -51,28 +51,28 @@ class Tree:
                 self.crates[name] = Crate(name, line)
 
     def folder(self, name: str) -> Path:
-        """Where a crate is."""
+        """Return the folder of a crate."""
         return self.top / "crates" / name
 
     def is_program(self, name: str) -> bool:
-        """Whether a crate is a program, and not a library."""
+        """Return whether a crate is a program, and not a library."""
         return (self.folder(name) / "src/main.rt").exists()
 
     def below(self, name: str) -> list[str]:
-        """The crates of the repository that a crate stands on, lowest first."""
-        found: list[str] = []
+        """Return the crates of the repository that a crate depends on, lowest first."""
+        lower: list[str] = []
         for library in self.crates[name].libraries:
             if library in self.crates:
-                found += [it for it in [*self.below(library), library] if it not in found]
-        return found
+                lower += [it for it in [*self.below(library), library] if it not in lower]
+        return lower
 
     def above(self, names: set[str]) -> set[str]:
-        """The crates that stand on one of these, and these."""
+        """Return these crates, and those that depend on one of them."""
         return {name for name in self.crates if name in names or names & {*self.below(name)}}
 
     @functools.cache
     def digest(self, name: str, *, is_public: bool) -> str:
-        """A digest of a crate's files: all their bytes, or only what crates above can cite."""
+        """Return a digest of a crate's files, or of the parts that dependent crates cite."""
         files = hashlib.sha256()
         for part in PARTS:
             for path in sorted((self.folder(name) / part).rglob("*")):
@@ -85,17 +85,17 @@ class Tree:
         return files.hexdigest()
 
 
-def words_of(text: str) -> list[str]:
-    """The tokens of a text of Rattle, with neither comments nor white space."""
+def tokens_of(text: str) -> list[str]:
+    """Return the tokens of a text of Rattle, without comments and white space."""
     tokens = (match[0] for match in TOKEN.finditer(text))
     return [it for it in tokens if not it.startswith(("//", "/*")) and not it.isspace()]
 
 
-def block_end(words: list[str], at: int) -> int:
-    """The place behind the block in braces that begins at a place."""
+def block_end(tokens: list[str], at: int) -> int:
+    """Return the index after the block in braces that begins at `at`."""
     depth = 0
-    while at < len(words):
-        depth += (words[at] == "{") - (words[at] == "}")
+    while at < len(tokens):
+        depth += (tokens[at] == "{") - (tokens[at] == "}")
         at += 1
         if not depth:
             break
@@ -103,39 +103,39 @@ def block_end(words: list[str], at: int) -> int:
 
 
 def contracts(text: str) -> str:
-    """A text of Rattle with no comment, and with a semicolon in place of each function's body.
+    """Return a text of Rattle without comments, and with a semicolon for each function's body.
 
-    The types, constants and contracts are left: a proof of a caller reads nothing else.
+    The types, constants and contracts remain: a proof of a caller reads nothing else.
     """
-    words, kept, at = words_of(text), [], 0
-    while at < len(words):
-        kept.append(words[at])
-        is_function = words[at] == "fn" and re.match(r"[A-Za-z_]", words[at + 1])
+    tokens, kept, at = tokens_of(text), [], 0
+    while at < len(tokens):
+        kept.append(tokens[at])
+        is_function = tokens[at] == "fn" and re.match(r"[A-Za-z_]", tokens[at + 1])
         at += 1
         if is_function:
-            at = signature_end(words, kept, at)
+            at = signature_end(tokens, kept, at)
     return " ".join(kept)
 
 
-def signature_end(words: list[str], kept: list[str], at: int) -> int:
-    """Keeps a function's signature and clauses; gives the place behind its body."""
+def signature_end(tokens: list[str], kept: list[str], at: int) -> int:
+    """Keep a function's signature and clauses, and return the index after its body."""
     depth = 0
-    while words[at] != ";" or depth:
-        depth += (words[at] in "([") - (words[at] in ")]")
-        if words[at] != "{" or depth:
-            kept.append(words[at])
+    while tokens[at] != ";" or depth:
+        depth += (tokens[at] in "([") - (tokens[at] in ")]")
+        if tokens[at] != "{" or depth:
+            kept.append(tokens[at])
             at += 1
-        elif {"requires", "ensures"} & {*words[at - 2 : at]} or words[at - 1] == ":":
-            end = block_end(words, at)
-            kept += words[at:end]
+        elif {"requires", "ensures"} & {*tokens[at - 2 : at]} or tokens[at - 1] == ":":
+            end = block_end(tokens, at)
+            kept += tokens[at:end]
             at = end
         else:
             kept.append(";")
-            return block_end(words, at)
+            return block_end(tokens, at)
     return at
 
 
 def declarations(text: str) -> str:
-    """A text of definitions or lemmas with no comment and no blank line."""
+    """Return a text of definitions or lemmas without comments and blank lines."""
     lines = (re.sub(r"(^|\s)--\s.*", "", line).rstrip() for line in text.splitlines())
     return "\n".join(line for line in lines if line)

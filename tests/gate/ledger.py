@@ -39,17 +39,17 @@ class Row:
 
 
 def file_of(tree: Tree) -> Path:
-    """Where a checkout has its ledger."""
+    """Return where a checkout has its ledger."""
     return tree.top / "crates/mutants.csv"
 
 
 def files_of(tree: Tree, crate: str) -> list[Path]:
-    """The mutants of a crate. Its twins are no part of a verdict."""
+    """Return the mutants of a crate. Its twins are no part of a verdict."""
     return sorted((tree.folder(crate) / "mutants").glob("*.edit"))
 
 
 def digest_of(tree: Tree, crate: str, logic: str) -> str:
-    """The digest of all that the verdicts on a crate's mutants depend on."""
+    """Return the digest of all that the verdicts on a crate's mutants depend on."""
     handles = (tree.top / "HANDLES").read_text(encoding="utf-8")
     mutants = [(it.name, it.read_text(encoding="utf-8")) for it in files_of(tree, crate)]
     parts: list[object] = [logic, handles, mutants, tree.crates[crate].line]
@@ -60,7 +60,7 @@ def digest_of(tree: Tree, crate: str, logic: str) -> str:
 
 
 def read(file: Path) -> dict[str, Row]:
-    """Reads a ledger by crate. A file that is missing has no rows.
+    """Read a ledger by crate. A file that is missing has no rows.
 
     Raises:
         InvalidLedger: it is not such a table.
@@ -89,7 +89,7 @@ def read(file: Path) -> dict[str, Row]:
 
 
 def write(file: Path, rows: dict[str, Row]) -> None:
-    """Writes a ledger, its rows sorted by crate."""
+    """Write a ledger, its rows sorted by crate."""
     with file.open("w", encoding="utf-8", newline="") as lines:
         table = csv.writer(lines, lineterminator="\n")
         table.writerow([field.name for field in fields(Row)])
@@ -97,7 +97,7 @@ def write(file: Path, rows: dict[str, Row]) -> None:
 
 
 def why_stale(tree: Tree, rows: dict[str, Row], crate: str, logic: str) -> str:
-    """Why the mutants of a crate have to be tried, or nothing if the ledger has them.
+    """Return why the mutants of a crate have to be tried, or nothing if the ledger has them.
 
     Raises:
         InvalidLedger: the row has this digest and another number of mutants.
@@ -117,7 +117,7 @@ def why_stale(tree: Tree, rows: dict[str, Row], crate: str, logic: str) -> str:
 
 
 def check(tree: Tree, crates: list[str]) -> dict[str, Row]:
-    """Reads a checkout's ledger; each of its rows is of a crate with mutants.
+    """Read a checkout's ledger; each of its rows is of a crate with mutants.
 
     Raises:
         InvalidLedger: it is broken.

@@ -2,20 +2,20 @@
 
 A mutant is a file `crates/CRATE/mutants/NAME.edit`: a line `file: src/..`, and then pairs of lines
 `old: TEXT` and `new: TEXT`. Each old text occurs in that file exactly once. A mutant of a
-definition, or of anything outside of a function's body, names in lines `only: FUNCTION` the
-functions one of which has to be refused.
+definition, or of anything outside of a function's body, names functions in lines `only: FUNCTION`.
+The prover must refuse one of them.
 
 The proof of a function reads the contracts of the functions that it calls, and not their bodies. So
 mutants of different functions go into one copy of the crate, a *round*, and one `rattle check
---only` answers for all of them. A function counts as refused by what is said of it alone: one that
-is only reached by a refusal (`it calls .., which is not proved`) is unclear, and its mutant goes
-into a later round. A mutant with `only:` goes alone.
+--only` answers for all of them. A function counts as refused only by a message about itself. If it
+only calls a refused function (`it calls .., which is not proved`), it is unclear, and its mutant
+goes into a later round. A mutant with `only:` goes alone.
 
-A *twin* is a file `NAME.twin` of the same form that changes the text and not the meaning. It must
-not be refused: where the prover refuses the twin of a mutant, the refusal of the mutant shows that
-the text of a proof no longer fits, and nothing of the contract. Such a twin says so in a line
-`refused: WHY`. Each round has one twin as its control: if the prover refuses that, the round counts
-for nothing.
+A *twin* is a file `NAME.twin` of the same form that changes the text and not the meaning. The
+prover must not refuse it. If it refuses the twin of a mutant, then the refusal of the mutant shows
+only that the text of a proof no longer fits, and nothing about the contract. Such a twin has a line
+`refused: WHY`. Each round has one twin as its control. If the prover refuses the control, the round
+has no result.
 """
 
 from __future__ import annotations
@@ -36,7 +36,7 @@ from crates import PARTS, Tree
 CANNOT_READ = re.compile(
     r"is not in scope|has no field|is no name|operand is missing|expected the end|cannot continue"
 )
-"""What the prover says of a definition that it cannot read."""
+"""The messages of the prover about a definition that it cannot read."""
 
 
 class InvalidMutant(Exception):
@@ -44,7 +44,7 @@ class InvalidMutant(Exception):
 
 
 class Verdict(enum.Enum):
-    """What a round says of a mutant or a twin."""
+    """The result of a round for a mutant or a twin."""
 
     REFUSED = "refused"
     PROVED = "proved"
@@ -77,20 +77,20 @@ class Function:
 
     @property
     def key(self) -> tuple[str, str]:
-        """What names the function whatever its lines are."""
+        """The identity of the function, without its lines."""
         return self.file, self.name
 
 
 HEAD = re.compile(r"(?:unsafe )?(?:impl|(?:pub )?trait)\b")
-"""How an `impl` or a trait begins in a formatted text."""
+"""The beginning of an `impl` or a trait in a formatted text."""
 SIGNATURE = re.compile(
     r'(\s*)(?:pub(?:\([^)]*\))? )?(?:const )?(?:unsafe )?(?:extern "C" )?fn (\w+)'
 )
 
 
 def functions(file: str, text: str) -> list[Function]:
-    """The functions of a formatted text of Rattle."""
-    found: list[Function] = []
+    """Return the functions of a formatted text of Rattle."""
+    listed: list[Function] = []
     owner, lines = "", text.split("\n")
     for number, line in enumerate(lines, 1):
         if HEAD.match(line):
@@ -101,38 +101,38 @@ def functions(file: str, text: str) -> list[Function]:
             indent, name = signature[1], signature[2]
             ends = (n for n in range(number, len(lines) + 1) if lines[n - 1] == indent + "}")
             name = f"{owner}::{name}" if owner and indent else name
-            found.append(Function(file, name, number, next(ends, number)))
-    return found
+            listed.append(Function(file, name, number, next(ends, number)))
+    return listed
 
 
 def owner_of(line: str) -> str:
-    """What the names of methods begin with: their type, and the trait with its parameters."""
+    """Return the beginning of methods' names: their type, and the trait with its parameters."""
     rest = HEAD.sub("", line).strip()
-    own: set[str] = set()
+    parameters: set[str] = set()
     if rest.startswith("<"):
         end = bracket_end(rest)
-        own = {*re.findall(r"(?:^<|, )'?(\w+)", rest[:end])}
+        parameters = {*re.findall(r"(?:^<|, )'?(\w+)", rest[:end])}
         rest = rest[end:].strip()
     trait, is_of_trait, target = rest.rpartition(" for ")
-    words = re.findall(r"\w+", target)[:1]
+    names = re.findall(r"\w+", target)[:1]
     if is_of_trait:
-        words += [it for it in re.findall(r"(?<!')\b\w+", trait) if it not in own]
-    return "".join(words)
+        names += [it for it in re.findall(r"(?<!')\b\w+", trait) if it not in parameters]
+    return "".join(names)
 
 
 def bracket_end(text: str) -> int:
-    """The place behind the angle brackets with which a text begins."""
+    """Return the index after the angle brackets at the beginning of a text."""
     depth = 0
-    for place, letter in enumerate(text):
+    for index, letter in enumerate(text):
         depth += (letter == "<") - (letter == ">")
         if not depth:
-            return place + 1
+            return index + 1
     return len(text)
 
 
 @dataclass(frozen=True)
 class Change:
-    """A text of a file, and the text in its place."""
+    """A text of a file, and its replacement."""
 
     file: str
     old: str
@@ -141,7 +141,7 @@ class Change:
 
 @dataclass(frozen=True)
 class Mutant:
-    """A mutant or a twin of a crate, with the functions that it is about.
+    """A mutant or a twin of a crate, with the functions that it changes.
 
     A twin has a reason if the prover refuses it, although it means the same.
     """
@@ -156,12 +156,12 @@ class Mutant:
 
     @property
     def label(self) -> str:
-        """What it is called in a report."""
+        """The name in a report."""
         return f"{self.crate}/{self.name}{' (twin)' if self.is_twin else ''}"
 
     @property
     def keys(self) -> set[tuple[str, str]]:
-        """The functions, whatever their lines are."""
+        """The identities of the functions."""
         return {function.key for function in self.functions}
 
     @property
@@ -171,7 +171,7 @@ class Mutant:
 
 
 def read_changes(text: str) -> tuple[tuple[Change, ...], list[str], str]:
-    """The changes of a mutant's text, the functions that it names, and why a twin is refused.
+    """Return the changes of a mutant, the functions that it names, and the reason of a twin.
 
     Raises:
         InvalidMutant: a line is out of order.
@@ -200,7 +200,7 @@ def read_changes(text: str) -> tuple[tuple[Change, ...], list[str], str]:
 
 
 def read_mutant(tree: Tree, path: Path) -> Mutant:
-    """Reads a mutant or a twin, and finds the functions that it is about.
+    """Read a mutant or a twin, and find the functions that it changes.
 
     Raises:
         InvalidMutant: it cannot be applied to the crate as it is.
@@ -213,7 +213,9 @@ def read_mutant(tree: Tree, path: Path) -> Mutant:
         if only:
             held = [function_named(folder, name) for name in only]
         elif None in held:
-            raise InvalidMutant("it changes what is no function's body: name a function by 'only:'")
+            raise InvalidMutant(
+                "it changes a text outside of a function's body: name a function by 'only:'"
+            )
         if reason and path.suffix != ".twin":
             raise InvalidMutant("only a twin has a line 'refused:'")
     except InvalidMutant as error:
@@ -224,7 +226,7 @@ def read_mutant(tree: Tree, path: Path) -> Mutant:
 
 
 def function_of(folder: Path, change: Change) -> Function | None:
-    """The function whose body has the old text, or None if it is elsewhere.
+    """Return the function whose body has the old text, or None if it is elsewhere.
 
     Raises:
         InvalidMutant: the file is missing, or the text does not occur in it once.
@@ -246,10 +248,10 @@ def function_of(folder: Path, change: Change) -> Function | None:
 
 
 def function_named(folder: Path, path: str) -> Function:
-    """The function of a path below the crate.
+    """Return the function of a path below the crate.
 
     Raises:
-        InvalidMutant: there is none.
+        InvalidMutant: the function does not exist.
     """
     for file in sorted((folder / "src").rglob("*.rt")):
         for function in functions(str(file.relative_to(folder)), file.read_text(encoding="utf-8")):
@@ -259,7 +261,7 @@ def function_named(folder: Path, path: str) -> Function:
 
 
 def read_all(tree: Tree, crate: str, suffix: str = ".edit") -> list[Mutant]:
-    """The mutants of a crate, or its twins, by name.
+    """Return the mutants of a crate, or its twins, by name.
 
     Raises:
         InvalidMutant: one cannot be applied.
@@ -269,13 +271,13 @@ def read_all(tree: Tree, crate: str, suffix: str = ".edit") -> list[Mutant]:
 
 
 def crates_with_mutants(tree: Tree) -> list[str]:
-    """The crates that have mutants, lowest first."""
+    """Return the crates that have mutants, lowest first."""
     names = [it for it in tree.crates if [*(tree.folder(it) / "mutants").glob("*.edit")]]
     return sorted(names, key=lambda name: (len(tree.below(name)), name))
 
 
 def texts_with(folder: Path, mutants: Iterable[Mutant]) -> dict[str, str]:
-    """The changed files with all changes of these mutants."""
+    """Return the changed files with all changes of these mutants."""
     texts: dict[str, str] = {}
     for change in (change for mutant in mutants for change in mutant.changes):
         text = texts.get(change.file)
@@ -289,7 +291,7 @@ def texts_with(folder: Path, mutants: Iterable[Mutant]) -> dict[str, str]:
 
 @dataclass(frozen=True)
 class Round:
-    """Mutants that one check answers for, and the twin that is its control."""
+    """Mutants that are checked together, and the twin that is the control."""
 
     crate: str
     mutants: tuple[Mutant, ...]
@@ -302,7 +304,7 @@ class Round:
 
 
 def fits(mutant: Mutant, others: Sequence[Mutant]) -> bool:
-    """Whether a mutant can share a round with others."""
+    """Return whether a mutant can share a round with others."""
     if not others:
         return True
     if mutant.is_alone or any(other.is_alone for other in others):
@@ -314,7 +316,7 @@ def fits(mutant: Mutant, others: Sequence[Mutant]) -> bool:
 
 
 def with_control(mutants: Sequence[Mutant], twins: Sequence[Mutant]) -> Round:
-    """A round of these mutants, with a twin that fits as its control: `control`, or a small one."""
+    """Return a round of these mutants, with a twin as its control: `control`, or a small one."""
     changed = {change.file for it in mutants for change in it.changes if it.is_alone}
     for twin in sorted(twins, key=lambda it: (it.name != "control", it.size, it.name)):
         if twin in mutants or twin.reason or any(twin.keys & it.keys for it in mutants):
@@ -325,7 +327,7 @@ def with_control(mutants: Sequence[Mutant], twins: Sequence[Mutant]) -> Round:
 
 
 def rounds_of(mutants: Sequence[Mutant], twins: Sequence[Mutant]) -> list[Round]:
-    """As few rounds as a greedy choice gives."""
+    """Return rounds of these mutants, as few as a greedy choice finds."""
     groups: list[list[Mutant]] = []
     for mutant in sorted(mutants, key=lambda it: it.is_alone):
         for group in groups:
@@ -345,35 +347,40 @@ class Toolchain:
 
     @classmethod
     def find(cls) -> Toolchain | None:
-        """The toolchain whose `rt` is on the path, or None."""
+        """Return the toolchain whose `rt` is on the path, or None."""
         command = shutil.which("rt")
         return cls(Path(command).resolve().parent.parent) if command else None
 
     @property
     def logic(self) -> str:
-        """What names the logic that it proves in, whatever the letter of its release is."""
-        words = (self.folder / "KIT-ID").read_text(encoding="utf-8").split()
-        return words[words.index("logic") + 1]
+        """The name of its logic, which is the same for several releases."""
+        fields = (self.folder / "KIT-ID").read_text(encoding="utf-8").split()
+        return fields[fields.index("logic") + 1]
 
     def command(self, tree: Tree, name: str) -> list[str]:
-        """The command that checks a crate over the libraries in `crates/*/out/rlib`."""
+        """Return the command that checks a crate over the libraries in `crates/*/out/rlib`."""
         crate, below = tree.crates[name], tree.below(name)
         rlib = {it: tree.folder(it) / f"out/rlib/{it}.rlib" for it in below}
         root = "src/main.rt" if tree.is_program(name) else "src/lib.rt"
-        words = [f"{self.folder}/bin/rattle", "check", "--crate-name", name, root]
+        arguments = [f"{self.folder}/bin/rattle", "check", "--crate-name", name, root]
         for library in ["std", *crate.libraries]:
-            place = rlib.get(library, self.folder / f"rlibs/{library}.rlib")
-            words += ["--extern", f"{library}={place}"]
-        words += ["-L", f"dependency={self.folder}/rlibs"]
-        words += [it for lower in below for it in ("-L", f"dependency={rlib[lower].parent}")]
-        words += ["--antt-project", f"{self.folder}/rattle/logic/antt-project.json"]
-        words += ["--logic-built", f"{self.folder}/logic_built", "--links", f"{name}="]
-        return [*words, "--jobs", "1", *(["--crate-type", "staticlib"] if crate.is_static else [])]
+            file = rlib.get(library, self.folder / f"rlibs/{library}.rlib")
+            arguments += ["--extern", f"{library}={file}"]
+        arguments += ["-L", f"dependency={self.folder}/rlibs"]
+        arguments += [it for lower in below for it in ("-L", f"dependency={rlib[lower].parent}")]
+        arguments += ["--antt-project", f"{self.folder}/rattle/logic/antt-project.json"]
+        arguments += ["--logic-built", f"{self.folder}/logic_built", "--links", f"{name}="]
+        return [
+            *arguments,
+            "--jobs",
+            "1",
+            *(["--crate-type", "staticlib"] if crate.is_static else []),
+        ]
 
 
 @dataclass(frozen=True)
 class Answer:
-    """What the prover said of a round."""
+    """The output of the prover for a round."""
 
     lines: list[str]
     status: int
@@ -387,12 +394,12 @@ class Answer:
 
     @property
     def reached_the_prover(self) -> bool:
-        """Whether the check came to its end: else the text could not be read."""
+        """Whether the check was completed; else the prover could not read the text."""
         return self.last.startswith("only=")
 
 
 def check_round(tree: Tree, toolchain: Toolchain, round_: Round) -> Answer:
-    """Checks a copy of the crate with the changes of a round."""
+    """Check a copy of the crate with the changes of a round."""
     source = tree.folder(round_.crate)
     with tempfile.TemporaryDirectory(prefix="mutants-") as name:
         folder = Path(name)
@@ -402,9 +409,9 @@ def check_round(tree: Tree, toolchain: Toolchain, round_: Round) -> Answer:
         for file, text in texts_with(source, round_.all).items():
             (folder / file).write_text(text, encoding="utf-8")
         paths = sorted({it.path for mutant in round_.all for it in mutant.functions})
-        words = toolchain.command(tree, round_.crate)
-        words += [it for path in paths for it in ("--only", path)]
-        output, status, seconds = run(words, folder)
+        arguments = toolchain.command(tree, round_.crate)
+        arguments += [it for path in paths for it in ("--only", path)]
+        output, status, seconds = run(arguments, folder)
         files = {file for mutant in round_.all for file, _ in mutant.keys}
         known: dict[tuple[str, str], list[Function]] = {}
         for file in sorted(files):
@@ -413,11 +420,11 @@ def check_round(tree: Tree, toolchain: Toolchain, round_: Round) -> Answer:
     return Answer(output.split("\n"), status, seconds, known)
 
 
-def run(words: list[str], folder: Path) -> tuple[str, int, float]:
-    """Runs a command in a folder; gives what it printed, its status and its processor seconds."""
+def run(command: list[str], folder: Path) -> tuple[str, int, float]:
+    """Run a command in a folder; return its output, its status and its processor seconds."""
     with tempfile.TemporaryFile("w+", errors="replace") as output:
         child = subprocess.Popen(
-            words, cwd=folder, stdin=subprocess.DEVNULL, stdout=output, stderr=output
+            command, cwd=folder, stdin=subprocess.DEVNULL, stdout=output, stderr=output
         )
         try:
             _, status, used = os.wait4(child.pid, 0)
@@ -431,52 +438,52 @@ def run(words: list[str], folder: Path) -> tuple[str, int, float]:
 
 
 def used_seconds(used: resource.struct_rusage) -> float:
-    """The processor seconds of a process and of those that it waited for."""
+    """Return the processor seconds of a process and its children."""
     return used.ru_utime + used.ru_stime
 
 
 def verdict_of(crate: str, mutant: Mutant, answer: Answer) -> tuple[Verdict, str]:
-    """What an answer says of a mutant: its verdict, and the line that gives it."""
-    found = [verdict_of_function(crate, it, answer) for it in mutant.functions]
+    """Return the verdict of an answer on a mutant, and the line with the verdict."""
+    verdicts = [verdict_of_function(crate, it, answer) for it in mutant.functions]
     for verdict in (Verdict.REFUSED, Verdict.UNCLEAR, Verdict.PROVED):
-        for given, line in found:
-            if given is verdict:
+        for candidate, line in verdicts:
+            if candidate is verdict:
                 return verdict, line
     return Verdict.UNCLEAR, answer.last
 
 
 def verdict_of_function(crate: str, function: Function, answer: Answer) -> tuple[Verdict, str]:
-    """What an answer says of one function."""
+    """Return the verdict of an answer on one function, and the line with the verdict."""
     path = function.path
     line_of = re.compile(rf"fn {crate}::(?:.*::)?{re.escape(path)}: (.*)")
     states = [match for match in map(line_of.match, answer.lines) if match]
-    state, said = (states[0][0], states[0][1]) if states else ("", "")
+    state, message = (states[0][0], states[0][1]) if states else ("", "")
     goal = next((it for it in answer.lines if is_goal_of(function, it, answer)), "")
-    if re.match(r"proved\b", said):
+    if re.match(r"proved\b", message):
         return Verdict.PROVED, state
-    if goal or said.startswith(("no proof", "not proved")) and "it calls" not in said:
+    if goal or message.startswith(("no proof", "not proved")) and "it calls" not in message:
         return Verdict.REFUSED, goal or state
     proof = re.compile(rf"(?:\./)?proofs/(?:.*/)?{re.escape(path.replace('::', '/'))}/.*: error")
     for line in answer.lines:
         if proof.match(line):
-            if "was not admitted" not in line and "it calls" not in said:
+            if "was not admitted" not in line and "it calls" not in message:
                 return Verdict.REFUSED, line
     return Verdict.UNCLEAR, state or answer.last
 
 
 def is_goal_of(function: Function, line: str, answer: Answer) -> bool:
-    """Whether a line says that a goal of the function is open, or that the function is refused."""
+    """Return whether a line reports an open goal of the function, or refuses the function."""
     at = re.match(r"(?:note: )?(?:\./)?(\S+?):(\d+):\d+: (.*)", line)
     if not at or at[1] != function.file:
         return False
-    number, says = int(at[2]), at[3]
+    number, message = int(at[2]), at[3]
     spans = answer.functions.get(function.key, [])
     inside = any(it.first <= number <= it.last for it in spans)
-    return inside and ("not proved" in says or says.startswith("error"))
+    return inside and ("not proved" in message or message.startswith("error"))
 
 
 def cannot_read(lines: Iterable[str], mutants: Iterable[Mutant]) -> str:
-    """The first line that says that the prover could not read a changed text, or nothing."""
+    """Return the first line that reports a changed text as unreadable, or an empty text."""
     changed = {change.file for mutant in mutants for change in mutant.changes}
     for line in lines:
         at = re.match(r"(?:\./)?(\S+?):\d+:\d+: error: (?:(`[^`]*`): )?(.*)", line)
@@ -488,7 +495,7 @@ def cannot_read(lines: Iterable[str], mutants: Iterable[Mutant]) -> str:
 
 @dataclass(frozen=True)
 class Outcome:
-    """What became of a mutant or a twin, and the line that says why."""
+    """The verdict on a mutant or a twin, and the line with the reason."""
 
     mutant: Mutant
     verdict: Verdict
@@ -496,14 +503,14 @@ class Outcome:
 
     @property
     def is_right(self) -> bool:
-        """Whether a mutant was refused, or a twin was proved, unless it says why it is not."""
+        """Whether a mutant was refused, or a twin without a reason was proved."""
         is_proved = self.mutant.is_twin and not self.mutant.reason
         return self.verdict is (Verdict.PROVED if is_proved else Verdict.REFUSED)
 
 
 @dataclass(frozen=True)
 class Tried:
-    """What a round gave: outcomes, what has to be tried again alone, and its processor seconds."""
+    """The result of a round: outcomes, mutants to try again alone, and processor seconds."""
 
     outcomes: list[Outcome]
     again: list[Mutant]
@@ -511,11 +518,12 @@ class Tried:
 
 
 def judge(round_: Round, answer: Answer) -> Tried:
-    """Judges each mutant of a round by the prover's answer.
+    """Return the outcome of each mutant of a round by the prover's answer.
 
-    A round of several of which the prover could read nothing, or whose control was not proved,
-    counts for nothing: each of its mutants is tried again alone. If the control of one mutant alone
-    is not proved, that mutant is unclear."""
+    If the prover could not read a round of several mutants, or did not prove its control, the round
+    has no result, and each of its mutants is tried again alone. If the control of a single mutant
+    is not proved, that mutant is unclear.
+    """
     is_single = len(round_.mutants) == 1
     bad = cannot_read(answer.lines, round_.all)
     fault = bad or ("" if answer.reached_the_prover else f"the check did not end: {answer.last}")
@@ -539,5 +547,5 @@ def judge(round_: Round, answer: Answer) -> Tried:
 
 
 def try_round(tree: Tree, toolchain: Toolchain, round_: Round) -> Tried:
-    """Tries a round."""
+    """Try a round, and return its result."""
     return judge(round_, check_round(tree, toolchain, round_))

@@ -15,27 +15,27 @@ from crates import Tree
 from mutants import used_seconds
 
 MEMORY = 4 * 1024 * 1024
-"""How much memory a proof may take, in KiB.
+"""The memory that a proof may take, in KiB.
 
-If there is so much for each processor, `rt ci` gives each proof one of them: a proof by several
-jobs takes half as much again of the processors' time."""
+If each processor has this memory, `rt ci` assigns one processor to each proof. A proof with several
+jobs takes half as much processor time again.
+"""
 
 
 def processors() -> int:
-    """How many processors this process may use."""
+    """Return the number of processors that this process may use."""
     return len(os.sched_getaffinity(0))
 
 
 def lanes() -> dict[str, str]:
-    """The setting of `rt ci` for as many proofs side by side as there are processors and memory
-    for."""
-    found = re.search(r"MemAvailable:\s+(\d+)", Path("/proc/meminfo").read_text())
-    is_ample = found is not None and int(found[1]) >= MEMORY * processors()
+    """Return the setting of `rt ci` for as many parallel proofs as the machine allows."""
+    available = re.search(r"MemAvailable:\s+(\d+)", Path("/proc/meminfo").read_text())
+    is_ample = available is not None and int(available[1]) >= MEMORY * processors()
     return {"RT_JOBS": str(processors())} if is_ample else {}
 
 
 class Proofs:
-    """A run of `rt ci`: which crates are proved so far, and in the end what it came to."""
+    """A run of `rt ci`: the crates that are proved so far, and its outcome."""
 
     def __init__(self, tree: Tree, wake: Callable[[], None]) -> None:
         self.tree = tree
@@ -68,11 +68,11 @@ class Proofs:
         return self.watch.running
 
     def has(self, crate: str) -> bool:
-        """Whether a crate and all below it are proved, so that its mutants can be tried."""
+        """Return whether a crate and all below it are proved, so that its mutants can be tried."""
         return self.proved.issuperset([*self.tree.below(crate), crate])
 
     def follow(self) -> None:
-        """Prints what `rt ci` says until it ends, and takes its result."""
+        """Print what `rt ci` says until it ends, and takes its result."""
         assert self.child.stdout
         for line in self.child.stdout:
             print(line, end="", flush=True)
@@ -88,7 +88,7 @@ class Proofs:
         self.end(self.child.returncode, used_seconds(used))
 
     def end(self, status: int, seconds: float) -> None:
-        """Takes the status and the cost of the run."""
+        """Take the status and the cost of the run."""
         self.watch.stop()
         if status or not self.passed:
             self.failed = max(self.failed, 1)
@@ -102,6 +102,6 @@ class Proofs:
         self.wake()
 
     def stop(self) -> None:
-        """Ends the run early."""
+        """End the run early."""
         self.child.terminate()
         self.thread.join()

@@ -15,8 +15,8 @@ from dataclasses import dataclass
 
 from proofs import Proofs, processors
 
-SETTLED = 4.0
-"""How long a processor has to be idle before something begins on it while proofs go on, in seconds.
+IDLE_SECONDS = 4.0
+"""The seconds that a processor must be idle before a job starts on it while proofs run.
 
 Between two proofs `rt ci` uses fewer processors for a moment.
 """
@@ -24,7 +24,7 @@ Between two proofs `rt ci` uses fewer processors for a moment.
 
 @dataclass
 class Job:
-    """Something to run: how many processors it keeps busy, and when it may begin."""
+    """An action, the number of processors that it uses, and its condition to start."""
 
     name: str
     action: Callable[[], None]
@@ -34,7 +34,7 @@ class Job:
 
 
 class Schedule:
-    """Jobs that wait, and jobs that run, beside proofs."""
+    """Jobs that wait, and jobs that run in parallel with proofs."""
 
     def __init__(self) -> None:
         self.waiting: list[Job] = []
@@ -43,18 +43,18 @@ class Schedule:
         self.changed = threading.Condition()
 
     def add(self, job: Job) -> None:
-        """Adds a job behind those that wait."""
+        """Add a job after those that wait."""
         with self.changed:
             self.waiting.append(job)
             self.changed.notify_all()
 
     def wake(self) -> None:
-        """Looks again at what may begin."""
+        """Check again which jobs may start."""
         with self.changed:
             self.changed.notify_all()
 
     def run(self, proofs: Proofs | None) -> None:
-        """Runs all jobs, and waits for the proofs. Jobs that never become ready are left."""
+        """Run all jobs, and wait for the proofs. Jobs that never become ready remain."""
         idle_since = time.monotonic()
         with self.changed:
             while not self.errors:
@@ -62,8 +62,8 @@ class Schedule:
                 is_proving = proofs is not None and not proofs.is_over
                 if idle <= 0:
                     idle_since = now
-                is_settled = not is_proving or now - idle_since >= SETTLED
-                job = self.next_job(idle) if is_settled else None
+                is_free = not is_proving or now - idle_since >= IDLE_SECONDS
+                job = self.next_job(idle) if is_free else None
                 if job:
                     self.begin(job)
                     idle_since = now
@@ -75,7 +75,7 @@ class Schedule:
             raise self.errors[0]
 
     def idle(self, proofs: Proofs | None) -> int:
-        """How many processors nothing uses."""
+        """Return the number of idle processors."""
         return (
             processors()
             - (proofs.running if proofs else 0)
@@ -83,7 +83,7 @@ class Schedule:
         )
 
     def next_job(self, idle: int) -> Job | None:
-        """The first job that may begin on so many idle processors."""
+        """Return the first job that may start with this number of idle processors."""
         has_script = any(job.is_script for job in self.running)
         for job in self.waiting:
             fits = job.processors <= idle or not self.running and idle >= processors()
@@ -92,13 +92,13 @@ class Schedule:
         return None
 
     def begin(self, job: Job) -> None:
-        """Begins a job in a thread of its own."""
+        """Start a job in its own thread."""
         self.waiting.remove(job)
         self.running.append(job)
         threading.Thread(target=self.carry_out, args=(job,), daemon=True).start()
 
     def carry_out(self, job: Job) -> None:
-        """Runs a job to its end."""
+        """Run a job to its end."""
         try:
             job.action()
         except BaseException as error:

@@ -1,4 +1,4 @@
-"""The scripts `tests/NAME.sh`: which there are, what each reads, and how one is run."""
+"""The scripts `tests/NAME.sh`: their names, the files that they read, and their runs."""
 
 from __future__ import annotations
 
@@ -17,25 +17,25 @@ from costs import Cost
 from mutants import used_seconds
 
 SKIPPED = 77
-"""The status of a script on a machine that lacks what the script is about."""
+"""The status of a script on a machine that lacks the subject of the script."""
 
 FIRST = ("format", "mutants", "definitions", "release", "errors", "rows")
-"""Scripts of some seconds over the release: they run before anything is proved."""
+"""Scripts of some seconds over the release, which run before the proofs."""
 
 LAST = ("built", "memory")
-"""Scripts over what `rt ci` builds."""
+"""Scripts over the crates that `rt ci` builds."""
 
 TIMED = ("python", "clients", "page")
-"""Scripts with leases, servers and browsers: they begin once nothing is proved any more."""
+"""Scripts with leases, servers and browsers, which start after the proofs."""
 
 LONG = ("docs", "library", "platforms", "python", "clients", "page")
-"""The order of those that take longest: they begin first."""
+"""The longest scripts, which start first, in their order."""
 
 WIDE = {"python": 64}
-"""How many processors a script keeps busy, if it is more than one: with so many it runs alone."""
+"""The processors that a script uses, if more than one. With 64 it runs alone."""
 
 LIMIT = 50 * 60
-"""The seconds of the clock after which a script counts as failed."""
+"""The seconds after which a script counts as failed."""
 
 READS = {
     "built": ("crates/", "crates.txt", "dist/", "library/", "platforms/", "page/", "release"),
@@ -57,12 +57,15 @@ READS = {
     "release": ("crates/", "crates.txt", "dist/", "page/", "library/", "python/", "docs/"),
     "rows": ("crates/", "dist/", "examples/"),
 }
-"""What each script reads beside its own files: folders, files, and patterns of files at the top."""
+"""The other files that a script reads: folders, files, and patterns of files at the top."""
+
+STYLE = "docs"
+"""The script that checks the style of each Python file."""
 
 
 @dataclass(frozen=True)
 class Ran:
-    """What a script came to: its status, its cost, and the last line that it printed."""
+    """The outcome of a script: its status, its cost, and its last line."""
 
     name: str
     status: int
@@ -71,7 +74,7 @@ class Ran:
 
 
 def names(top: Path) -> list[str]:
-    """The names of all scripts, in the order in which they run one after another."""
+    """Return the names of all scripts, in the order in which they run one after another."""
     every = {path.stem for path in (top / "tests").glob("*.sh")}
     rest = sorted(every - {*FIRST, *LAST, *LONG})
     order = [*FIRST, *LONG, *rest, *LAST]
@@ -79,38 +82,40 @@ def names(top: Path) -> list[str]:
 
 
 def concerned(top: Path, changed: Iterable[str]) -> list[str]:
-    """The scripts that read one of these files. A file that no script names concerns all."""
+    """Return the scripts that read one of these files. All read a file that none names."""
     files = list(changed)
-    found: set[str] = set()
+    concerned_names: set[str] = set()
     for file in files:
         readers = {name for name, reads in READS.items() if any(is_below(file, it) for it in reads)}
-        own = {name for name in names(top) if file.startswith((f"tests/{name}.", f"tests/{name}/"))}
-        if not readers | own and not file.endswith(".md"):
+        owners = {
+            name for name in names(top) if file.startswith((f"tests/{name}.", f"tests/{name}/"))
+        }
+        if not readers | owners and not file.endswith(".md"):
             return names(top)
-        found |= readers | own
-    return [name for name in names(top) if name in found]
+        concerned_names |= readers | owners | ({STYLE} if file.endswith(".py") else set())
+    return [name for name in names(top) if name in concerned_names]
 
 
-def is_below(file: str, place: str) -> bool:
-    """Whether a file is what READS names."""
-    if place.endswith("/"):
-        return file.startswith(place)
-    return file == place or "/" not in file and place[:1] == "*" and file.endswith(place[1:])
+def is_below(file: str, pattern: str) -> bool:
+    """Return whether a file matches a pattern of READS."""
+    if pattern.endswith("/"):
+        return file.startswith(pattern)
+    return file == pattern or "/" not in file and pattern[:1] == "*" and file.endswith(pattern[1:])
 
 
 def run(top: Path, name: str, *, is_quick: bool) -> Ran:
-    """Runs a script. One that takes too long is stopped, with all that it started.
+    """Run a script. If it takes too long, it is stopped, with all its children.
 
     Args:
-        is_quick: whether it may build nothing, and may be skipped.
+        is_quick: Whether it builds nothing, and may be skipped.
     """
-    surroundings = {**os.environ, **({"QUICK": "1"} if is_quick else {})}
+    environment = {**os.environ, **({"QUICK": "1"} if is_quick else {})}
     began = time.monotonic()
     with tempfile.TemporaryFile() as output:
         child = subprocess.Popen(
             ["bash", str(top / "tests" / f"{name}.sh")],
             cwd=top,
-            env=surroundings,
+            env=environment,
             stdin=subprocess.DEVNULL,
             stdout=output,
             stderr=subprocess.STDOUT,
@@ -132,7 +137,7 @@ def run(top: Path, name: str, *, is_quick: bool) -> Ran:
 
 
 def wait_for(child: subprocess.Popen[bytes], until: float) -> tuple[int | None, float]:
-    """Waits for a process; gives its status, None if it was stopped, and its processor seconds."""
+    """Wait for a process; return its status, None if it was stopped, and its processor seconds."""
     handle = os.pidfd_open(child.pid)
     try:
         ended, _, _ = select.select([handle], [], [], max(0.0, until - time.monotonic()))

@@ -1,5 +1,4 @@
-"""What a change needs: the crates that it touches and those above, their mutants, and the scripts
-that read it."""
+"""The parts of the suite that a change needs: crates and those above, mutants, and scripts."""
 
 from __future__ import annotations
 
@@ -13,7 +12,7 @@ from crates import PARTS, Tree
 
 @dataclass(frozen=True)
 class Needs:
-    """What a change needs, and what is left out."""
+    """The parts that a change needs, and those that are left out."""
 
     files: list[str]
     crates: list[str]
@@ -23,19 +22,21 @@ class Needs:
 
 
 def changed_files(top: Path, revision: str) -> list[str]:
-    """The files that differ from a revision, with those that git does not track yet."""
+    """Return the files that differ from a revision, and the files that git does not track."""
     listed: list[str] = []
-    for words in (
+    for command in (
         ["diff", "--name-only", revision],
         ["ls-files", "--others", "--exclude-standard"],
     ):
-        asked = subprocess.run(["git", *words], cwd=top, check=True, capture_output=True, text=True)
-        listed += asked.stdout.splitlines()
+        listing = subprocess.run(
+            ["git", *command], cwd=top, check=True, capture_output=True, text=True
+        )
+        listed += listing.stdout.splitlines()
     return sorted({*listed})
 
 
 def needs_of(tree: Tree, files: list[str]) -> Needs:
-    """What a change of these files needs."""
+    """Return the parts that a change of these files needs."""
     touched = {
         parts[1]
         for parts in (file.split("/") for file in files)
@@ -55,5 +56,5 @@ def needs_of(tree: Tree, files: list[str]) -> Needs:
 
 
 def tops(tree: Tree, crates: list[str]) -> list[str]:
-    """Those of some crates that none of the others stands on."""
+    """Return those of some crates that none of the others depends on."""
     return [name for name in crates if tree.above({name}) & {*crates} == {name}]

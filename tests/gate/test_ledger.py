@@ -48,7 +48,7 @@ def checkout(copied: Path, tmp_path: Path) -> Path:
 
 
 def stale(checkout: Path, logic: str = LOGIC) -> set[str]:
-    """The crates whose mutants have to be tried."""
+    """Return the crates whose mutants have to be tried."""
     tree = Tree(checkout)
     crates = crates_with_mutants(tree)
     rows = ledger.check(tree, crates)
@@ -56,13 +56,13 @@ def stale(checkout: Path, logic: str = LOGIC) -> set[str]:
 
 
 def with_mutants_above(checkout: Path, crate: str) -> set[str]:
-    """A crate and those above it, as far as they have mutants."""
+    """Return a crate and those above it, as far as they have mutants."""
     tree = Tree(checkout)
     return tree.above({crate}) & {*crates_with_mutants(tree)}
 
 
 def replace(file: Path, old: str, new: str) -> None:
-    """Replaces the first place of a text that the file has."""
+    """Replace the first place of a text that the file has."""
     text = file.read_text(encoding="utf-8")
     assert old in text
     file.write_text(text.replace(old, new, 1), encoding="utf-8")

@@ -48,7 +48,7 @@ def tree(tmp_path: Path) -> Tree:
 
 
 def mutant(tree: Tree, name: str, *changes: tuple[str, str], only: str = "") -> Mutant:
-    """Writes and reads a mutant, or a twin."""
+    """Write and read a mutant, or a twin."""
     path = tree.folder("book") / "mutants" / name
     lines = [*([f"only: {only}"] if only else []), "file: src/lib.rt"]
     for old, new in changes:
@@ -58,8 +58,8 @@ def mutant(tree: Tree, name: str, *changes: tuple[str, str], only: str = "") -> 
 
 
 def test_functions_have_their_names_and_lines() -> None:
-    found = {it.path: (it.first, it.last) for it in mutants.functions("src/lib.rt", SOURCE)}
-    assert found == {"Book::more": (7, 11), "less": (14, 18), "same": (20, 23)}
+    shown = {it.path: (it.first, it.last) for it in mutants.functions("src/lib.rt", SOURCE)}
+    assert shown == {"Book::more": (7, 11), "less": (14, 18), "same": (20, 23)}
 
 
 @pytest.mark.parametrize(
@@ -74,9 +74,9 @@ def test_functions_have_their_names_and_lines() -> None:
         ("pub trait Device: Drop {", "Device"),
     ],
 )
-def test_a_method_has_the_name_that_the_prover_gives_it(head: str, owner: str) -> None:
-    found = mutants.functions("src/far/away.rt", f"{head}\n    fn go(&self) {{\n    }}\n}}\n")
-    assert [it.path for it in found] == [f"{owner}::go"]
+def test_a_method_has_its_name_of_the_prover(head: str, owner: str) -> None:
+    shown = mutants.functions("src/far/away.rt", f"{head}\n    fn go(&self) {{\n    }}\n}}\n")
+    assert [it.path for it in shown] == [f"{owner}::go"]
 
 
 def test_a_mutant_is_about_the_function_that_it_changes(tree: Tree) -> None:
@@ -135,7 +135,7 @@ def test_mutants_of_different_functions_share_a_round(tree: Tree) -> None:
 
 
 def answer(tree: Tree, *lines: str, last: str = "only=2 proved=0") -> Answer:
-    """What the prover says, over the functions of the crate."""
+    """Return what the prover says, over the functions of the crate."""
     known = {it.key: [it] for it in mutants.functions("src/lib.rt", SOURCE)}
     return Answer([*lines, last, ""], 1, 1.0, known)
 
@@ -171,8 +171,8 @@ def test_a_verdict_is_by_what_is_said_of_the_function(
 def test_a_mutant_that_is_proved_is_wrong_and_so_is_a_twin_that_is_refused(tree: Tree) -> None:
     wrong = mutant(tree, "one.edit", ("        self.count + 1", "        self.count"))
     same = mutant(tree, "two.twin", ("    count - 1", "    count - (1)"))
-    said = answer(tree, "fn book::Book::more: proved", "fn book::less: not proved")
-    tried = mutants.judge(Round("book", (wrong, same), None), said)
+    reply = answer(tree, "fn book::Book::more: proved", "fn book::less: not proved")
+    tried = mutants.judge(Round("book", (wrong, same), None), reply)
     assert [it.is_right for it in tried.outcomes] == [False, False]
 
 

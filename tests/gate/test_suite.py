@@ -1,4 +1,4 @@
-"""What a change needs, what a script came to, and in which order jobs run."""
+"""The parts that a change needs, the outcomes of scripts, and the order of jobs."""
 
 from __future__ import annotations
 
@@ -51,7 +51,7 @@ def test_each_script_says_what_it_reads() -> None:
     assert scripts.READS.keys() == {*scripts.names(TOP)}
 
 
-def test_the_crates_that_are_built_are_those_on_which_no_other_stands() -> None:
+def test_the_crates_that_are_built_are_those_without_dependents() -> None:
     tree = Tree()
     assert since.tops(tree, ["saga_serve", "saga_tool"]) == ["saga_tool"]
     assert {*since.tops(tree, [*tree.crates])} == {
@@ -93,7 +93,7 @@ def test_a_script_that_hangs_fails(checkout: Path, monkeypatch: pytest.MonkeyPat
     assert ran.status == 1 and "stopped" in ran.last
 
 
-def test_one_script_at_a_time_and_rounds_beside_it(monkeypatch: pytest.MonkeyPatch) -> None:
+def test_one_script_at_a_time_in_parallel_with_rounds(monkeypatch: pytest.MonkeyPatch) -> None:
     monkeypatch.setattr(schedule, "processors", lambda: 3)
     plan, lock, both = Schedule(), threading.Lock(), threading.Barrier(2, timeout=30)
     running: list[str] = []
@@ -130,7 +130,7 @@ def test_a_job_that_is_not_ready_is_left_and_an_error_ends_the_run() -> None:
 
 
 @pytest.mark.parametrize(
-    "root, ci, asked, installs",
+    "root, ci, requested, installs",
     [
         (True, "", "", False),
         (False, "true", "1", False),
@@ -139,17 +139,17 @@ def test_a_job_that_is_not_ready_is_left_and_an_error_ends_the_run() -> None:
     ],
 )
 def test_nothing_is_installed_unasked(
-    tmp_path: Path, root: bool, ci: str, asked: str, installs: bool
+    tmp_path: Path, root: bool, ci: str, requested: str, installs: bool
 ) -> None:
-    """Of a command that no package has, it is said what is missing; apt-get would leave a file."""
+    """The missing package of a command is reported; apt-get would write a file."""
     folder = tmp_path / "bin"
     folder.mkdir()
     (folder / "apt-get").write_text(f"#!/bin/sh\ntouch {tmp_path}/installed\n")
     (folder / "id").write_text(f"#!/bin/sh\necho {0 if root else 1000}\n")
     for file in folder.iterdir():
         file.chmod(0o755)
-    words = [str(TOP / "tests/need"), "no-such-command", "no-such-package"]
-    environment = {"PATH": f"{folder}:{os.environ['PATH']}", "CI": ci, "SAGAS_INSTALL": asked}
-    ran = subprocess.run(words, cwd=tmp_path, env=environment, capture_output=True, text=True)
+    command = [str(TOP / "tests/need"), "no-such-command", "no-such-package"]
+    environment = {"PATH": f"{folder}:{os.environ['PATH']}", "CI": ci, "SAGAS_INSTALL": requested}
+    ran = subprocess.run(command, cwd=tmp_path, env=environment, capture_output=True, text=True)
     assert ran.returncode == 1 and "apt-get install no-such-package" in ran.stderr
     assert (tmp_path / "installed").exists() is installs

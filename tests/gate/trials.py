@@ -23,7 +23,7 @@ class Plan:
 
 
 def plan_of(tree: Tree, logic: str, share: float, chance: random.Random, *, twins: bool) -> Plan:
-    """The rounds of crates that the ledger lacks, and of the others a random share.
+    """Return the rounds of crates that the ledger lacks, and of the others a random share.
 
     Args:
         share: how much of the rounds of the other crates is tried, from 0 to 1.
@@ -60,30 +60,30 @@ class Report:
     seconds: dict[str, float] = field(default_factory=dict)
 
     def add(self, crate: str, tried: Tried) -> None:
-        """Adds a round."""
+        """Add a round."""
         self.outcomes += tried.outcomes
         self.seconds[crate] = self.seconds.get(crate, 0.0) + tried.seconds
 
     def refused(self, crate: str | None = None) -> int:
-        """The mutants that were refused, of a crate or in all."""
+        """Return the mutants that were refused, of a crate or in all."""
         return sum(
             it.is_right and not it.mutant.is_twin and crate in (None, it.mutant.crate)
             for it in self.outcomes
         )
 
     def wrong(self) -> list[Outcome]:
-        """The mutants that were not refused, and the twins that were, but for those that say so."""
+        """Return mutants that were not refused, and twins that were refused without a reason."""
         return [it for it in self.outcomes if not it.is_right]
 
 
 def line_of(outcome: Outcome) -> str:
-    """A line on an outcome."""
+    """Return a line on an outcome."""
     why = "" if outcome.verdict is mutants.Verdict.PROVED else f": {outcome.why[:160]}"
     return f"{outcome.mutant.label}: {outcome.verdict.value}{why}"
 
 
 def record(tree: Tree, logic: str, report: Report) -> list[str]:
-    """Writes a row for each crate all of whose mutants were refused; gives the crates."""
+    """Write a row for each crate whose mutants were all refused, and return these crates."""
     crates = mutants.crates_with_mutants(tree)
     file = ledger.file_of(tree)
     rows = {crate: row for crate, row in ledger.read(file).items() if crate in crates}
@@ -100,6 +100,6 @@ def record(tree: Tree, logic: str, report: Report) -> list[str]:
 
 
 def chosen(tree: Tree, crate: str, names: list[str]) -> list[Mutant]:
-    """The mutants and twins of a crate, or those of some names."""
+    """Return the mutants and twins of a crate, or those of some names."""
     every = [*mutants.read_all(tree, crate), *mutants.read_all(tree, crate, ".twin")]
     return [it for it in every if not names or it.name in names]

@@ -1,10 +1,14 @@
 #!/usr/bin/env python3
-"""Whether the calls of a coordinator do what `sagas drive --lines` does: coordinated.py PROGRAM [COUNT [SEED]]
+"""Compare the calls of a coordinator with `sagas drive --lines`.
 
-PROGRAM is coordinate.c, compiled. It and the program `sagas` are given the conversations of tests/rows/drive, and COUNT random ones (300
-where it is not said), each with a buffer of some size; what they print has to be the same. But the definitions of a coordinator are fixed: where the
-program adds one, what is printed has to be what it answers without --lines. With REFUSE set PROGRAM was compiled to refuse memory: each growth of
-some conversations is refused in turn, and what is printed does not change.
+    coordinated.py PROGRAM [COUNT [SEED]]
+
+PROGRAM is coordinate.c, compiled. It and the program `sagas` get the conversations of
+tests/rows/drive, and COUNT random ones (default: 300), each with a buffer of some size. They must
+print the same. But the definitions of a coordinator are fixed: if the program adds one, PROGRAM
+must print the reply that the program has without --lines. If the variable REFUSE is set, PROGRAM
+was compiled to refuse memory: each growth of some conversations is refused in turn, and the output
+must not change.
 """
 
 from __future__ import annotations
@@ -23,7 +27,10 @@ sys.path[:0] = [str(TOP / "tests")]
 import rows  # noqa: E402
 
 SIZES = (0, 1, 64, 200, 1 << 16)
-PAIR = b'format = 2\nname = "pair"\nstep = [{ name = "a", undo = 1 }, { name = "b", needs = ["a"], undo = 2, tries = 2 }]\n'
+PAIR = (
+    b'format = 2\nname = "pair"\n'
+    b'step = [{ name = "a", undo = 1 }, { name = "b", needs = ["a"], undo = 2, tries = 2 }]\n'
+)
 REQUESTS = (
     '{"def":0,"do":"open"}',
     '{"do":"next"}',
@@ -46,7 +53,7 @@ REQUESTS = (
 Talk = tuple[str, list[bytes], bytes, bytes]
 Done = subprocess.CompletedProcess[bytes]
 
-MOST_WITHOUT_LINES = 64
+MAX_WITHOUT_LINES = 64
 DEFINE = (
     '{"definition":"format = 1\\nname = \\"more\\"\\nstep = [{ name = \\"x\\" }]\\n","do":"define"}'
 )
@@ -54,40 +61,40 @@ FIXED = b'{"refused":"fixed-shelf"}\n'
 
 
 def of_rows() -> Iterator[Talk]:
-    """The conversations of the rows: a name, definitions, a log and requests."""
+    """Yield the conversations of the rows: a name, definitions, a log and requests."""
     for path in sorted((rows.ROWS / "drive").glob("*.toml")):
         for row in rows.rows_of(path):
-            said = row.keys.get("def")
+            value = row.keys.get("def")
             if (
-                said is None
+                value is None
                 or not isinstance(row.keys.get("stdin", ""), str)
                 or row.keys.get("stdin", "").startswith(("/dev", "terminal", "closed"))
             ):
                 continue
             definitions = [
-                row.text(text) for text in (said if isinstance(said, list) else [said])
+                row.text(text) for text in (value if isinstance(value, list) else [value])
             ] * row.keys.get("times", 1)
             log = row.keys.get("log", "")
             if definitions and not isinstance(log, list):
-                yield row.place, definitions, row.text(log), row.text(row.keys.get("stdin", ""))
+                yield row.label, definitions, row.text(log), row.text(row.keys.get("stdin", ""))
 
 
 def at_random(count: int, chance: random.Random) -> Iterator[Talk]:
-    """Random conversations; each second one goes on from a log that another one wrote, cut anywhere."""
+    """Yield random conversations. Every second one continues the log of another, cut anywhere."""
     log = b""
-    # (where memory lacks for the second of several tasks, the first is told alone)
+    # Without memory for the second of several tasks, the reply has only the first one.
     requests_of = [
         request for request in REQUESTS if not (os.environ.get("REFUSE") and "most" in request)
     ]
     for number in range(count):
         known = [*requests_of, DEFINE, '{"def":1,"do":"open"}'] if number % 3 == 0 else requests_of
-        asked = [
+        drawn = [
             chance.choice(known)
             .replace("SAGA", str(chance.randrange(3)))
             .replace("STEP", str(chance.randrange(2)))
             for _ in range(40)
         ]
-        requests = "\n".join(asked).encode() + b"\n"
+        requests = "\n".join(drawn).encode() + b"\n"
         yield f"random {number}", [PAIR], log, requests
         lines = ran([rows.program(), "drive", "--lines"], [PAIR], b"", requests).stdout
         whole = b"".join(line[1:] + b"\n" for line in lines.split(b"\n") if line.startswith(b"+"))
@@ -95,18 +102,20 @@ def at_random(count: int, chance: random.Random) -> Iterator[Talk]:
 
 
 def ran(
-    words: list[str], definitions: list[bytes], log: bytes, requests: bytes, **more: str
+    command: list[str], definitions: list[bytes], log: bytes, requests: bytes, **more: str
 ) -> Done:
-    """Runs either program: its words, then the log where there is one, and the definitions."""
+    """Run either program with its arguments, a log, if any, and definitions."""
     with tempfile.TemporaryDirectory() as folder:
-        paths = [Path(folder, str(place)) for place in range(len(definitions))]
+        paths = [Path(folder, str(number)) for number in range(len(definitions))]
         for path, text in zip(paths, definitions):
             path.write_bytes(text)
         (Path(folder) / "log").write_bytes(log)
-        given = ["--from", f"{folder}/log"] if words[1:] == ["drive", "--lines"] and log else []
-        given = given if words[1] == "drive" else [f"{folder}/log" if log else "-"]
+        log_argument = (
+            ["--from", f"{folder}/log"] if command[1:] == ["drive", "--lines"] and log else []
+        )
+        log_argument = log_argument if command[1] == "drive" else [f"{folder}/log" if log else "-"]
         return subprocess.run(
-            [*words, *given, *map(str, paths)],
+            [*command, *log_argument, *map(str, paths)],
             input=requests,
             capture_output=True,
             env={**os.environ, **more},
@@ -114,33 +123,35 @@ def ran(
         )
 
 
-def wanted_of(definitions: list[bytes], log: bytes, requests: bytes) -> Done:
-    """What a coordinator has to print: what the program does with --lines, over a fixed shelf. Without --lines the program has one: so it says itself
-    which requests are refused for it. They change nothing, so the others are answered as they are without them.
+def expected_of(definitions: list[bytes], log: bytes, requests: bytes) -> Done:
+    """Return the expected output of a coordinator: that of --lines, with fixed definitions.
+
+    Without --lines the definitions of the program are fixed, so it shows which requests are refused
+    for that. These requests change nothing, so the replies to the others do not depend on them.
     """
     fixed, shown = [rows.program(), "drive"], [rows.program(), "drive", "--lines"]
     if b"define" not in requests:
         return ran(shown, definitions, log, requests)
     is_refused = [
         reply == FIXED
-        for reply in ran(fixed, definitions[:MOST_WITHOUT_LINES], b"", requests).stdout.splitlines(
+        for reply in ran(fixed, definitions[:MAX_WITHOUT_LINES], b"", requests).stdout.splitlines(
             True
         )
     ]
     others = b"".join(
         line + b"\n" for line, refused in zip(requests.split(b"\n"), is_refused) if not refused
     )
-    begun, done = ran(shown, definitions, log, b""), ran(shown, definitions, log, others)
+    empty, done = ran(shown, definitions, log, b""), ran(shown, definitions, log, others)
     if done.returncode == 0:
-        replies = iter(with_lines(done.stdout[len(begun.stdout) :]))
-        done.stdout = begun.stdout + b"".join(
+        replies = iter(with_lines(done.stdout[len(empty.stdout) :]))
+        done.stdout = empty.stdout + b"".join(
             FIXED if refused else next(replies) for refused in is_refused
         )
     return done
 
 
 def with_lines(printed: bytes) -> Iterator[bytes]:
-    """Each reply with the lines of the log before it."""
+    """Yield each reply with the lines of the log before it."""
     before = b""
     for line in printed.splitlines(True):
         before += line
@@ -149,17 +160,21 @@ def with_lines(printed: bytes) -> Iterator[bytes]:
             before = b""
 
 
-def refusals(program: str, size: int, talk: Talk, wanted: bytes) -> Iterator[str]:
-    """Refuses each growth of memory in turn."""
+def refusals(program: str, size: int, talk: Talk, expected: bytes) -> Iterator[str]:
+    """Refuse each growth of memory in turn."""
     name, definitions, log, requests = talk
     growths = int(ran([program, str(size)], definitions, log, requests).stderr.split()[-2])
     for number in range(growths):
-        found = ran([program, str(size)], definitions, log, requests, REFUSED=str(number))
-        if (found.returncode, found.stdout) != (0, wanted):
-            yield f"{name}: growth {number} of {growths} refused: {found.returncode}, {found.stderr[-200:]!r}"
+        actual = ran([program, str(size)], definitions, log, requests, REFUSED=str(number))
+        if (actual.returncode, actual.stdout) != (0, expected):
+            yield (
+                f"{name}: growth {number} of {growths} refused: "
+                f"{actual.returncode}, {actual.stderr[-200:]!r}"
+            )
 
 
 def main() -> int:
+    """Compare all conversations, and return the status."""
     program, count, seed = (sys.argv[1:] + ["300", "1"][len(sys.argv) - 2 :])[:3]
     chance = random.Random(int(seed))
     wrong: list[str] = []
@@ -171,27 +186,29 @@ def main() -> int:
     for talk in talks:
         name, definitions, log, requests = talk
         size = chance.choice(SIZES)
-        wanted = wanted_of(definitions, log, requests)
-        found = ran([program, str(size)], definitions, log, requests)
+        expected = expected_of(definitions, log, requests)
+        actual = ran([program, str(size)], definitions, log, requests)
         if os.environ.get("REFUSE"):
-            if wanted.returncode == 0 and len(requests) < 4096 and b"most" not in requests:
+            if expected.returncode == 0 and len(requests) < 4096 and b"most" not in requests:
                 looked += 1
-                wrong += list(refusals(program, size, talk, wanted.stdout))
+                wrong += list(refusals(program, size, talk, expected.stdout))
             continue
         looked += 1
-        fixed += FIXED in wanted.stdout
-        if (found.returncode, found.stdout, found.stderr) != (
-            wanted.returncode,
-            wanted.stdout,
-            wanted.stderr,
+        fixed += FIXED in expected.stdout
+        if (actual.returncode, actual.stdout, actual.stderr) != (
+            expected.returncode,
+            expected.stdout,
+            expected.stderr,
         ):
             wrong.append(
-                f"{name}, {size}: {found.returncode} {found.stderr[-200:]!r}, wanted {wanted.returncode} {wanted.stderr[-200:]!r}"
+                f"{name}, {size}: {actual.returncode} {actual.stderr[-200:]!r}, "
+                f"expected {expected.returncode} {expected.stderr[-200:]!r}"
             )
     for line in wrong[:20]:
         print(f"wrong: {line}")
     print(
-        f"coordinated: {looked} conversations, {fixed} of them over a fixed shelf, {len(wrong)} wrong"
+        f"coordinated: {looked} conversations, {fixed} of them with fixed definitions, "
+        f"{len(wrong)} wrong"
     )
     return 1 if wrong or not looked else 0
 

@@ -1,10 +1,10 @@
 #!/usr/bin/python3 -S
-"""Runs the program of the C file as one that keeps its log: keeping.py ENGINE COMMAND [WORD..]
+"""Run the program of the C file with a log: keeping.py ENGINE COMMAND [ARGUMENT ...]
 
-`drive --log F` is done as the package does it: by `drive --lines --from F`, whose lines are put to
-the end of F before the reply that they belong to is passed on, and of F is cut off what was left
-out. Neither are the definitions kept beside F, nor is F locked or synced. Any other command is
-passed on as it is. So the conversations of tests/drive.py and tests/rows run over the C file.
+The script executes `drive --log F` as the package does it: by `drive --lines --from F`. It appends
+the lines to F before it prints their reply, and cuts an incomplete end off F. It does not store the
+definitions in a file, and does not lock or sync F. Any other command runs unchanged. So the
+conversations of tests/drive.py and tests/rows run over the C file.
 """
 
 from __future__ import annotations
@@ -17,11 +17,11 @@ from typing import BinaryIO
 CUT = b"sagas: log: cut line taken away: "
 
 
-def keep(engine: str, path: str, words: list[str]) -> int:
-    """Drives with a log; gives the status."""
+def keep(engine: str, path: str, arguments: list[str]) -> int:
+    """Drive with a log, and return the status."""
     with open(path, "ab") as log:
         text = ["--from", path] if log.tell() else []
-        command = [engine, "drive", "--lines", *text, *words]
+        command = [engine, "drive", "--lines", *text, *arguments]
         with subprocess.Popen(
             command, stdout=subprocess.PIPE, stderr=subprocess.PIPE, bufsize=0
         ) as child:
@@ -42,32 +42,32 @@ def keep(engine: str, path: str, words: list[str]) -> int:
             return child.wait()
 
 
-def cut(log: BinaryIO, said: int) -> None:
-    """Cuts the log, where the program has left out its end, and passes on what it says of it."""
-    os.set_blocking(said, False)
+def cut(log: BinaryIO, stream: int) -> None:
+    """Cut the log if the program has ignored its end, and print the program's note."""
+    os.set_blocking(stream, False)
     try:
-        line = os.read(said, 4096)
+        line = os.read(stream, 4096)
     except BlockingIOError:
         line = b""
-    os.set_blocking(said, True)
+    os.set_blocking(stream, True)
     if line.startswith(CUT):
         log.truncate(log.tell() - int(line[len(CUT) :].split()[0]))
     put(2, line)
 
 
 def put(to: int, data: bytes) -> None:
-    """Writes all of it."""
+    """Write all bytes."""
     while data:
         data = data[os.write(to, data) :]
 
 
 def main() -> int:
-    """Runs the words."""
-    engine, *words = sys.argv[1:]
-    if words[:1] != ["drive"] or "--log" not in words:
-        os.execv(engine, [engine, *words])
-    place = words.index("--log")
-    return keep(engine, words[place + 1], words[1:place] + words[place + 2 :])
+    """Execute the command line."""
+    engine, *arguments = sys.argv[1:]
+    if arguments[:1] != ["drive"] or "--log" not in arguments:
+        os.execv(engine, [engine, *arguments])
+    position = arguments.index("--log")
+    return keep(engine, arguments[position + 1], arguments[1:position] + arguments[position + 2 :])
 
 
 if __name__ == "__main__":

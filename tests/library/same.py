@@ -1,8 +1,10 @@
 #!/usr/bin/env python3
-"""Whether the library gives the same bytes and statuses as the program: same.py [COUNT [SEED]]
+"""Compare the bytes and statuses of the library with those of the program: same.py [COUNT [SEED]]
 
-Over the texts of tests/rows, texts that are nested deep, over COUNT random sagas (2,000 where it is not said), each with a plan, a judgement, drawings and an audit, and over
-their texts with bytes changed, added and cut. The library is called with the stack that its header asks for. The variables SAGAS_PROGRAM and SAGAS_LIBRARY name the two; else they are those of dist/.
+The texts are those of tests/rows, deeply nested ones, and those of COUNT random sagas (default:
+2,000), each with a plan, a verification, drawings and an audit. Bytes of some texts are changed,
+added and cut. The threads that call the library have the stack size that its header requires. The
+variables SAGAS_PROGRAM and SAGAS_LIBRARY name the two; the default is dist/.
 """
 
 from __future__ import annotations
@@ -32,10 +34,10 @@ Question = tuple[str, list[bytes]]
 PROGRAM = os.environ.get("SAGAS_PROGRAM") or str(TOP / "dist" / "sagas")
 STATES = ["waiting", "committed", "failed", "undone", "fixed"]
 
-# The stack that sagas.h asks for, in bytes.
+# The stack size that sagas.h requires, in bytes.
 STACK = 256 * 1024
 
-# The words of the program for a call: its command; its texts follow.
+# The command of the program for each call.
 COMMANDS = {
     "plan": "plan",
     "check": "check",
@@ -47,12 +49,12 @@ COMMANDS = {
 
 
 def by_program(question: Question) -> Reply:
-    """What the program answers: its status, and what it prints, or with status 3 its line on standard error."""
+    """Return the status and the output of the program, or with status 3 its error line."""
     call, texts = question
     with tempfile.TemporaryDirectory(
         dir="/dev/shm" if os.path.isdir("/dev/shm") else None
     ) as folder:
-        paths = [Path(folder, str(place)) for place in range(len(texts))]
+        paths = [Path(folder, str(number)) for number in range(len(texts))]
         for path, text in zip(paths, texts):
             path.write_bytes(text)
         done = subprocess.run(
@@ -66,11 +68,11 @@ def by_program(question: Question) -> Reply:
 
 
 def by_library(loaded: ctypes.CDLL, question: Question) -> Reply:
-    """What the library answers."""
+    """Return the status and the text of the library's reply."""
     call, texts = question
     if call != "audit_all":
         return library.call(loaded, f"sagas_{call}", texts)
-    starts = [sum(map(len, texts[1 : place + 1])) for place in range(len(texts))]
+    starts = [sum(map(len, texts[1 : number + 1])) for number in range(len(texts))]
     replies = [
         library.call(
             loaded,
@@ -87,14 +89,14 @@ def by_library(loaded: ctypes.CDLL, question: Question) -> Reply:
 
 
 def of_rows() -> Iterator[Question]:
-    """The questions of tests/rows."""
+    """Yield the questions of tests/rows."""
     for path in sorted(rows.ROWS.glob("*/*.toml")):
         for row in rows.rows_of(path):
             keys = row.keys
             if {"args", "options", "stdin", "stdout"} & set(keys) or "def" not in keys:
                 continue
-            said = keys["def"] if isinstance(keys["def"], list) else [keys["def"]]
-            definitions = [row.text(text) for text in said] * keys.get("times", 1)
+            value = keys["def"] if isinstance(keys["def"], list) else [keys["def"]]
+            definitions = [row.text(text) for text in value] * keys.get("times", 1)
             others = [row.text(keys[key]) for key in ("case", "answer") if key in keys]
             if row.command in ("plan", "check"):
                 yield row.command, [*definitions, *others]
@@ -105,7 +107,7 @@ def of_rows() -> Iterator[Question]:
 
 
 def definition(chance: random.Random) -> tuple[str, int]:
-    """A definition, and how many steps it has."""
+    """Return a definition, and its number of steps."""
     count = chance.choice([1, 2, 3, 4, 6, 10, 30])
     lines = [f"format = {chance.choice([1, 2])}", 'name = "random"']
     for step in range(count):
@@ -115,20 +117,19 @@ def definition(chance: random.Random) -> tuple[str, int]:
             lines.append(f"needs = [{', '.join(json.dumps(f's{need}') for need in needs)}]")
         for key in ("run", "undo", "skip", "keep"):
             if chance.random() < 0.5:
-                lines.append(
-                    f"{key} = {chance.choice([chance.randrange(100), chance.randrange(1_000_000_001), json.dumps('never')])}"
-                )
+                amounts = [chance.randrange(100), chance.randrange(1_000_000_001)]
+                lines.append(f"{key} = {chance.choice([*amounts, json.dumps('never')])}")
     return "\n".join(lines) + "\n", count
 
 
 def case(chance: random.Random, count: int) -> str:
-    """A case of so many steps."""
-    told: dict[str, object] = {"states": chance.choices(STATES, [3, 4, 1, 1, 1], k=count)}
-    return json.dumps({**told, "aborted": True} if chance.random() < 0.2 else told)
+    """Return a case of `count` steps."""
+    keys: dict[str, object] = {"states": chance.choices(STATES, [3, 4, 1, 1, 1], k=count)}
+    return json.dumps({**keys, "aborted": True} if chance.random() < 0.2 else keys)
 
 
 def log(chance: random.Random, count: int) -> str:
-    """A log: events of a saga, most of them in an order that is allowed."""
+    """Return a log: events of a saga, mostly in an allowed order."""
     lines: list[dict[str, object]] = [{"def": 0, "event": "open", "saga": 0}]
     for step in range(count):
         lines += [
@@ -148,7 +149,7 @@ def log(chance: random.Random, count: int) -> str:
 
 
 def changed(chance: random.Random, text: bytes) -> bytes:
-    """The text with a byte changed, added or taken away, or cut, or with a piece twice."""
+    """Return the text cut, with a byte changed, added or removed, or with a piece twice."""
     at = chance.randrange(len(text) + 1)
     byte = bytes([chance.choice([0, 10, 34, 44, 48, 93, 125, 195, 255, chance.randrange(256)])])
     return chance.choice(
@@ -163,9 +164,9 @@ def changed(chance: random.Random, text: bytes) -> bytes:
 
 
 def deep() -> Iterator[Question]:
-    """Texts that are nested as deep as they can be."""
+    """Yield texts with the deepest possible nesting."""
     case, chain = making.states(1024, "committed", "failed").encode(), making.chain(1024).encode()
-    for said in (
+    for text in (
         b"a=" + b"[" * 100000,
         b"a=" + b"{a=" * 100000,
         b".".join([b"a"] * 100000) + b"=1",
@@ -174,36 +175,36 @@ def deep() -> Iterator[Question]:
         making.backward(1024).encode(),
         making.named("s0", 8192).encode(),
     ):
-        yield "plan", [said, case]
+        yield "plan", [text, case]
     yield "plan", [chain, b"[" * 1000000]
     yield "check", [chain, case, b'{"a":' * 200000]
     yield "audit_all", [b"[" * 1000000 + b"\n", chain]
 
 
 def at_random(chance: random.Random, loaded: ctypes.CDLL) -> Iterator[Question]:
-    """The questions about a random saga."""
-    said, count = definition(chance)
-    texts = [said.encode(), case(chance, count).encode()]
+    """Yield the questions about a random saga."""
+    text, count = definition(chance)
+    texts = [text.encode(), case(chance, count).encode()]
     status, answer = by_library(loaded, ("plan", texts))
     texts.append(answer if status < 2 else b'{"chain":[0],"kind":"blocked"}')
     if chance.random() < 0.6:
-        place = chance.randrange(3)
-        texts[place] = changed(chance, texts[place])
-    told = log(chance, count).encode()
+        index = chance.randrange(3)
+        texts[index] = changed(chance, texts[index])
+    history = log(chance, count).encode()
     yield "plan", texts[:2]
     yield "check", texts
     yield chance.choice([("draw", texts[:1]), ("draw_case", texts[:2]), ("draw_answer", texts)])
     yield "audit_all", [
-        changed(chance, told) if chance.random() < 0.3 else told,
+        changed(chance, history) if chance.random() < 0.3 else history,
         *texts[:1] * chance.choice([1, 1, 2]),
     ]
 
 
 def main() -> int:
-    """Compares; gives the status."""
+    """Compare, and return the status."""
     count, seed = (int(word) for word in (*sys.argv[1:], *("2000", "1")[len(sys.argv) - 1 :]))
-    place = library.path()
-    loaded = library.loaded(place) if place else None
+    library_path = library.path()
+    loaded = library.loaded(library_path) if library_path else None
     if loaded is None:
         sys.exit("same: dist/libsagas.so is missing, or cannot be loaded: ./release makes it")
     proved: ctypes.CDLL = loaded
@@ -212,18 +213,20 @@ def main() -> int:
     for number in range(count):
         questions += at_random(random.Random(f"{seed} {number}"), loaded)
     with ThreadPoolExecutor() as pool:
-        wanted = list(pool.map(by_program, questions))
+        expected = list(pool.map(by_program, questions))
     threading.stack_size(STACK)
     with ThreadPoolExecutor() as pool:
-        found = list(pool.map(lambda question: by_library(proved, question), questions))
+        actual = list(pool.map(lambda question: by_library(proved, question), questions))
     kinds = Counter(
-        (status, said.split(b" ")[0][:8] if status < 3 else said) for status, said in wanted
+        (status, output.split(b" ")[0][:8] if status < 3 else output) for status, output in expected
     )
-    wrong = [number for number in range(len(questions)) if found[number] != wanted[number]]
+    wrong = [number for number in range(len(questions)) if actual[number] != expected[number]]
     for number in wrong[:5]:
-        print(f"wrong: {questions[number]}: found {found[number]}, wanted {wanted[number]}")
+        print(f"wrong: {questions[number]}: got {actual[number]}, expected {expected[number]}")
     print(
-        f"same: {known} questions of rows and deep texts, {len(questions) - known} at random from the seed {seed}, {len(kinds)} kinds of reply; {len(wrong)} wrong"
+        f"same: {known} questions of rows and deep texts, "
+        f"{len(questions) - known} at random from the seed {seed}, "
+        f"{len(kinds)} kinds of reply; {len(wrong)} wrong"
     )
     return 1 if wrong else 0
 

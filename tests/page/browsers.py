@@ -1,4 +1,4 @@
-"""Real browsers, and what a test does in the page."""
+"""Real browsers, and the actions of a test in the page."""
 
 from __future__ import annotations
 
@@ -25,49 +25,48 @@ class Browser(ABC):
     """A browser without a window, with one page open."""
 
     @abstractmethod
-    def run(self, script: str, *words: Any) -> Any:
-        """The value of a script."""
+    def run(self, script: str, *arguments: Any) -> Any:
+        """Return the value of a script."""
 
     @abstractmethod
-    def run_async(self, script: str, *words: Any) -> Any:
-        """What a script gives to the function that is its last word."""
+    def run_async(self, script: str, *arguments: Any) -> Any:
+        """Return the value that a script passes to its last argument, a function."""
 
     @abstractmethod
     def go(self, url: str) -> None:
-        """Opens a page."""
+        """Open a page."""
 
     @abstractmethod
     def picture(self, path: Path) -> None:
-        """Takes a picture of the page."""
+        """Take a picture of the page."""
 
     @abstractmethod
     def close(self) -> None:
-        """Ends the browser."""
+        """Close the browser."""
 
-    def until(self, script: str, *words: Any) -> Any:
-        """Waits until a script gives a value that is true, and gives it."""
+    def until(self, script: str, *arguments: Any) -> Any:
+        """Wait until the value of a script is true, and return it."""
         end = time.monotonic() + SECONDS
-        while not (found := self.run(script, *words)):
+        while not (value := self.run(script, *arguments)):
             if time.monotonic() > end:
                 raise TimeoutError(script)
             time.sleep(0.02)
-        return found
+        return value
 
     def open(self, url: str) -> None:
-        """Opens the page, and waits for its first answer."""
+        """Open the page, and wait for its first answer."""
         self.go(url)
         self.until("return document.body.dataset.rounds")
 
-    def change(self, script: str, *words: Any) -> dict[str, Any]:
-        """Does something that makes the page answer anew, waits for the answer, and gives what
-        is shown."""
+    def change(self, script: str, *arguments: Any) -> dict[str, Any]:
+        """Run a script that changes the page, wait for the next answer, and return the content."""
         rounds = self.run("return document.body.dataset.rounds")
-        self.run(script, *words)
+        self.run(script, *arguments)
         self.until("return document.body.dataset.rounds !== arguments[0]", rounds)
         return self.shown()
 
     def show(self, mode: str, example: int) -> dict[str, Any]:
-        """Chooses a mode and an example, as a user does."""
+        """Choose a mode and an example, as a user does."""
         if self.run("return document.body.dataset.mode") != mode:
             self.change("document.querySelector('input[value=' + arguments[0] + ']').click()", mode)
         return self.change(
@@ -77,7 +76,7 @@ class Browser(ABC):
         )
 
     def put(self, texts: dict[str, str]) -> dict[str, Any]:
-        """Puts texts into fields, as a paste does."""
+        """Put texts into fields, as a paste does."""
         return self.change(
             "for (const [id, text] of Object.entries(arguments[0])) {"
             " const it = document.getElementById(id); it.value = text;"
@@ -86,8 +85,8 @@ class Browser(ABC):
         )
 
     def shown(self) -> dict[str, Any]:
-        """What is told, where a fault stands, and what is in sight."""
-        found: dict[str, Any] = self.run(
+        """Return the verdict, the faults and the visible content of the page."""
+        value: dict[str, Any] = self.run(
             """const text = id => document.getElementById(id).textContent; return { kind:
             document.getElementById('told').className.split(' ').pop(), verdict: text('verdict'),
             checked: text('checked'), remedy: text('remedy'), faults:
@@ -100,11 +99,11 @@ class Browser(ABC):
             [...document.querySelectorAll('#steps:not([hidden]) td.shall')].map(it =>
             it.textContent) };"""
         )
-        return found
+        return value
 
     def calls(self, questions: list[tuple[str, list[bytes]]]) -> list[tuple[int, bytes]]:
-        """What the module in the page answers to calls."""
-        given = []
+        """Return the replies of the module in the page to calls."""
+        encoded = []
         for call, texts in questions:
             spans, start = [], 0
             for text in texts[1:]:
@@ -112,36 +111,36 @@ class Browser(ABC):
                 start += len(text)
             if call == "audit_all":
                 texts = [texts[0], b"".join(texts[1:])]
-            given.append(
+            encoded.append(
                 [
                     call,
                     [base64.b64encode(text).decode() for text in texts],
                     spans if call == "audit_all" else None,
                 ]
             )
-        found = self.run_async(
-            """const [given, done] = arguments; (async () => { const replies = []; for (const
-            [name, texts, spans] of given) replies.push(await window.sagas.call(name, texts,
+        value = self.run_async(
+            """const [calls, done] = arguments; (async () => { const replies = []; for (const
+            [name, texts, spans] of calls) replies.push(await window.sagas.call(name, texts,
             spans)); return replies; })() .then(done, error => done(String(error)));""",
-            given,
+            encoded,
         )
-        assert isinstance(found, list), found
+        assert isinstance(value, list), value
         return [
             (status, base64.b64decode(text) if not error else error.encode())
-            for status, text, error in found
+            for status, text, error in value
         ]
 
 
-class Driven(Browser):
-    """A browser that a driver of WebDriver drives."""
+class Selenium(Browser):
+    """A browser that Selenium controls."""
 
     driver: Any
 
-    def run(self, script: str, *words: Any) -> Any:
-        return self.driver.execute_script(script, *words)
+    def run(self, script: str, *arguments: Any) -> Any:
+        return self.driver.execute_script(script, *arguments)
 
-    def run_async(self, script: str, *words: Any) -> Any:
-        return self.driver.execute_async_script(script, *words)
+    def run_async(self, script: str, *arguments: Any) -> Any:
+        return self.driver.execute_async_script(script, *arguments)
 
     def go(self, url: str) -> None:
         self.driver.get(url)
@@ -153,8 +152,8 @@ class Driven(Browser):
         self.driver.quit()
 
 
-class Chromium(Driven):
-    """Chromium, which also tells what is in its log, and looks as it is told."""
+class Chromium(Selenium):
+    """Chromium, with its log, its window size and its color scheme."""
 
     def __init__(self) -> None:
         options = webdriver.ChromeOptions()
@@ -171,32 +170,32 @@ class Chromium(Driven):
         self.driver = webdriver.Chrome(service=Service("/usr/bin/chromedriver"), options=options)
         self.driver.set_script_timeout(SCRIPT_SECONDS)
 
-    def tell(self, command: str, **words: Any) -> Any:
-        """A command of the browser's own protocol."""
-        return self.driver.execute_cdp_cmd(command, words)
+    def command(self, command: str, **arguments: Any) -> Any:
+        """Execute a command of the browser's own protocol."""
+        return self.driver.execute_cdp_cmd(command, arguments)
 
-    def said(self) -> list[Any]:
-        """What has been written to the browser's log since this was asked."""
+    def new_log(self) -> list[Any]:
+        """Return the entries of the browser's log since the last call."""
         return list(self.driver.get_log("browser"))
 
     def look(self, width: int, is_dark: bool) -> None:
-        """Sets the width of the window, and light or dark."""
-        self.tell(
+        """Set the width of the window, and light or dark."""
+        self.command(
             "Emulation.setDeviceMetricsOverride",
             width=width,
             height=900,
             deviceScaleFactor=1,
             mobile=width < 500,
         )
-        self.tell(
+        self.command(
             "Emulation.setEmulatedMedia",
             features=[{"name": "prefers-color-scheme", "value": "dark" if is_dark else "light"}],
         )
 
     def picture(self, path: Path) -> None:
-        """Takes a picture of the whole page."""
+        """Take a picture of the whole page."""
         width, height = self.run("return [innerWidth, document.documentElement.scrollHeight]")
-        made = self.tell(
+        made = self.command(
             "Page.captureScreenshot",
             captureBeyondViewport=True,
             clip={"x": 0, "y": 0, "width": width, "height": height, "scale": 1},
@@ -205,8 +204,10 @@ class Chromium(Driven):
 
 
 class WebKit(Browser):
-    """WebKit, by the driver and the small browser of WebKitGTK, on a screen of Xvfb. (The driver
-    speaks WebDriver: JSON over HTTP.)"""
+    """WebKit, with the driver and the small browser of WebKitGTK, on a screen of Xvfb.
+
+    The driver speaks WebDriver: JSON over HTTP.
+    """
 
     def __init__(self) -> None:
         quiet = {
@@ -214,16 +215,16 @@ class WebKit(Browser):
             "stdout": subprocess.DEVNULL,
             "stderr": subprocess.DEVNULL,
         }
-        told, number = os.pipe()
+        reading_end, number = os.pipe()
         self.screen = subprocess.Popen(
             ["Xvfb", "-displayfd", str(number), "-screen", "0", "1280x1000x24", "-nolisten", "tcp"],
             pass_fds=[number],
             **quiet,
         )
         os.close(number)
-        with open(told, "rb") as file:
+        with open(reading_end, "rb") as file:
             display = file.readline().decode().strip()
-        # (its own processes are not shut in where this one is root, or shut in already)
+        # WebKit cannot isolate its processes if this process is root, or isolated itself.
         environment = {
             **os.environ,
             "DISPLAY": f":{display}",
@@ -238,13 +239,13 @@ class WebKit(Browser):
         self.at = f"http://127.0.0.1:{port}/session"
         self._listens(port)
         binary = str(sorted(Path("/usr/lib").glob("*/webkit2gtk-4.*/MiniBrowser"))[-1])
-        wanted = {"webkitgtk:browserOptions": {"binary": binary, "args": ["--automation"]}}
-        self.at += f"/{self._ask('', capabilities={'alwaysMatch': wanted})['sessionId']}"
+        capabilities = {"webkitgtk:browserOptions": {"binary": binary, "args": ["--automation"]}}
+        self.at += f"/{self._ask('', capabilities={'alwaysMatch': capabilities})['sessionId']}"
         self._ask("/timeouts", script=SCRIPT_SECONDS * 1000)
         self._ask("/window/rect", width=1280, height=1000)
 
     def _listens(self, port: int) -> None:
-        """Waits until the driver listens."""
+        """Wait until the driver listens."""
         end = time.monotonic() + SECONDS
         while True:
             try:
@@ -254,20 +255,20 @@ class WebKit(Browser):
                     raise
                 time.sleep(0.05)
 
-    def _ask(self, command: str, method: str = "POST", **words: Any) -> Any:
-        """The value that a command gives."""
-        data = json.dumps(words).encode() if method == "POST" else None
+    def _ask(self, command: str, method: str = "POST", **parameters: Any) -> Any:
+        """Execute a command, and return its value."""
+        data = json.dumps(parameters).encode() if method == "POST" else None
         request = urllib.request.Request(
             self.at + command, data, {"Content-Type": "application/json"}, method=method
         )
         with urllib.request.urlopen(request, timeout=SCRIPT_SECONDS) as reply:
             return json.load(reply)["value"]
 
-    def run(self, script: str, *words: Any) -> Any:
-        return self._ask("/execute/sync", script=script, args=list(words))
+    def run(self, script: str, *arguments: Any) -> Any:
+        return self._ask("/execute/sync", script=script, args=list(arguments))
 
-    def run_async(self, script: str, *words: Any) -> Any:
-        return self._ask("/execute/async", script=script, args=list(words))
+    def run_async(self, script: str, *arguments: Any) -> Any:
+        return self._ask("/execute/async", script=script, args=list(arguments))
 
     def go(self, url: str) -> None:
         self._ask("/url", url=url)
@@ -283,8 +284,10 @@ class WebKit(Browser):
 
 
 class Firefox(Browser):
-    """Firefox by its own protocol, Marionette: a command and its answer are JSON with the length
-    before it. (Debian has no geckodriver.)"""
+    """Firefox with its own protocol, Marionette, since Debian has no geckodriver.
+
+    A command and its answer are JSON after its length.
+    """
 
     def __init__(self) -> None:
         self.folder = tempfile.TemporaryDirectory(prefix="firefox-", ignore_cleanup_errors=True)
@@ -293,7 +296,7 @@ class Firefox(Browser):
             'user_pref("marionette.port", 0);\n'
             'user_pref("datareporting.policy.dataSubmissionEnabled", false);\n'
         )
-        words = [
+        command = [
             "firefox-esr",
             "--marionette",
             "--headless",
@@ -312,7 +315,7 @@ class Firefox(Browser):
             "MOZ_HEADLESS_HEIGHT": "1000",
         }
         self.process = subprocess.Popen(
-            words, env=environment, stdout=subprocess.DEVNULL, stderr=subprocess.DEVNULL
+            command, env=environment, stdout=subprocess.DEVNULL, stderr=subprocess.DEVNULL
         )
         self.stream = self._connected(profile / "MarionetteActivePort")
         self.count = 0
@@ -322,18 +325,18 @@ class Firefox(Browser):
             capabilities={"alwaysMatch": {"timeouts": {"script": SCRIPT_SECONDS * 1000}}},
         )
 
-    def _connected(self, told: Path) -> Any:
-        """The connection, once the browser has written its port."""
+    def _connected(self, port_file: Path) -> Any:
+        """Return the connection, once the browser has written its port."""
         end = time.monotonic() + SECONDS
-        while not (told.exists() and told.read_text().strip()):
+        while not (port_file.exists() and port_file.read_text().strip()):
             if time.monotonic() > end or self.process.poll() is not None:
-                raise TimeoutError("firefox does not tell its port")
+                raise TimeoutError("firefox does not write its port")
             time.sleep(0.05)
-        self.socket = socket.create_connection(("127.0.0.1", int(told.read_text())))
+        self.socket = socket.create_connection(("127.0.0.1", int(port_file.read_text())))
         return self.socket.makefile("rwb")
 
     def _read(self) -> Any:
-        """An answer."""
+        """Return the next answer."""
         length = b""
         while (byte := self.stream.read(1)) != b":":
             if not byte:
@@ -341,23 +344,25 @@ class Firefox(Browser):
             length += byte
         return json.loads(self.stream.read(int(length)))
 
-    def _ask(self, command: str, **words: Any) -> Any:
-        """The value that a command gives."""
+    def _ask(self, command: str, **parameters: Any) -> Any:
+        """Execute a command, and return its value."""
         self.count += 1
-        asked = json.dumps([0, self.count, command, words]).encode()
-        self.stream.write(b"%d:%b" % (len(asked), asked))
+        message = json.dumps([0, self.count, command, parameters]).encode()
+        self.stream.write(b"%d:%b" % (len(message), message))
         self.stream.flush()
-        _, _, error, found = self._read()
+        _, _, error, result = self._read()
         if error:
             raise RuntimeError(f"{command}: {error}")
-        return found["value"] if set(found) == {"value"} else found
+        return result["value"] if set(result) == {"value"} else result
 
-    def run(self, script: str, *words: Any) -> Any:
-        return self._ask("WebDriver:ExecuteScript", script=script, args=list(words), sandbox=None)
-
-    def run_async(self, script: str, *words: Any) -> Any:
+    def run(self, script: str, *arguments: Any) -> Any:
         return self._ask(
-            "WebDriver:ExecuteAsyncScript", script=script, args=list(words), sandbox=None
+            "WebDriver:ExecuteScript", script=script, args=list(arguments), sandbox=None
+        )
+
+    def run_async(self, script: str, *arguments: Any) -> Any:
+        return self._ask(
+            "WebDriver:ExecuteAsyncScript", script=script, args=list(arguments), sandbox=None
         )
 
     def go(self, url: str) -> None:

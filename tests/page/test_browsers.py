@@ -1,5 +1,4 @@
-"""The page in three browsers: Chromium, Firefox and WebKit. What it shows of each example, its
-bytes for all rows, and a picture."""
+"""The page in Chromium, Firefox and WebKit: each example, the bytes for all rows, and a picture."""
 
 from __future__ import annotations
 
@@ -30,16 +29,18 @@ def browser(request: pytest.FixtureRequest) -> Iterator[Browser]:
 
 @pytest.fixture(scope="session")
 def questions() -> list[tuple[same.Question, same.Reply]]:
-    """The questions of tests/rows, with what the program answers."""
-    asked = [question for question in same.of_rows() if sum(map(len, question[1])) < 1 << 20]
-    return [(question, same.by_program(question)) for question in asked]
+    """The questions of tests/rows, with the replies of the program."""
+    questions_of_rows = [
+        question for question in same.of_rows() if sum(map(len, question[1])) < 1 << 20
+    ]
+    return [(question, same.by_program(question)) for question in questions_of_rows]
 
 
 def test_examples(browser: Browser, request: pytest.FixtureRequest) -> None:
     for mode, example, kind, verdict, marked, shall in EXAMPLES:
-        found = browser.show(mode, example)
-        assert (found["kind"], found["verdict"], found["shall"]) == (kind, verdict, shall)
-        assert mode == "audit" or (found["marked"], found["nodes"]) == (marked, len(shall))
+        shown = browser.show(mode, example)
+        assert (shown["kind"], shown["verdict"], shown["shall"]) == (kind, verdict, shall)
+        assert mode == "audit" or (shown["marked"], shown["nodes"]) == (marked, len(shall))
     browser.show("plan", 0)
     PICTURES.mkdir(parents=True, exist_ok=True)
     picture = PICTURES / f"{type(browser).__name__.lower()}.png"
@@ -48,6 +49,6 @@ def test_examples(browser: Browser, request: pytest.FixtureRequest) -> None:
 
 
 def test_rows(browser: Browser, questions: list[tuple[same.Question, same.Reply]]) -> None:
-    asked = [question for question, _ in questions]
-    assert len(asked) > 100
-    assert browser.calls(asked) == [reply for _, reply in questions]
+    questions_of_rows = [question for question, _ in questions]
+    assert len(questions_of_rows) > 100
+    assert browser.calls(questions_of_rows) == [reply for _, reply in questions]

@@ -1,5 +1,4 @@
-"""The module of WebAssembly outside of browsers, by sagas.mjs in Node: the program's bytes for
-all rows, deep texts and texts at random."""
+"""The WebAssembly module in Node: the program's bytes for all rows and other texts."""
 
 from __future__ import annotations
 
@@ -32,49 +31,51 @@ NODE = os.environ.get("NODE") or "node"
 
 
 def answers(questions: list[same.Question], file: Path) -> list[same.Reply]:
-    """What Node answers, by a file for the questions."""
+    """Return the replies of Node. The file gets the questions."""
     with file.open("wb") as out:
         out.write(
             json.dumps([[call, list(map(len, texts))] for call, texts in questions]).encode()
             + b"\n"
         )
         out.writelines(text for _, texts in questions for text in texts)
-    words = [
+    command = [
         NODE,
         str(Path(__file__).with_name("answers.mjs")),
         str(TOP / "dist" / "sagas.mjs"),
         str(file),
     ]
     done = subprocess.run(
-        words, stdin=subprocess.DEVNULL, capture_output=True, timeout=300, check=False
+        command, stdin=subprocess.DEVNULL, capture_output=True, timeout=300, check=False
     )
     assert done.returncode == 0, done.stderr.decode()
     return [(status, base64.b64decode(text)) for status, text in json.loads(done.stdout)]
 
 
-@pytest.mark.skipif(shutil.which(NODE) is None, reason="Node is not on this machine")
+@pytest.mark.skipif(shutil.which(NODE) is None, reason="Node is not installed")
 def test_the_programs_bytes(tmp_path: Path) -> None:
-    place = library.path()
-    loaded = library.loaded(place) if place else None
+    library_path = library.path()
+    loaded = library.loaded(library_path) if library_path else None
     assert loaded is not None
     questions = [*same.of_rows(), *same.deep()]
     for number in range(75):
         questions += same.at_random(random.Random(f"module {number}"), loaded)
-    found = answers(questions, tmp_path / "questions")
+    actual = answers(questions, tmp_path / "questions")
     wrong = [
         (question, here, there)
-        for question, here, there in zip(questions, found, map(same.by_program, questions))
+        for question, here, there in zip(questions, actual, map(same.by_program, questions))
         if here != there
     ]
     assert wrong == []
 
 
 def test_the_module_asks_for_nothing() -> None:
-    """No import, one memory of 32 bits, and the calls of sagas.h without those of a coordinator,
-    beside the three that have to do with memory."""
+    """It has no import, one memory of 32 bits, and calls: three for memory, and those of sagas.h.
+
+    Only the calls of a coordinator are missing.
+    """
     module = (TOP / "dist" / "sagas.wasm").read_bytes()
-    found = dict(narrow.sections(module))
-    assert 2 not in found and found[narrow.MEMORY][:2] == bytes([1, 0])
+    actual = dict(narrow.sections(module))
+    assert 2 not in actual and actual[narrow.MEMORY][:2] == bytes([1, 0])
     names = {name for name in narrow.exports(module) if name.startswith("sagas_")}
     header = (TOP / "dist" / "sagas.h").read_text()
     calls = set(re.findall(r"^(?:uint32_t|void) (sagas_\w+)\(", header, re.M))
@@ -85,12 +86,12 @@ def test_the_module_asks_for_nothing() -> None:
 
 
 def section(kind: int, data: bytes) -> bytes:
-    """A section of a module."""
+    """Return a section of a module."""
     return bytes([kind, len(data)]) + data
 
 
 def with_code(code: bytes) -> bytes:
-    """A module of a function from a number of 64 bits to one, with a memory of 64 bits."""
+    """Return a module of a function from a number of 64 bits to one, with a memory of 64 bits."""
     body = b"\x00" + code + b"\x0b"
     parts = [
         (1, b"\x01\x60\x01\x7e\x01\x7e"),

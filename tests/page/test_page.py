@@ -1,4 +1,4 @@
-"""The page in a real browser: each example, faults, clicks and keys, hostile texts, the program's bytes, widths and colours."""
+"""The page in a real browser: examples, faults, clicks, keys, hostile texts, widths and colors."""
 
 from __future__ import annotations
 
@@ -27,7 +27,10 @@ PICTURES = Path(os.environ.get("PAGE_PICTURES") or TOP / "out" / "page")
 TRIP = (TOP / "examples" / "trip.toml").read_text()
 TRIP_CASE = (TOP / "examples" / "trip.case.json").read_text().strip()
 TRIP_ANSWER = (TOP / "examples" / "trip.answer.json").read_text().strip()
-HOSTILE = '<img src=x onerror="document.title=\'broken\'"></script><script>document.title="broken"</script>'
+HOSTILE = (
+    "<img src=x onerror=\"document.title='broken'\"></script>"
+    '<script>document.title="broken"</script>'
+)
 
 
 @pytest.fixture(scope="session")
@@ -39,15 +42,15 @@ def browser() -> Iterator[Chromium]:
 
 
 class Quiet(http.server.SimpleHTTPRequestHandler):
-    """Serves dist/, and says nothing."""
+    """A server of dist/ without a log."""
 
-    asked: list[str] = []
+    requested: list[str] = []
 
-    def __init__(self, *words: object, **more: object) -> None:
-        super().__init__(*words, directory=str(PAGE.parent), **more)  # type: ignore[arg-type]
+    def __init__(self, *arguments: object, **more: object) -> None:
+        super().__init__(*arguments, directory=str(PAGE.parent), **more)  # type: ignore[arg-type]
 
     def do_GET(self) -> None:
-        self.asked.append(self.path)
+        self.requested.append(self.path)
         super().do_GET()
 
     def log_message(self, *_: object) -> None:
@@ -56,7 +59,7 @@ class Quiet(http.server.SimpleHTTPRequestHandler):
 
 @pytest.fixture(scope="session")
 def served() -> Iterator[str]:
-    """The page's address at a server of its own."""
+    """The address of the page at a server."""
     server = http.server.ThreadingHTTPServer(("127.0.0.1", 0), Quiet)
     thread = threading.Thread(target=server.serve_forever)
     thread.start()
@@ -68,12 +71,12 @@ def served() -> Iterator[str]:
 
 @pytest.fixture
 def page(browser: Chromium) -> Iterator[Chromium]:
-    """The page, opened anew from the disk; in the end nothing may stand in the browser's log, and the title is as it was."""
+    """The page, opened from the disk. At the end the log is empty, and the title unchanged."""
     browser.look(1280, False)
     browser.open(PAGE.as_uri())
-    browser.said()
+    browser.new_log()
     yield browser
-    assert browser.said() == []
+    assert browser.new_log() == []
     assert browser.driver.title == "sagas: recovery planner"
 
 
@@ -124,10 +127,17 @@ def test_examples(page: Chromium, served: str, way: str) -> None:
     if way == "server":
         page.open(served)
     for mode, example, kind, verdict, marked, shall in EXAMPLES:
-        found = page.show(mode, example)
-        assert (found["kind"], found["verdict"], found["shall"]) == (kind, verdict, shall)
-        assert mode == "audit" or (found["marked"], found["nodes"]) == (marked, len(shall))
-    assert set(Quiet.asked) <= {f"/{PAGE.name}"}
+        page_state = page.show(mode, example)
+        assert (page_state["kind"], page_state["verdict"], page_state["shall"]) == (
+            kind,
+            verdict,
+            shall,
+        )
+        assert mode == "audit" or (page_state["marked"], page_state["nodes"]) == (
+            marked,
+            len(shall),
+        )
+    assert set(Quiet.requested) <= {f"/{PAGE.name}"}
 
 
 def test_the_certificate_is_the_programs(page: Chromium) -> None:
@@ -168,22 +178,30 @@ FAULTS = [
     FAULTS,
     ids=[f"{field} {number}" for number, (_, field, _) in enumerate(FAULTS)],
 )
-def test_faults_are_told_where_they_stand(
+def test_faults_are_shown_at_their_field(
     page: Chromium, texts: dict[str, str], field: str, line: str
 ) -> None:
     page.show("plan", 0)
-    found = page.put(texts)
-    assert (found["kind"], found["faults"], found["checked"]) == ("bad", [field], line)
-    assert len(found["fault"]) > 20
-    # (where the definition is whole, its steps stay in sight, and a click mends the case)
+    page_state = page.put(texts)
+    assert (page_state["kind"], page_state["faults"], page_state["checked"]) == (
+        "bad",
+        [field],
+        line,
+    )
+    assert len(page_state["fault"]) > 20
+    # If the definition is right, its steps remain visible, and a click repairs the case.
     if field == "case":
-        assert found["nodes"] == 4
-        mended = page.change("document.getElementById('waiting').click()")
-        assert json.loads(mended["case"])["states"] == ["waiting"] * 4 and mended["kind"] == "good"
+        assert page_state["nodes"] == 4
+        repaired = page.change("document.getElementById('waiting').click()")
+        assert json.loads(repaired["case"])["states"] == ["waiting"] * 4
+        assert repaired["kind"] == "good"
 
 
 def test_a_line_that_is_no_toml_is_named(page: Chromium) -> None:
-    """The first one, also behind a list over several lines, in the second of two definitions, and twice a key; whoever types keeps the place."""
+    """The first one is named, also after a list of several lines and in a second definition.
+
+    A repeated key is named too. The selection of the user does not change.
+    """
     page.show("plan", 0)
     several = TRIP.replace('needs = ["flight"]', 'needs = [\n  "flight",\n]')
     for text, wrong in (
@@ -194,23 +212,23 @@ def test_a_line_that_is_no_toml_is_named(page: Chromium) -> None:
     ):
         text = text.replace("keep = 3" if "keep" in wrong else "undo = 5", wrong)
         line = wrong.split("\n")[-1]
-        found = page.put({"definition": text})
+        page_state = page.put({"definition": text})
         assert (
-            found["checked"] == "sagas: definition: not-toml"
-            and f"line {text.split(chr(10)).index(line) + 1}:" in found["remedy"]
-        ), found
-        assert found["fault"].endswith(f": {line}")
+            page_state["checked"] == "sagas: definition: not-toml"
+            and f"line {text.split(chr(10)).index(line) + 1}:" in page_state["remedy"]
+        ), page_state
+        assert page_state["fault"].endswith(f": {line}")
     page.run(
-        "document.getElementById('definition').focus(); document.getElementById('definition').setSelectionRange(7, 7)"
+        "const it = document.getElementById('definition'); it.focus(); it.setSelectionRange(7, 7)"
     )
     page.change("document.getElementById('definition').dispatchEvent(new Event('input'))")
     assert page.run("return document.getElementById('definition').selectionEnd") == 7
     page.show("audit", 0)
-    found = page.put({"definition": TRIP + "---\n" + TRIP.replace("undo = 5", "undo = five")})
+    page_state = page.put({"definition": TRIP + "---\n" + TRIP.replace("undo = 5", "undo = five")})
     assert (
         f"line {2 + TRIP.count(chr(10)) + TRIP.split(chr(10)).index('undo = 5')}:"
-        in found["remedy"]
-    ), found
+        in page_state["remedy"]
+    ), page_state
 
 
 def test_faults_of_certificates_and_logs(page: Chromium) -> None:
@@ -220,31 +238,40 @@ def test_faults_of_certificates_and_logs(page: Chromium) -> None:
         (HOSTILE, "bad", "sagas: answer: not-json"),
         (TRIP_ANSWER.replace("[0,1]", "[0]", 1), "no", "Verified here"),
     ):
-        found = page.put({"answer": answer})
-        assert (found["kind"], found["faults"]) == (kind, ["answer"]) and found[
+        page_state = page.put({"answer": answer})
+        assert (page_state["kind"], page_state["faults"]) == (kind, ["answer"]) and page_state[
             "checked"
         ].startswith(checked)
     page.show("audit", 0)
-    found = page.put({"log": '{"format":2}\n{}\n'})
-    assert (found["kind"], found["faults"], found["checked"]) == (
+    page_state = page.put({"log": '{"format":2}\n{}\n'})
+    assert (page_state["kind"], page_state["faults"], page_state["checked"]) == (
         "bad",
         ["log"],
         "sagas: log: line 2: kind",
-    ) and "2: {}" in found["fault"]
-    found = page.put({"definition": TRIP + "---\nname"})
-    assert found["checked"] == "sagas: log: line 2: kind"
-    found = page.put({"log": ""})
-    assert (found["faults"], found["checked"]) == (["definition"], "sagas: definition 1: not-toml")
-    found = page.put({"definition": TRIP + "---\n" + TRIP})
-    assert found["verdict"].startswith("Valid")
+    ) and "2: {}" in page_state["fault"]
+    page_state = page.put({"definition": TRIP + "---\nname"})
+    assert page_state["checked"] == "sagas: log: line 2: kind"
+    page_state = page.put({"log": ""})
+    assert (page_state["faults"], page_state["checked"]) == (
+        ["definition"],
+        "sagas: definition 1: not-toml",
+    )
+    page_state = page.put({"definition": TRIP + "---\n" + TRIP})
+    assert page_state["verdict"].startswith("Valid")
 
 
 def test_states_by_clicks_and_keys(page: Chromium) -> None:
     page.show("plan", 0)
-    found = page.change(
-        "document.querySelector('[data-step=\"2\"]').dispatchEvent(new MouseEvent('click', { bubbles: true }))"
+    page_state = page.change(
+        "document.querySelector('[data-step=\"2\"]')"
+        ".dispatchEvent(new MouseEvent('click', { bubbles: true }))"
     )
-    assert json.loads(found["case"])["states"] == ["committed", "committed", "undone", "waiting"]
+    assert json.loads(page_state["case"])["states"] == [
+        "committed",
+        "committed",
+        "undone",
+        "waiting",
+    ]
     page.run("document.querySelector('.node[data-step=\"1\"]').focus()")
     before = page.run("return document.body.dataset.rounds")
     page.driver.switch_to.active_element.send_keys(Keys.ENTER)
@@ -256,16 +283,17 @@ def test_states_by_clicks_and_keys(page: Chromium) -> None:
         "waiting",
     ]
     assert page.run("return document.activeElement.dataset.step") == "1"
-    found = page.change(
-        "const it = document.querySelector('select[data-step=\"0\"]'); it.value = 'waiting'; it.dispatchEvent(new Event('change'))"
+    page_state = page.change(
+        "const it = document.querySelector('select[data-step=\"0\"]'); it.value = 'waiting';"
+        "it.dispatchEvent(new Event('change'))"
     )
-    assert json.loads(found["case"])["states"] == ["waiting", "failed", "undone", "waiting"]
-    found = page.change("document.getElementById('aborted').click()")
-    assert json.loads(found["case"]) == {
+    assert json.loads(page_state["case"])["states"] == ["waiting", "failed", "undone", "waiting"]
+    page_state = page.change("document.getElementById('aborted').click()")
+    assert json.loads(page_state["case"]) == {
         "aborted": True,
         "states": ["waiting", "failed", "undone", "waiting"],
     }
-    assert found["shall"] == ["skip"] * 4
+    assert page_state["shall"] == ["skip"] * 4
 
 
 def test_by_the_keyboard_alone(page: Chromium) -> None:
@@ -276,7 +304,8 @@ def test_by_the_keyboard_alone(page: Chromium) -> None:
         page.driver.switch_to.active_element.send_keys(Keys.TAB)
         seen.append(
             page.run(
-                "const it = document.activeElement; return it.id || it.name || it.dataset.step || it.tagName"
+                "const it = document.activeElement;"
+                "return it.id || it.name || it.dataset.step || it.tagName"
             )
         )
         if seen[-1] == "judge":
@@ -305,18 +334,22 @@ def test_names_for_readers(page: Chromium) -> None:
     for mode in ("plan", "judge", "audit"):
         page.show(mode, 0)
         unnamed = page.run(
-            """return [...document.querySelectorAll('button, select, textarea, input, [tabindex="0"], table, section')].filter(it => it.getClientRects().length)
-            .filter(it => !(it.getAttribute('aria-label') || it.labels?.length || it.textContent.trim())).map(it => it.outerHTML.slice(0, 80));"""
+            """const named = 'button, select, textarea, input, [tabindex="0"], table, section';
+            return [...document.querySelectorAll(named)].filter(it => it.getClientRects().length)
+              .filter(it => !(it.getAttribute('aria-label') || it.labels?.length
+                || it.textContent.trim()))
+              .map(it => it.outerHTML.slice(0, 80));"""
         )
         assert unnamed == []
     assert page.run(
-        "const it = document.getElementById('told'); return [it.getAttribute('role'), it.getAttribute('aria-live')]"
+        "const it = document.getElementById('told');"
+        "return [it.getAttribute('role'), it.getAttribute('aria-live')]"
     ) == ["status", "polite"]
 
 
 def test_the_programs_bytes(page: Chromium) -> None:
-    place = library.path()
-    loaded = library.loaded(place) if place else None
+    library_path = library.path()
+    loaded = library.loaded(library_path) if library_path else None
     assert loaded is not None
     questions: list[same.Question] = []
     for number in range(int(os.environ.get("PAGE_SAGAS", "75"))):
@@ -337,53 +370,64 @@ def test_the_programs_bytes(page: Chromium) -> None:
     assert page.calls(questions) == [same.by_program(question) for question in questions]
 
 
-def test_prices_and_reasons(page: Chromium) -> None:
+def test_costs_and_reasons(page: Chromium) -> None:
     page.show("plan", 0)
     plans = 0
     for number in range(30):
-        chance = random.Random(f"prices {number}")
+        chance = random.Random(f"costs {number}")
         definition, count = same.definition(chance)
-        found = page.put({"definition": definition, "case": same.case(chance, count)})
-        prices = page.run(
-            "return [...document.querySelectorAll('#steps td.price.taken')].map(it => it.textContent)"
+        page_state = page.put({"definition": definition, "case": same.case(chance, count)})
+        costs, reasons = (
+            page.run(
+                "return [...document.querySelectorAll(arguments[0])].map(it => it.textContent)",
+                selector,
+            )
+            for selector in ("#steps td.price.taken", "#steps td.why")
         )
-        reasons = page.run(
-            "return [...document.querySelectorAll('#steps td.why')].map(it => it.textContent)"
-        )
-        if found["kind"] == "good":
+        if page_state["kind"] == "good":
             plans += 1
             cost = (
-                found["checked"]
+                page_state["checked"]
                 .removeprefix("Planned, then verified here by the proved checker: least ")
                 .rstrip(".")
             )
-            assert sum(int(price.replace(",", "")) for price in prices) == int(cost)
+            assert sum(int(part.replace(",", "")) for part in costs) == int(cost)
             assert len(reasons) == count and all(reasons)
     assert plans > 5
 
 
 def test_the_longest_texts(page: Chromium) -> None:
-    found = page.run_async(
+    page_state = page.run_async(
         """const [definition, done] = arguments;
-        (async () => { const told = [];
-          for (const size of [67108865, 67108864]) { const reply = await call('plan', [bytes_of(definition), new Uint8Array(size)]); told.push(text_of(reply.bytes) + (reply.error || '')); }
-          const reply = await call('draw', [bytes_of(definition)]); told.push(reply.status); return told; })().then(done, error => done(String(error)));""",
+        (async () => { const replies = [];
+          for (const size of [67108865, 67108864]) {
+            const reply = await call('plan', [bytes_of(definition), new Uint8Array(size)]);
+            replies.push(text_of(reply.bytes) + (reply.error || ''));
+          }
+          const reply = await call('draw', [bytes_of(definition)]);
+          replies.push(reply.status);
+          return replies; })().then(done, error => done(String(error)));""",
         TRIP,
     )
-    assert found == ["sagas: case: too-long\n", "sagas: case: not-json\n", 0]
+    assert page_state == ["sagas: case: too-long\n", "sagas: case: not-json\n", 0]
 
 
 def test_a_saga_of_1024_steps(page: Chromium) -> None:
     page.show("plan", 0)
     definition, case = making.named("s0", 8192), making.states(1024, "committed", "failed")
-    found = page.put({"definition": definition, "case": case})
-    assert found["kind"] == "good" and found["rows"] == 100 and found["nodes"] == 0
+    page_state = page.put({"definition": definition, "case": case})
+    assert page_state["kind"] == "good" and page_state["rows"] == 100 and page_state["nodes"] == 0
     page.run("document.getElementById('all').click()")
     assert page.shown()["rows"] == 1024
     took = page.run_async(
         """const done = arguments[0];
-        (async () => { let best = Infinity; for (let i = 0; i < 10; i++) { const began = performance.now(); await call('plan', [given('definition'), given('case')]);
-          best = Math.min(best, performance.now() - began); } return best; })().then(done);"""
+        (async () => { let best = Infinity;
+          for (let i = 0; i < 10; i++) {
+            const began = performance.now();
+            await call('plan', [given('definition'), given('case')]);
+            best = Math.min(best, performance.now() - began);
+          }
+          return best; })().then(done);"""
     )
     print(f"a plan of 1,024 steps and 8,192 needs: {took:.0f} ms at best of ten")
     page.run("document.getElementById('draw').click()")
@@ -398,14 +442,19 @@ def test_a_browser_that_cannot(browser: Chromium) -> None:
             "unknown",
         ),
     ):
-        added = browser.tell("Page.addScriptToEvaluateOnNewDocument", source=script)
+        added = browser.command("Page.addScriptToEvaluateOnNewDocument", source=script)
         try:
             browser.open(PAGE.as_uri())
-            found = browser.shown()
-            assert (found["kind"], found["verdict"]) == ("bad", "This browser cannot run the page")
-            assert why in found["checked"] and "Safari 15" in found["remedy"]
+            page_state = browser.shown()
+            assert (page_state["kind"], page_state["verdict"]) == (
+                "bad",
+                "This browser cannot run the page",
+            )
+            assert why in page_state["checked"] and "Safari 15" in page_state["remedy"]
         finally:
-            browser.tell("Page.removeScriptToEvaluateOnNewDocument", identifier=added["identifier"])
+            browser.command(
+                "Page.removeScriptToEvaluateOnNewDocument", identifier=added["identifier"]
+            )
 
 
 @pytest.mark.parametrize("width", [360, 1280])

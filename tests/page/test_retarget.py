@@ -1,4 +1,4 @@
-"""The script that retargets a module: what it changes, and that it stops at what it does not know."""
+"""The script that retargets a module: its changes, and its end at unknown parts."""
 
 from __future__ import annotations
 
@@ -27,7 +27,8 @@ define i32 @sagas_plan(ptr %a, i64 %b) #0 {
 
 declare { i64, ptr } @rattle_alloc(i64, i64) #1
 declare void @llvm.memset.p0.i64(ptr, i8, i64, i1) #1
-attributes #0 = { nounwind "probe-stack"="inline-asm" "target-cpu"="x86-64-v2" "target-features"="+sse3" "tune-cpu"="generic" }
+attributes #0 = { nounwind "probe-stack"="inline-asm" "target-cpu"="x86-64-v2" \
+"target-features"="+sse3" "tune-cpu"="generic" }
 attributes #1 = { nounwind }
 """
 
@@ -63,7 +64,8 @@ def test_an_export_that_is_left_out() -> None:
         "declare void @llvm.x86.sse2.pause()\n",
         'define internal void @a() {\n  call void asm sideeffect "nop", ""()\n  ret void\n}\n',
         "@counter = internal thread_local global i64 0\n",
-        "define internal double @a(double %b) {\n  %c = fadd fast double %b, %b\n  ret double %c\n}\n",
+        "define internal double @a(double %b) {\n"
+        "  %c = fadd fast double %b, %b\n  ret double %c\n}\n",
         "define void @other() {\n  ret void\n}\n",
         'target triple = "x86_64-unknown-linux-gnu"\n',
     ],

@@ -313,7 +313,7 @@ class PostgreSQLExternalAttempts:
             "seconds": [claim.seconds for claim in each],
         }
         tasks = [*claims[0].tasks]
-        ((text,),) = await self._asker.ask(CLAIM, tasks=tasks, limit=len(each), **workers)
+        ((text,),) = await self._asker.ask(CLAIM, tasks=tasks, most=len(each), **workers)
         return rows_of(text)
 
     async def _has_own(self) -> bool:
