@@ -31,7 +31,9 @@ def main(arguments: list[str] | None = None) -> int:
                 file=sys.stderr,
             )
             return 4
-        return service.main(arguments[1:]) if arguments[0] == "serve" else service.token(arguments[1:])
+        return (
+            service.main(arguments[1:]) if arguments[0] == "serve" else service.token(arguments[1:])
+        )
     try:
         path = program.path()
     except EngineError as error:

@@ -210,7 +210,9 @@ def test_an_external_step_is_offered(leased: bool) -> None:
     attempt = attempt_of("outside")
     assert becomes_reportable(attempt) and not is_reportable(attempt)
     assert AttemptMachine(leased).begin(attempt, NOW) is OFFER
-    assert attempt.reason is Suspension.EXTERNAL and attempt.until is None and is_reportable(attempt)
+    assert (
+        attempt.reason is Suspension.EXTERNAL and attempt.until is None and is_reportable(attempt)
+    )
     assert attempt.is_uncalled is leased  # else a worker may have started it
 
 

@@ -191,7 +191,9 @@ def test_another_server_lacks_the_last_commit() -> None:
     takeovers = [BORN, Takeover(2, "a", 0, "2")]
     record = merged(f"{NODE}\ntook a 7 2 2 2 11", takeovers, CHUNKS[:1], "2")
     assert events_of(record) == f"{TWO}, moved 1 1, took 2 1 11, heard 1"
-    assert [(loss.chunk_count, loss.acknowledgements) for loss in record.losses] == [(1, [("wake", 2)])]
+    assert [(loss.chunk_count, loss.acknowledgements) for loss in record.losses] == [
+        (1, [("wake", 2)])
+    ]
     assert events_of(merged(NODE, takeovers, CHUNKS[:1], "2", sync=True)).endswith(
         "FewerThanShipped"
     )
@@ -211,7 +213,9 @@ def test_another_server_lacks_takeovers() -> None:
 
 def test_another_server_lacks_the_shard() -> None:
     record = merged(NODE, [], [], "2")
-    assert events_of(record) == f"{TWO}, moved 0 0" and [loss.chunk_count for loss in record.losses] == [0]
+    assert events_of(record) == f"{TWO}, moved 0 0" and [
+        loss.chunk_count for loss in record.losses
+    ] == [0]
 
 
 def test_another_server_takes_over_and_the_shard_rests() -> None:

@@ -56,7 +56,11 @@ def attempt_in(state: AttemptState) -> Attempt:
         ...
 
     attempt = Attempt(
-        SagaInstance("k", "{}", DefinitionRegistry([saga]).kinds[0], 0), 0, "run", 1, is_uncalled=True
+        SagaInstance("k", "{}", DefinitionRegistry([saga]).kinds[0], 0),
+        0,
+        "run",
+        1,
+        is_uncalled=True,
     )
     attempt.state = state
     return attempt

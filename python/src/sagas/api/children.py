@@ -31,7 +31,9 @@ class ChildOperations:
         self._access, self._lookup = access, lookup
         self._starter, self._commands = starter, commands
 
-    async def start(self, saga: Saga | CompiledDefinition, key: str, input: Any, options: StartOptions) -> bool:
+    async def start(
+        self, saga: Saga | CompiledDefinition, key: str, input: Any, options: StartOptions
+    ) -> bool:
         """Start a child; return False if the key is used."""
         return await self._starter.start_child(saga, key, input, options)
 

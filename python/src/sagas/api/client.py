@@ -408,7 +408,11 @@ class Client(Schedules):
         if row.id < 0:
             holders = await self._ask(LEFT_BY, id=-row.id)
             is_left = holders and holders[0][1]
-            return [pending.missing_definition(row.saga, *holders[0]) if is_left else pending.NO_NODE_YET]
+            return [
+                pending.missing_definition(row.saga, *holders[0])
+                if is_left
+                else pending.NO_NODE_YET
+            ]
         rows = await self._read(WAITS, row.id)
         if not rows:
             return []

@@ -86,7 +86,9 @@ class Commands:
             except SagaMoved:
                 continue
 
-    async def _hand_over(self, row: SagaRow, command: str, arguments: Any, request: RequestRef) -> Any:
+    async def _hand_over(
+        self, row: SagaRow, command: str, arguments: Any, request: RequestRef
+    ) -> Any:
         """Ask the node that has the saga.
 
         That node itself executes a stored command.
@@ -266,7 +268,12 @@ class Commands:
             raise SagaMoved(f"saga {live.key!r}")
 
     async def _report_early(
-        self, live: SagaInstance, word: ActionKey, outcome: Outcome, request: RequestRef, early: bool
+        self,
+        live: SagaInstance,
+        word: ActionKey,
+        outcome: Outcome,
+        request: RequestRef,
+        early: bool,
     ) -> None:
         """Store a report of a step that has not started.
 

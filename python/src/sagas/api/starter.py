@@ -28,7 +28,11 @@ class Starter:
     """Starts sagas. Without `accepts_new`, it only finds existing ones."""
 
     def __init__(
-        self, access: StoreAccess, lookup: SagaLookup, registry: DefinitionRegistry, accepts_new: bool
+        self,
+        access: StoreAccess,
+        lookup: SagaLookup,
+        registry: DefinitionRegistry,
+        accepts_new: bool,
     ) -> None:
         self._access, self._lookup, self._registry = access, lookup, registry
         self.accepts_new = accepts_new

@@ -37,7 +37,11 @@ class StoreAccess:
         Raises `Closed`, and `RuntimeError` in another loop.
         """
         coordinator = self.opened_coordinator
-        if coordinator is None or coordinator.closed or coordinator.forks != private_descriptors.forks:
+        if (
+            coordinator is None
+            or coordinator.closed
+            or coordinator.forks != private_descriptors.forks
+        ):
             coordinator = self.coordinator  # raises
         if asyncio.get_running_loop() is not coordinator.loop:
             raise RuntimeError(

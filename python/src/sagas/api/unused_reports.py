@@ -53,7 +53,9 @@ class UnusedReports:
         self._access, self._lookup = access, lookup
         self._changed = asyncio.Event()
 
-    async def compensate(self, key: str, step: str, request: RequestRef, of: int | None = None) -> None:
+    async def compensate(
+        self, key: str, step: str, request: RequestRef, of: int | None = None
+    ) -> None:
         """Have the compensation called for a step whose report was not used."""
         row = await self._ended(key, of)
         coordinator = self._access.coordinator

@@ -126,7 +126,9 @@ class Work:
             span.ended(outcome.kind.value, outcomes.error_text(outcome), outcome.error)
             return outcome
 
-    def _location(self, order: Order, started: AttemptTexts) -> tuple[StepLocation | None, Decoders]:
+    def _location(
+        self, order: Order, started: AttemptTexts
+    ) -> tuple[StepLocation | None, Decoders]:
         """Return the location of the step, if any, and the decoders of results."""
         if started.shape is None:
             return None, self.decoders

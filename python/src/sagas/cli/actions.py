@@ -121,7 +121,9 @@ def is_repeated(link: admin.Source, key: str, command: str, value: Any) -> bool:
         first = first or step_reports.early_outcome(link.ask(step_reports.EARLY, id, index, kind))
         if first is None or ENVELOPE.match(first.value):  # it cannot be compared here
             return False
-        outcome = reported_outcome(value.get("result"), value["error"] if command == "fail" else None)
+        outcome = reported_outcome(
+            value.get("result"), value["error"] if command == "fail" else None
+        )
         try:
             step_reports.check(key, value["step"], first, outcome)
         except ConflictingReport as error:

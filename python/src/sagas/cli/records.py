@@ -209,7 +209,10 @@ def shown(shard: ShardCheck) -> dict[str, Any]:
     """Return a shard as JSON."""
     fields: dict[str, Any] = json.loads(json.dumps(dataclasses.asdict(shard)))
     fields["losses"] = [
-        {"chunks": loss.chunk_count, "told": [telling._asdict() for telling in loss.acknowledgements]}
+        {
+            "chunks": loss.chunk_count,
+            "told": [telling._asdict() for telling in loss.acknowledgements],
+        }
         for loss in shard.losses
     ]
     return fields

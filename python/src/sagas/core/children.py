@@ -109,7 +109,9 @@ def undone_steps(child: Mapping[str, str], earlier: Iterable[Mapping[str, str]])
     return undone
 
 
-def child_outcome(end: SagaEnd, kind: CompiledDefinition, results: Mapping[int, str]) -> Outcome | None:
+def child_outcome(
+    end: SagaEnd, kind: CompiledDefinition, results: Mapping[int, str]
+) -> Outcome | None:
     """Return the outcome of a step whose child has ended.
 
     Args:

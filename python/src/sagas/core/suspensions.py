@@ -112,7 +112,9 @@ class SagaExtras:
     """The numbers and keys of its items, after its shape was dropped."""
     wait_ends: dict[ActionKey, float] = dataclasses.field(default_factory=dict)
     """The end times of waits; 0 after they have passed."""
-    early_reports: dict[ActionKey, tuple[EarlyReason, str]] = dataclasses.field(default_factory=dict)
+    early_reports: dict[ActionKey, tuple[EarlyReason, str]] = dataclasses.field(
+        default_factory=dict
+    )
     """The reports of steps that have not started: their kinds, and their texts as stored."""
     may_cancel_work: bool = False
     """See `SagaInstance.may_cancel_work`."""

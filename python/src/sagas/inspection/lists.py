@@ -327,7 +327,9 @@ def chain_of(names: list[str], end: str | None) -> list[str]:
     return [names[step] for step in answer.get("chain", ())]
 
 
-def stuck_results(kind_of: Callable[[str], CompiledDefinition], limit: int) -> Question[list[SagaResult]]:
+def stuck_results(
+    kind_of: Callable[[str], CompiledDefinition], limit: int
+) -> Question[list[SagaResult]]:
     """Return the full results of the unresolved stuck sagas, the oldest first."""
     rows = yield Query(
         f"""

@@ -235,7 +235,9 @@ class Calls:
 
         It is not called if it was forgotten, or if its shard may belong to another program.
         """
-        if private_descriptors.forks != self._forks:  # a forked child process returned from a function
+        if (
+            private_descriptors.forks != self._forks
+        ):  # a forked child process returned from a function
             os._exit(FORKED)
         if attempt.state is RUNNING and self._store.holds():
             if self._called is not None:
@@ -321,7 +323,9 @@ class Calls:
             gate.leave(attempt)
 
     def _check_fork(self) -> None:
-        if private_descriptors.forks != self._forks:  # a forked child process returned from the function
+        if (
+            private_descriptors.forks != self._forks
+        ):  # a forked child process returned from the function
             os._exit(FORKED)
 
     # -- cancellation and progress

@@ -64,7 +64,9 @@ class ChildEnd(NamedTuple):
 class SagaOperations(Protocol):
     """Starts, finds and aborts sagas by their keys, on any node."""
 
-    async def start(self, saga: Saga | CompiledDefinition, key: str, input: Any, options: StartOptions) -> bool:
+    async def start(
+        self, saga: Saga | CompiledDefinition, key: str, input: Any, options: StartOptions
+    ) -> bool:
         """Start a saga; return False if the key is used.
 
         A store that accepts no new sagas starts it too.

@@ -124,7 +124,11 @@ class StartReader:
         """
         if not self._doubt.settle():
             return None
-        start_ids = [saga.client_start for saga in self._sagas.by_key.values() if saga.client_start is not None]
+        start_ids = [
+            saga.client_start
+            for saga in self._sagas.by_key.values()
+            if saga.client_start is not None
+        ]
         return [*start_ids, *self._fitted]
 
     def _left_now(self) -> list[int]:

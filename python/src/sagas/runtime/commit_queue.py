@@ -85,7 +85,11 @@ class CommitQueue:
     """Writes batches in the order of their arrival, one transaction at a time."""
 
     def __init__(
-        self, store: CommitWriter, load: CommitLoad, teller: EventEmitter, loop: asyncio.AbstractEventLoop
+        self,
+        store: CommitWriter,
+        load: CommitLoad,
+        teller: EventEmitter,
+        loop: asyncio.AbstractEventLoop,
     ) -> None:
         self._store, self._load, self._teller, self._loop = store, load, teller, loop
         self._policy = GroupCommitPolicy()

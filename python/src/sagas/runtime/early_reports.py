@@ -46,7 +46,11 @@ class EarlyReports:
     def waiting(self, saga: SagaInstance, word: ActionKey) -> asyncio.Future[None] | None:
         """Return the future of a report of this step that is being stored, or None."""
         for report, future in self._waiting.items():
-            if isinstance(report, EarlyReport) and report.saga is saga and report.action_key == word:
+            if (
+                isinstance(report, EarlyReport)
+                and report.saga is saga
+                and report.action_key == word
+            ):
                 return future
         return None
 

@@ -38,7 +38,9 @@ class Instances:
         self._empty = asyncio.Event()
         self._left: SagasError | None = None  # why open sagas are not executed any more
 
-    def add(self, key: str, text: str, kind: CompiledDefinition, options: StartOptions) -> SagaInstance:
+    def add(
+        self, key: str, text: str, kind: CompiledDefinition, options: StartOptions
+    ) -> SagaInstance:
         """Add a saga, which has its key from now on.
 
         Its index in the definitions is set when it is assigned to a shard.

@@ -55,7 +55,9 @@ class CommandExecutor(Protocol):
 class ReportCompensator(Protocol):
     """Has unused reports compensated."""
 
-    async def compensate(self, key: str, step: str, request: RequestRef, of: int | None = None) -> None:
+    async def compensate(
+        self, key: str, step: str, request: RequestRef, of: int | None = None
+    ) -> None:
         """See `Store.compensate`."""
 
 

@@ -49,7 +49,9 @@ class ShardsForRunner(Protocol):
         These sagas are in another shard, or have ended in this one.
         """
 
-    def reopen(self, driver: ShardDriver, rows: LoadedShard | None, fault: BaseException | None) -> None:
+    def reopen(
+        self, driver: ShardDriver, rows: LoadedShard | None, fault: BaseException | None
+    ) -> None:
         """Open sagas again whose start in a shard was not stored, or refuse them."""
 
     def changed(self, runner: ShardRunner) -> None:

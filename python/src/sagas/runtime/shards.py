@@ -312,7 +312,9 @@ class Shards:
         """Withdraw unconfirmed starts whose keys other sagas have."""
         await self._relocation.find_elsewhere(driver, rows)
 
-    def reopen(self, driver: ShardDriver, rows: LoadedShard | None, fault: BaseException | None) -> None:
+    def reopen(
+        self, driver: ShardDriver, rows: LoadedShard | None, fault: BaseException | None
+    ) -> None:
         """Open sagas again whose start in a shard was not stored.
 
         If that failed, or the shard could not be read, refuse them. A server may still receive a

@@ -93,7 +93,9 @@ class Record:
     def lost(self) -> ShardLost | None:
         """Return the error of an unknown commit, or None if the outcome is known."""
         return (
-            ShardLost(f"{self.location}: it is unknown whether {self.attempt.token()} was committed")
+            ShardLost(
+                f"{self.location}: it is unknown whether {self.attempt.token()} was committed"
+            )
             if self.was_sent and not self.done
             else None
         )

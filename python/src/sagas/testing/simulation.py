@@ -395,7 +395,9 @@ class Simulation:
     def _trial(self, engine: Engine) -> Trial:
         reply = json.loads(engine.ask([protocol.show_line(0)])[0])
         names, answer = self._kind.names, self._saga.answer or {}
-        committed = [n for n, state in enumerate(reply["states"]) if step_state(state) in EFFECT_STATES]
+        committed = [
+            n for n, state in enumerate(reply["states"]) if step_state(state) in EFFECT_STATES
+        ]
         return Trial(
             phase=saga_phase(reply["phase"], answer.get("kind") == "plan", None).value,
             states={name: step_state(text).value for name, text in zip(names, reply["states"])},

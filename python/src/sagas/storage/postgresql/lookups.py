@@ -72,7 +72,9 @@ class Lookups:
             self._is_looking = False
 
     def _resolve(
-        self, futures: dict[int, list[asyncio.Future[StoredSaga | None]]], known: dict[int, StoredSaga]
+        self,
+        futures: dict[int, list[asyncio.Future[StoredSaga | None]]],
+        known: dict[int, StoredSaga],
     ) -> None:
         for id, waiting in futures.items():
             for future in waiting:
@@ -104,7 +106,9 @@ class Lookups:
                 results[id].append((step, action, attempt, event, value, at))
         await self._fetch({digest for digest, _ in digests_and_shapes.values()})
         return {
-            id: StoredSaga(self._texts[digest], sorted(results[id], key=lambda row: row[:3]), [], shape)
+            id: StoredSaga(
+                self._texts[digest], sorted(results[id], key=lambda row: row[:3]), [], shape
+            )
             for id, (digest, shape) in digests_and_shapes.items()
         }
 

@@ -129,7 +129,9 @@ class Sqlite(queries.Questions, queries.Rows):
         completed = self.completed_children()
         for row in rows:
             below = completed.get(row.shard, [])
-            missing = check_functions(row.texts, self.places(row.shard), below) if row.open else None
+            missing = (
+                check_functions(row.texts, self.places(row.shard), below) if row.open else None
+            )
             if missing:
                 count = sum(row.open for row in rows)
                 hint = (
