@@ -5,6 +5,7 @@ from __future__ import annotations
 import ast
 import re
 
+import message_pages
 import package_map
 
 FOLDER = package_map.TOP / "docs/dev/architecture"
@@ -52,6 +53,13 @@ def test_the_map_is_the_tree() -> None:
     for name in package_map.PAGES:
         written = (FOLDER / name).read_text(encoding="utf-8")
         assert written == package_map.page(name), "run python3 python/tests/package_map.py"
+
+
+def test_the_pages_of_messages_are_those_of_the_source() -> None:
+    """Each message has its line, and no line is of a message that was removed."""
+    for name, text in message_pages.pages().items():
+        written = (message_pages.PAGES / name).read_text(encoding="utf-8")
+        assert written == text, "run python3 python/tests/message_pages.py"
 
 
 def test_each_layer_is_in_a_page() -> None:

@@ -126,7 +126,7 @@ def test_a_copy_deletes_nothing_of_the_original(
     assert len(values_in(folder)) == 6
     run(again())
     done = command("store", other, "own-blobs", "--blobs", str(folder))
-    assert done.returncode == 0 and "are those of" in done.stdout, done
+    assert done.returncode == 0 and "owns the values in" in done.stdout, done
     run(replaced())
     assert "No value is deleted" in caplog.text and LARGE not in caplog.text
 

@@ -83,7 +83,7 @@ def late(broker: Broker, location: str, monkeypatch: pytest.MonkeyPatch) -> Late
     """Return a late report over each database; the program is not notified of reports."""
     monkeypatch.setattr("sagas.runtime.external_queue.LOOK", 3600.0)
     monkeypatch.setattr("sagas.runtime.external_queue.LOOK_AT_FILE", 3600.0)
-    monkeypatch.setattr("sagas.storage.postgresql.worker_session.TELL", "SELECT 1")
+    monkeypatch.setattr("sagas.storage.postgresql.worker_session.NOTIFY_REPORTED", "SELECT 1")
     return Late(broker, location)
 
 

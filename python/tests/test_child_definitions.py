@@ -513,7 +513,7 @@ def test_workers_undo_a_child(
             assert leased.idempotency_key == task.task.idempotency_key.replace("-run", "-undo")
             # as a `Worker` gets it
             received = worker_task.task_of(json_views.task(undo, one.now()), Context())
-            assert worker_task.word_of(received) == "leaf/room/undo" and (
+            assert worker_task.step_name(received) == "leaf/room/undo" and (
                 received.result,
                 received.key,
             ) == (

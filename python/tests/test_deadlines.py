@@ -59,7 +59,7 @@ def test_a_saga_that_is_over_is_not_kept_for_its_deadline(
 
     Open sagas are aborted in time.
     """
-    monkeypatch.setattr(deadlines, "MOST", 4, raising=False)
+    monkeypatch.setattr(deadlines, "MAX_ENTRIES", 4, raising=False)
     kind, clock = slow(deadline=datetime.timedelta(days=1)), Clock()
 
     def count() -> int:

@@ -547,7 +547,7 @@ def test_in_a_simulation() -> None:
         ...
 
     fails: dict[str, Any] = {"fail": {"send": 12}, "fail_undo": {"charge": 1}}
-    with pytest.raises(LookupError, match="the compensation of step 'charge' failed, its attempts"):
+    with pytest.raises(LookupError, match="the compensation of step 'charge' has used up"):
         sagas.testing.run(saga, **fails)
     trial = sagas.testing.run(saga, **fails, answers={"charge": None})
     assert trial.states == {"charge": "undone", "send": "failed"}

@@ -286,7 +286,7 @@ def test_a_lost_reply_is_resolved_by_its_own_gate(
     """The reply for a key is lost, and other keys come in the meantime: a later report of it
     releases no slot of the key's next call.
     """
-    monkeypatch.setattr(fleet_limits, "MOST_GATES", 1)
+    monkeypatch.setattr(fleet_limits, "MAX_GATES", 1)
     monkeypatch.setattr(fleet_limits, "LOOK", 0.05)
     monkeypatch.setattr(fleet_limits, "DOUBT", 1.0)
     takes: list[tuple[str, int]] = []

@@ -259,7 +259,7 @@ def test_records_that_cannot_be(
     ("text", "edges_of"),
     [
         (None, "No such file or directory. Pass the file of a record"),
-        ("sagas-record 1 a\nwhat\n", "line 2: it is no event. Name a file that a program wrote"),
+        ("sagas-record 1 a\nwhat\n", "line 2: it is no event. Pass a file that a program wrote"),
         ("sagas-record 2 a\n", "line 1: its format is not 1"),
     ],
 )
@@ -296,7 +296,7 @@ def test_a_file_has_no_record(tmp_path: pathlib.Path, capsys: pytest.CaptureFixt
         )
         == 2
     )
-    assert "--record needs a postgresql:// URL" in capsys.readouterr().err
+    assert "--record requires a postgresql:// URL" in capsys.readouterr().err
 
 
 def test_a_folder_that_cannot_be_written(

@@ -124,7 +124,7 @@ def test_all_that_are_wanted_go_together(url: str, logs: list[int]) -> None:
             assert (
                 unborn == LoadedShard("", 0, 0, [], [], [], 8, line, 1)
                 and there
-                and there.line == line
+                and there.timeline == line
             )
 
     run(main())

@@ -188,7 +188,7 @@ def test_times_that_were_missed(
     location: str, catch_up: str, monkeypatch: pytest.MonkeyPatch
 ) -> None:
     """No program ran for two days; a paused schedule misses nothing; a changed one is new."""
-    monkeypatch.setattr(scheduler, "MOST", 3)
+    monkeypatch.setattr(scheduler, "MAX_STARTS", 3)
     clock = Clock()
 
     async def main() -> None:
@@ -263,7 +263,7 @@ def test_a_time_zone_that_this_system_does_not_have(
     """Its schedule is left to other nodes, which is logged; all others continue, and so does it
     once its zone exists.
     """
-    monkeypatch.setattr(scheduler, "MOST_PAUSE", 0.1)
+    monkeypatch.setattr(scheduler, "MAX_PAUSE", 0.1)
     clock, kind, details = Clock(), nightly(), list[str | None]()
 
     def zone(name: str) -> None:

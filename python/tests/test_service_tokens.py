@@ -571,7 +571,7 @@ def test_a_file_that_was_unreadable_once(
     gone, stays = (token(tmp_path, name, "operator") for name in ("gone", "stays"))
     file, warnings = tmp_path / "tokens.toml", list[str]()
     tokens = auth.Tokens(file, warnings.append)
-    monkeypatch.setattr(auth, "LOOK", -1.0)  # each request is a look
+    monkeypatch.setattr(auth, "RELOAD_INTERVAL", -1.0)  # each request is a look
     file.write_text("[[token]]" + file.read_text().rpartition("[[token]]")[2])
     soft, hard = resource.getrlimit(resource.RLIMIT_NOFILE)
     resource.setrlimit(resource.RLIMIT_NOFILE, (0, hard))  # it can be looked at, and not be opened

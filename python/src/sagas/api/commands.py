@@ -186,8 +186,8 @@ class Commands:
     async def _report_here(self, attempt: Attempt, outcome: Outcome, request: RequestRef) -> None:
         """Report an attempt that is in progress here.
 
-        Raises `SagaMoved` if it has ended, or is not here any more. The reply never relies on a state
-        that may not be stored.
+        Raises `SagaMoved` if it has ended, or is not here any more. The reply never relies on a
+        state that may not be stored.
         """
         coordinator, key, step = self._access.coordinator, attempt.instance.key, attempt.name
         is_checked = not child_reports.is_of_child(attempt, outcome)

@@ -378,7 +378,9 @@ class Sqlite(queries.Questions, queries.Rows):
             self.rows(query, *within)
             for query in (queries.OPEN_SAGAS, queries.OPEN_RESULTS, queries.OPEN_HELD)
         )
-        loaded = LoadedShard(text, events, opened, open, results, held, epoch)  # type: ignore[arg-type]
+        loaded = LoadedShard(
+            text, events, opened, open, results, held, epoch  # type: ignore[arg-type]
+        )
         loaded.definition_count = self.rows(queries.DEFINITIONS, shard)[0][0]
         loaded.damage = queries.damage_of(text, events)
         return loaded
