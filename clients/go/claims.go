@@ -160,7 +160,7 @@ func (r *run) add(found claimed) {
 	r.mu.Lock()
 	for _, one := range found.Tasks {
 		if r.w.steps[one.Name] == nil {
-			continue // nobody asked for it
+			continue // it was not requested
 		}
 		begin := now.Add(time.Duration(one.Seconds / 2 * float64(time.Second)))
 		r.queue = append(r.queue, &held{leased: one, claimed: now, begin: begin})

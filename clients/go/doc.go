@@ -16,7 +16,7 @@
 //	car, err := sagas.Result[Car](saga, "car")
 //
 // A worker performs steps. A returned nil error means that the effect happened, Fail and Retry that
-// there was none. Any other error, a panic included, means that nobody knows:
+// there was none. Any other error, a panic included, means that the outcome is unknown:
 //
 //	worker, err := sagas.NewWorker("http://127.0.0.1:8080", sagas.WithToken("sagas_..."))
 //	if err != nil {

@@ -49,7 +49,7 @@ type Event struct {
 type EventFilter struct {
 	Key        string
 	Definition string
-	// After goes on behind this Event.ID (default: from now on).
+	// After continues after this Event.ID (default: from now on).
 	After string
 }
 
@@ -65,7 +65,7 @@ type EventFilter struct {
 //	}
 //	return events.Err()
 //
-// If the connection breaks, the stream goes on behind the last event, for as long as the context
+// If the connection breaks, the stream continues after the last event, for as long as the context
 // lasts. If events were lost, one named Missed says so.
 func (c *Client) Events(ctx context.Context, filter EventFilter) (*EventStream, error) {
 	query := url.Values{}
@@ -146,7 +146,7 @@ func (s *EventStream) connect(most time.Duration) error {
 	}
 }
 
-// open asks a service for the stream, and reads what comes first: the ID behind which it goes on if
+// open asks a service for the stream, and reads what comes first: the ID after which it continues if
 // the connection breaks.
 func (s *EventStream) open(service string, most time.Duration) (err error) {
 	header := http.Header{"Accept": {"text/event-stream"}}
@@ -236,7 +236,7 @@ func (s *EventStream) block() (*Event, error) {
 	for {
 		line, err := s.lines.ReadString('\n')
 		if err != nil {
-			return nil, err // what was not told to its end is told again
+			return nil, err // an incomplete event is sent again
 		}
 		line = strings.TrimRight(line, "\r\n")
 		if line == "" {

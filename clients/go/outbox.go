@@ -60,7 +60,7 @@ func (r *run) within() (context.Context, context.CancelFunc) {
 	return r.reported, func() {}
 }
 
-// reportTimeout is for one attempt of a report: if one service does not answer, another one hears of
+// reportTimeout is for one attempt of a report: if one service does not answer, another one gets
 // the outcome within the lease. An attempt that takes it leaves more to the next one, so that a slow
 // upload gets through in the end.
 func (r *run) reportTimeout() time.Duration {

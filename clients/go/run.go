@@ -72,7 +72,7 @@ func (r *run) run() error {
 	go r.lookAhead()
 	go r.claimTasks()
 	<-r.claims.Done()
-	// An answer with tasks may be on its way: if nobody read it, they would be held until their
+	// An answer with tasks may be on its way: if it were not read, they would be held until their
 	// leases expire.
 	defer time.AfterFunc(r.w.wait+r.grace, r.hangUp).Stop()
 	over := make(chan struct{})
@@ -154,7 +154,7 @@ func (r *run) do(ctx context.Context, it *call, one *held) {
 	it.cancel()
 	told.AttemptID, told.Lease = one.AttemptID, one.Lease
 	r.mu.Lock()
-	if r.running[it] == nil { // nobody waits for it
+	if r.running[it] == nil { // no caller waits for it
 		r.mu.Unlock()
 		return
 	}

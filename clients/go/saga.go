@@ -30,7 +30,7 @@ type Saga struct {
 	Phase      Phase  `json:"phase"`
 	// Over is true if the saga is not open.
 	Over bool `json:"over"`
-	// Aborted is true if somebody aborted the saga.
+	// Aborted is true if the saga was aborted.
 	Aborted bool `json:"aborted"`
 	// Started is when the saga was started.
 	Started time.Time `json:"started_at"`

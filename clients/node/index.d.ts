@@ -203,7 +203,7 @@ export class Run<D extends Definitions<D> = AnyDefinitions, S extends Name<D> = 
   abort(options?: AbortOptions): Promise<boolean>;
 }
 
-/** A stream of events, to loop over. Once it is open, it goes on behind the last event after each interruption. */
+/** A stream of events, to loop over. Once it is open, it continues after the last event when it was interrupted. */
 export interface EventStream extends AsyncIterable<SagaEvent> {
   /** The id of the last event, or of the moment of the opening. */
   readonly lastEventId: string | undefined;
@@ -347,13 +347,13 @@ export class InvalidArgument extends SagasError {}
 export class Unreachable extends SagasError {}
 /** The codec or the blob store that you passed cannot read a value of the service. */
 export class CannotDecode extends SagasError {}
-/** The saga was not over in time. It goes on. */
+/** The saga was not over in time. It continues. */
 export class WaitTimeout extends SagasError {}
 /** Throw it in a function that had no effect, if retries are useless. */
 export class Fail extends SagasError {}
 /** Throw it in a function that had no effect, if another attempt may help. */
 export class Retry extends SagasError {}
-/** Throw it in a function if nobody knows whether it had an effect. Other errors mean the same. */
+/** Throw it in a function if the outcome is unknown. Other errors mean the same. */
 export class Unknown extends SagasError {}
 /** The reason of a task's signal: the saga is to be undone. */
 export class Aborted extends SagasError {}

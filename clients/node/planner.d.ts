@@ -19,7 +19,7 @@ export type Text = string | Uint8Array;
 export interface Planner {
   /** A plan of least cost for a saga in this state, with its certificate. */
   plan(definition: Text, sagaCase: Text): Answer;
-  /** Verifies an answer, whoever made it. */
+  /** Verifies an answer of any planner. */
   check(definition: Text, sagaCase: Text, answer: Text): Answer;
   /** Audits a log over its definitions, in their order. */
   audit(log: Text, ...definitions: Text[]): Answer;

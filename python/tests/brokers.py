@@ -76,7 +76,7 @@ class Program:
             in_time = self._change.wait_for(is_there, seconds)
         if not in_time or sum(bool(expression.search(line)) for line in self._lines) < count:
             raise TimeoutError(
-                f"{self.log}: {pattern!r} is not there: {''.join(self._lines[-20:])}"
+                f"{self.log}: no line matches {pattern!r}: {''.join(self._lines[-20:])}"
             )
 
     def has_printed(self, pattern: str) -> bool:

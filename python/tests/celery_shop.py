@@ -328,11 +328,11 @@ def shop_in(broker: Broker, folder: pathlib.Path, store: str | None = None, **mo
 
 
 if SETTINGS in os.environ:
-    words = json.loads(os.environ[SETTINGS])
-    if wrong := words.pop("wrong", None):
+    settings = json.loads(os.environ[SETTINGS])
+    if wrong := settings.pop("wrong", None):
         importlib.import_module(f"wrong_workers.{wrong}").apply()
-    lacks = words.pop("lacks", None)
-    shop = Shop(**words)
+    lacks = settings.pop("lacks", None)
+    shop = Shop(**settings)
     if lacks:
         shop.app.tasks.pop(lacks)
     app = shop.app

@@ -278,7 +278,7 @@ class World:
             reported = attempt.state is FINISHED and attempt in driver.reports
             runs = attempt.state is RUNNING and attempt in self.running
             if not (reported or runs or attempt.state is SUSPENDED):
-                raise Wrong(f"nobody goes on with {attempt.row}, which is {attempt.state}")
+                raise Wrong(f"no transition continues {attempt.row}, which is {attempt.state}")
         for number, saga in driver.sagas.items():
             state = self.store.follower.sagas[number]
             committed = {
@@ -473,7 +473,7 @@ class World:
             self._drain(saga)
         for saga in effects.opened:
             if saga.is_overdue(effects.batch.at) and not saga.aborted:
-                raise Wrong(f"{saga.key} goes on behind its deadline")
+                raise Wrong(f"{saga.key} continues after its deadline")
         for abort in effects.rare.aborted:
             if abort.done:
                 self._drain(abort.saga)
@@ -521,7 +521,7 @@ class World:
                 raise Wrong(f"{attempt.row} is given {value} of {name}")
         action = saga.id, attempt.step, attempt.kind
         if action in self.store.finals:
-            raise Wrong(f"{attempt.row} is called behind a permanent failure")
+            raise Wrong(f"{attempt.row} is called after a permanent failure")
         missed = self.store.missed.get(action)
         if attempt.attempt > 1 and missed is not None and not saga.draining and attempt.is_uncalled:
             if self.now < missed + attempt.manner.backoff.after(attempt.attempt - 1) - 1e-6:

@@ -29,8 +29,8 @@ from judge import Verdict
 
 Json = dict[str, Any]
 FAULTS = stores.FAULTS | {
-    "aborted-twice": "two callers were each told that they aborted one saga",
-    "blob-lost": "a row refers to a blob that is not there",
+    "aborted-twice": "two callers each got the reply that they aborted one saga",
+    "blob-lost": "a row refers to a missing blob",
     "child": "a child does not agree with its parent, or a child of an undone step is not undone",
     "context": "a function got a context that its program had not entered, or had left",
     "deadline": "a step began long after the deadline, or the saga completed then",
@@ -42,7 +42,7 @@ FAULTS = stores.FAULTS | {
     "order": "a step began before one that it needs, or was undone before one that needs it",
     "plain": "a store with a codec has an input that can be read",
     "schedule": "a time of a schedule has no saga, or two",
-    "webhook-lost": "no webhook was told of an end",
+    "webhook-lost": "no webhook got an end",
     "wrong-compensation": "a function of another definition was called, or of another step",
 }
 LATE = 3.0
@@ -414,7 +414,7 @@ class FeatureJudge(stores.Judge):
             if event["event"] == "start_run":
                 step = one.steps[event["step"]]
                 late = at - one.deadline
-                self.verdict.fault("deadline", f"{one.key} {step} began {late:.1f} s behind it")
+                self.verdict.fault("deadline", f"{one.key} {step} began {late:.1f} s after it")
         self.verdict.figures["overdue"] += bool(one.end and one.end["aborted"])
 
     def _limits(self) -> None:

@@ -231,7 +231,7 @@ class Shop:
         return result_of(task.key, task.step)
 
     def _fails_at_first(self, task: Any, kind: str) -> None:
-        """Return whether this call fails; calls fail only before the first one that has
+        """Fail this call if that is drawn; calls fail only before the first one that has
         an effect.
         """
         path = pathlib.Path(self.settings.folder, "fails", task.idempotency_key)

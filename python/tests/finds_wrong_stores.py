@@ -31,7 +31,7 @@ def test_a_mutant_is_detected(postgresql: Server, name: str) -> None:
     module = importlib.import_module(f"wrong_stores.{name}")
     if not hasattr(module, "STRIKES"):
         pytest.skip(
-            "no strike shows it: the judge cannot tell a node that lives from one that was struck,"
+            "no strike shows it: the verifier cannot distinguish a live node from a struck one,"
             " or the moment is too short"
         )
     faults: set[str] = set()

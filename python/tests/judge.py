@@ -28,18 +28,15 @@ FAULTS = {
     "gap": "a chunk of a log does not begin where the one before ends",
     "audit": "the program does not accept a log, or counts other sagas in it than the database has",
     "illegal": "the rules do not allow a log",
-    "keys": "there are other keys than were asked for, or a saga of the database is not in its log",
-    "lost": "something was told, and the database does not have it",
-    "told-early": "something was told, and at that moment the database did not have it",
-    "told-otherwise": "an end was told that is not the one that is kept, or two ends of one saga",
-    "begun-early": "a function was called, and at that moment its begin was not kept",
+    "keys": "keys differ from the requested ones, or a saga of the database is not in its log",
+    "lost": "the program got a reply, and the database does not have its content",
+    "told-early": "the program got a reply before the database had its content",
+    "told-otherwise": "the program got an end that is not the stored one, or two ends of a saga",
+    "begun-early": "a function was called before its start was stored",
     "not-over": "a saga is neither ended nor stuck",
     "end": "the end of a saga in the database is not the one of its log",
     "results": "the results in the database are not those of the log's events",
-    "not-called": (
-        "a failure is kept that a function is to have told, and the witness saw no call of that"
-        " attempt"
-    ),
+    "not-called": "a failure of a function is stored, and the witness saw no call of that attempt",
     "tokens": (
         "an attempt with two tokens, a token of two attempts, or one that is not made from its log,"
         " saga, step and attempt"
@@ -49,13 +46,11 @@ FAULTS = {
         " attempt"
     ),
     "wrong-attempt": "an effect under the token of an attempt that did not commit",
-    "effect-lost": "an action had an effect, and its step neither stands nor was undone",
+    "effect-lost": "an action had an effect, and its step was neither kept nor undone",
     "undone-twice": "a compensation had effects under two tokens",
     "wrong-action": "a compensation was of another action than the one that was done",
-    "input": "a function was handed the input of another saga",
-    "handed": (
-        "a function was handed a result that its step did not give, or an end has such a result"
-    ),
+    "input": "a function got the input of another saga",
+    "handed": "a function got a result that its step did not return, or an end has such a result",
 }
 
 

@@ -177,12 +177,12 @@ class Round:
             if row is None or row.phase is None:
                 safe = [note for note in ends[key] if note["at"] > last.done + MARGIN] or before
                 self.faults += (
-                    [f"{key} was told, and is {'open' if row else 'gone'}"] if safe else []
+                    [f"{key} was acknowledged, and is {'open' if row else 'gone'}"] if safe else []
                 )
             if before and any(note["at"] > last.done + MARGIN for note in calls[key]):
                 self.faults.append(f"{key} had ended before the backup, and was called again")
             if len({note["phase"] for note in ends[key]}) > 1:
-                self.faults.append(f"{key} was told to have ended in two ways")
+                self.faults.append(f"{key} got two different ends")
             self.again += len([note for note in calls[key] if note["step"] == "a"]) > 1
         for log in rows.logs.values():
             events = 0
@@ -222,7 +222,7 @@ def play(seed: int, count: int, restores: int, server: Server) -> Round:
             thread.join(LONG)
     played.kills = sum(program.kills for program in programs)
     played.faults += [
-        f"node {program.command[-2]} was not told of all"
+        f"node {program.command[-2]} did not get all results"
         for program in programs
         if not program.over
     ]

@@ -138,15 +138,15 @@ class Checker:
             yield from self.faults(value, part, where)
         elif of.word in KINDS:
             if not isinstance(value, KINDS[of.word]):
-                yield f"{where}: it is no {of.word}"
+                yield f"{where}: it is not a {of.word}"
         elif of.word == "list":
             if not isinstance(value, list):
-                yield f"{where}: it is no list"
+                yield f"{where}: it is not a list"
             for number, one in enumerate(value if isinstance(value, list) else ()):
                 yield from self.faults(one, of.parts[0], f"{where}/{number}")
         elif of.word == "map":
             if not isinstance(value, dict):
-                yield f"{where}: it is no map"
+                yield f"{where}: it is not a map"
             for name, one in value.items() if isinstance(value, dict) else ():
                 yield from self.faults(one, of.parts[0], f"{where}/{name}")
         elif of.word == "Schema":
@@ -156,7 +156,7 @@ class Checker:
 
     def _object(self, value: Any, rules: Rules, where: str) -> Iterator[str]:
         if not isinstance(value, dict):
-            yield f"{where}: it is no object"
+            yield f"{where}: it is not an object"
             return
         for name, one in rules.required.items():
             if one in ("", value.get("type")) and name not in value:
@@ -168,7 +168,7 @@ class Checker:
             if kind is not None:
                 yield from self.faults(one, kind, f"{where}/{name}")
             elif not name.startswith("x-") or name.startswith(("x-oai-", "x-oas-")):
-                yield f"{where}: there is no field {name}"
+                yield f"{where}: unknown field {name}"
 
 
 def schema_faults(schema: Any, where: str) -> Iterator[str]:
@@ -187,7 +187,7 @@ def keyword_faults(schema: Any, where: str) -> Iterator[str]:
     known = ANNOTATIONS | {*jsonschema.Draft202012Validator.VALIDATORS}
     for name in schema if isinstance(schema, dict) else ():
         if name not in known and not name.startswith("x-"):
-            yield f"{where}: there is no keyword {name}"
+            yield f"{where}: unknown keyword {name}"
     for one, location in subschemas(schema):
         yield from keyword_faults(one, f"{where}/{location}")
 

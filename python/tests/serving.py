@@ -286,7 +286,7 @@ def all_done(client: httpx.Client, *steps: str, failing: Sequence[str] = ()) -> 
 
 
 def stuck(client: httpx.Client, key: str) -> None:
-    """Return a saga that is stuck."""
+    """Make a saga that is stuck."""
     assert start(client, "licence", key).status_code == 201
     all_done(client, "licence/server", "licence/licence", failing=["licence/licence"])
     assert client.get(f"/v1/sagas/{key}/wait").json()["phase"] == "stuck"

@@ -40,11 +40,11 @@ def prose(document: Any) -> Iterator[str]:
     if len(tags) != len({*tags}):
         yield "tags: a name is there twice"
     if not re.fullmatch(r"3\.1\.\d+", document["openapi"]):
-        yield "openapi: it is no version of 3.1"
+        yield "openapi: it is not a version of 3.1"
     for kind in components:
         for name in components[kind]:
             if not re.fullmatch(r"[a-zA-Z0-9._-]+", name):
-                yield f"components/{kind}: {name} is no name"
+                yield f"components/{kind}: {name} is not a name"
     templates = [re.sub(r"{\w+}", "{}", path) for path in document["paths"]]
     if len(templates) != len({*templates}):
         yield "paths: two differ in the names of their parameters alone"
@@ -53,7 +53,7 @@ def prose(document: Any) -> Iterator[str]:
         for need in operation.get("security", document["security"]):
             for name in need:
                 if name not in components["securitySchemes"]:
-                    yield f"{location}: there is no security scheme {name}"
+                    yield f"{location}: unknown security scheme {name}"
         some = [contract.resolved(one) for one in operation.get("parameters", ())]
         names = [(one["name"], one["in"]) for one in some]
         if len(names) != len({*names}):
@@ -76,7 +76,7 @@ def prose(document: Any) -> Iterator[str]:
             if ("schema" in one) is ("content" in one) or ("example" in one and "examples" in one):
                 yield f"{location}: {one['name']} has both, or neither, of what excludes each other"
         if not operation["responses"]:
-            yield f"{location}: there is no response"
+            yield f"{location}: it has no response"
         for content in contents(operation):
             if "example" in content and "examples" in content:
                 yield f"{location}: example and examples exclude each other"
@@ -130,15 +130,15 @@ def test_the_official_validator_where_it_is_installed() -> None:
 
 
 WRONG: dict[str, tuple[str, Any, str]] = {
-    "a field that no object has": ("info/licence", "x", "/info: there is no field licence"),
-    "a field of another type": ("paths/~/get/tags", "sagas", "tags: it is no list"),
-    "a text that is none": ("info/title", 5, "/info/title: it is no string"),
-    "what must be there": ("components/securitySchemes/token/scheme", None, "scheme is missing"),
-    "a status that is none": ("paths/~/get/responses/2", {"description": ""}, "no field 2"),
-    "a keyword that is none": ("components/schemas/Saga/requierd", [], "no keyword requierd"),
-    "a schema that is none": ("components/schemas/Saga/type", "objekt", "objekt"),
-    "a path without a slash": ("paths/v1", {}, "/paths: there is no field v1"),
-    "a scheme that is not there": ("paths/~/get/security", [{"oauth": []}], "scheme oauth"),
+    "a field that no object has": ("info/licence", "x", "/info: unknown field licence"),
+    "a field of another type": ("paths/~/get/tags", "sagas", "tags: it is not a list"),
+    "a value that is not a text": ("info/title", 5, "/info/title: it is not a string"),
+    "a required field": ("components/securitySchemes/token/scheme", None, "scheme is missing"),
+    "an invalid status": ("paths/~/get/responses/2", {"description": ""}, "unknown field 2"),
+    "an unknown keyword": ("components/schemas/Saga/requierd", [], "unknown keyword requierd"),
+    "an invalid schema": ("components/schemas/Saga/type", "objekt", "objekt"),
+    "a path without a slash": ("paths/v1", {}, "/paths: unknown field v1"),
+    "a missing scheme": ("paths/~/get/security", [{"oauth": []}], "scheme oauth"),
     "a tag twice": ("tags", [{"name": "a"}, {"name": "a"}], "a name is there twice"),
     "an id twice": ("paths/~/get/operationId", "startSaga", "an operationId is there twice"),
     "a parameter of no path": (

@@ -78,7 +78,7 @@ def failures_of(drawn: list[StepDraw]) -> st.SearchStrategy[Failures]:
 
 
 def same_definition(drawn: list[StepDraw], saga: sagas.Saga) -> None:
-    """Return whether the package writes the definition that was drawn.
+    """Check that the package writes the definition that was drawn.
 
     If nothing can be undone, the tries of compensations do not count.
     """

@@ -336,7 +336,7 @@ def pieces(count: int, size: int) -> Iterator[bytes]:
 
 
 def is_refused(service: Served, path: str, content: Any) -> None:
-    """Return whether it is too long: 413, or the connection ends while it is sent."""
+    """Check that it is refused as too long: 413, or the connection ends while it is sent."""
     with service.client() as client, contextlib.suppress(httpx.TransportError):
         assert (
             client.post(

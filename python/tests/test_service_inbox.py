@@ -31,7 +31,7 @@ FILES = DEFINITIONS | {
 
 
 def closed_shop(folder: pathlib.Path) -> None:
-    """Return a saga in the store, of a definition that the service does not have."""
+    """Leave a saga in the store, of a definition that the service does not have."""
     shop = sagas.Saga("closed-shop")
 
     @shop.step

@@ -270,7 +270,7 @@ def test_a_token_of_some_keys(world: World) -> None:
 
 
 def listened(world: World, path: str, ready: threading.Barrier, events: list[str]) -> None:
-    """Return the events of a stream, until it has that of the abort of its own saga."""
+    """Collect the events of a stream, until it has that of the abort of its own saga."""
     client = world.service.client(world.tokens["of-trip"])
     with client, client.stream("GET", path) as stream:
         lines = stream.iter_lines()

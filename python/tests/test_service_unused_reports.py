@@ -44,7 +44,7 @@ def client(service: Served) -> Iterator[httpx.Client]:
 
 
 def unused(client: httpx.Client, definition: str, key: str) -> None:
-    """Return a saga that has ended without a payment that was reported."""
+    """Make a saga that has ended without a payment that was reported."""
     assert start(client, definition, key, {"n": 1}).status_code == 201
     (task,) = take(client, f"{definition}/reserve")
     early = client.post(f"/v1/sagas/{key}/steps/pay/complete", json={"result": {"euros": 40}})

@@ -93,7 +93,7 @@ def three(timeout: float | None = None) -> sagas.Saga:
 
 
 async def audited(store: sagas.Store) -> None:
-    """Return whether all of its logs are allowed."""
+    """Check that all of its logs are allowed."""
     assert all(verdict.startswith("yes") for verdict in (await store.audit()).values())
 
 

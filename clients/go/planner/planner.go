@@ -70,7 +70,7 @@ type Verdict struct {
 	Text string
 }
 
-// Check verifies an answer, whoever made it. Its errors are those of Plan.
+// Check verifies an answer of any planner. Its errors are those of Plan.
 func Check(definition, sagaCase, answer []byte) (Verdict, error) {
 	text, yes, err := call(func(buffer []byte, used *C.size_t) C.uint32_t {
 		return C.sagas_check(at(definition), size(definition), at(sagaCase), size(sagaCase), at(answer), size(answer),

@@ -57,7 +57,7 @@ export class Connection {
     return this.#urls.length;
   }
 
-  /** This one does not answer: the next one is asked, unless somebody has turned to it already. */
+  /** This one does not answer: the next one is asked, unless another request has switched already. */
   turnFrom(url) {
     if (this.#urls[0] === url) this.#urls.push(this.#urls.shift());
   }
@@ -95,7 +95,7 @@ export class Connection {
     });
   }
 
-  /** One request and its whole answer, at most so many seconds. A connection that was closed meanwhile is opened anew. */
+  /** One request and its whole answer, at most so many seconds. A connection that was closed in the meantime is opened again. */
   async ask(url, method, path, { body, seconds, signal, headers } = {}) {
     const limit = new AbortController();
     const timer = setTimeout(() => limit.abort(silence(seconds)), 1000 * seconds);

@@ -13,7 +13,7 @@ export class InvalidArgument extends SagasError {}
 /** No service answered in time. The request may have been carried out: repeat it with the same key. */
 export class Unreachable extends SagasError {}
 
-/** The saga was not over in time. It goes on. */
+/** The saga was not over in time. It continues. */
 export class WaitTimeout extends SagasError {}
 
 /** The codec or the blob store that you passed cannot read a value of the service. */
@@ -25,7 +25,7 @@ export class Fail extends SagasError {}
 /** Throw it in a function that had no effect, if another attempt may help. */
 export class Retry extends SagasError {}
 
-/** Throw it in a function if nobody knows whether it had an effect. Other errors mean the same. */
+/** Throw it in a function if the outcome is unknown. Other errors mean the same. */
 export class Unknown extends SagasError {}
 
 /** The reason of a task's signal: the saga is to be undone. */

@@ -1,4 +1,4 @@
-// The stream of events: an async iterator that goes on after each interruption behind the last event that it saw.
+// The stream of events: an async iterator that continues after each interruption with the event after the last one.
 
 import { FIRST_PAUSE, rest, spread } from "./connection.js";
 import { InvalidArgument, Unreachable, problemOf } from "./errors.js";
@@ -136,7 +136,7 @@ export class EventStream {
     await this.#connection.repeated((url, left) => this.#begun(url, Math.min(most, left)), { patience, signal: this.#signal });
   }
 
-  // Asks for it, and reads what comes first: the id behind which it goes on.
+  // Asks for it, and reads what comes first: the id after which it continues.
   async #begun(url, seconds) {
     const headers = { accept: "text/event-stream", ...(this.#last !== undefined && { "last-event-id": this.#last }) };
     const answer = await this.#connection.open(url, "GET", this.#path, { headers, signal: this.#signal, seconds });
@@ -163,7 +163,7 @@ export class EventStream {
         if (event !== undefined && data !== undefined) yield eventOf(event, this.#last, parse(data));
       }
     } catch (error) {
-      if (this.#signal.aborted) throw error; // else it is opened anew
+      if (this.#signal.aborted) throw error; // else it is opened again
     } finally {
       this.#blocks = null;
       blocks.close();

@@ -55,12 +55,12 @@ export class Task {
     this.#news = { progress: fraction, detail: detail === undefined ? null : shortened(detail, MOST_DETAIL) };
   }
 
-  /** What was reported of its progress, and no heartbeat has told yet. */
+  /** The progress that was reported, and that no heartbeat has sent yet. */
   get news() {
     return this.#news;
   }
 
-  /** A heartbeat has told this. */
+  /** A heartbeat has sent this. */
   told(news) {
     if (this.#news === news) this.#news = null;
   }

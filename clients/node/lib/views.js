@@ -5,48 +5,48 @@ const date = (seconds) => (seconds === null || seconds === undefined ? null : ne
 const planStep = ({ step, found, cost_to_keep, cost_to_drop, decision }) =>
   ({ step, found, costToKeep: cost_to_keep, costToDrop: cost_to_drop, decision });
 
-const planOf = (told) =>
-  told && { cost: told.cost, blockingSteps: told.blocking_steps, steps: told.steps.map(planStep) };
+const planOf = (body) =>
+  body && { cost: body.cost, blockingSteps: body.blocking_steps, steps: body.steps.map(planStep) };
 
 const waitOf = ({ since, until, said, ...rest }) =>
   ({ ...rest, since: date(since), until: date(until), detail: said });
 
 /** A saga with its steps. */
-export const sagaOf = (told) => ({
-  key: told.key,
-  definition: told.definition,
-  phase: told.phase,
-  over: told.over,
-  started: date(told.started),
-  ended: date(told.ended),
-  deadline: date(told.deadline),
-  aborted: told.aborted,
-  note: told.note,
-  labels: told.labels,
-  input: told.input,
-  states: told.states,
-  results: told.results,
-  errors: told.errors,
-  plan: planOf(told.plan),
-  waits: told.waits.map(waitOf),
-  progress: told.progress,
+export const sagaOf = (body) => ({
+  key: body.key,
+  definition: body.definition,
+  phase: body.phase,
+  over: body.over,
+  started: date(body.started),
+  ended: date(body.ended),
+  deadline: date(body.deadline),
+  aborted: body.aborted,
+  note: body.note,
+  labels: body.labels,
+  input: body.input,
+  states: body.states,
+  results: body.results,
+  errors: body.errors,
+  plan: planOf(body.plan),
+  waits: body.waits.map(waitOf),
+  progress: body.progress,
 });
 
 /** A saga of a list. */
-export const summaryOf = (told) => ({
-  key: told.key,
-  definition: told.definition,
-  phase: told.phase,
-  started: date(told.started),
-  ended: date(told.ended),
-  deadline: date(told.deadline),
-  undoFailed: told.undo_failed,
-  labels: told.labels,
-  note: told.note,
+export const summaryOf = (body) => ({
+  key: body.key,
+  definition: body.definition,
+  phase: body.phase,
+  started: date(body.started),
+  ended: date(body.ended),
+  deadline: date(body.deadline),
+  undoFailed: body.undo_failed,
+  labels: body.labels,
+  note: body.note,
 });
 
 /** An event of the stream. */
-export const eventOf = (name, id, told) => {
-  const { at, name: _, saga, ...rest } = told;
+export const eventOf = (name, id, body) => {
+  const { at, name: _, saga, ...rest } = body;
   return { name, id, at: date(at), definition: saga, ...rest };
 };

@@ -49,7 +49,7 @@ export class Worker {
   #alarm;
   #fault = null;
   #ended = null; // resolves what `run` waits for
-  #unknown = new Set(); // steps of which was told that nobody has them
+  #unknown = new Set(); // steps that were logged as unknown
 
   constructor(url, { token, concurrency = 10, lease = 30, wait = 20, name, logger = console } = {}) {
     this.concurrency = whole("concurrency", concurrency, 1, 1000);
@@ -226,7 +226,7 @@ export class Worker {
   }
 
   async #outcome(task) {
-    let pause = FIRST_PAUSE; // behind a heartbeat that nobody heard
+    let pause = FIRST_PAUSE; // after a heartbeat without a response
     const beat = async () => {
       const isHeard = await this.#renew(task, this.lease);
       if (!timer) return; // it has ended

@@ -102,7 +102,7 @@ test("the opening ends where no service is", { timeout: 60_000 }, async () => {
   client.close();
 });
 
-test("a stream that ends is opened anew behind a pause, also for longer than a call is repeated", { timeout: 60_000 }, async (t) => {
+test("a stream that ends is opened again after a pause, also for longer than a call is repeated", { timeout: 60_000 }, async (t) => {
   const busy = (answer) => answer.writeHead(503).end();
   const { url, requests } = await answering(t, ...Array(4).fill(ends("id: b-1\n\n")), ...Array(6).fill(busy), streams(ENDED));
   const client = new Client(url, { timeout: 3 });

@@ -1,4 +1,4 @@
-// The outcome of a function that throws what no text can be made of: it is unknown, and the worker goes on.
+// A function throws a value without a text: its outcome is unknown, and the worker continues.
 
 import assert from "node:assert/strict";
 import { test } from "node:test";

@@ -59,7 +59,7 @@ for (const [what, options, value] of [
   ["a codec that fails", { codec: { decode() { throw new TypeError("s3cret"); } } }, coded("1")],
   ["a codec that gives no JSON", { codec: { decode: () => Buffer.from("s3cret") } }, coded("1")],
 ]) {
-  test(`${what} is told without the value`, async () => {
+  test(`${what} is reported without the value`, async () => {
     await assert.rejects(read(options, { a: value }), (error) => error instanceof CannotDecode && !/s3cr/.test(error.message));
   });
 }

@@ -9,7 +9,7 @@ STRIKES = "child"
 
 
 def apply() -> None:
-    """Return yes."""
+    """Accept each abort, and drop it."""
 
     async def abort(self: Store, key: str) -> bool:
         return True
