@@ -14,7 +14,7 @@ from test_command import Shell
 
 import sagas
 import sagas.testing
-from sagas.api import worker_task
+from sagas.api import worker
 from sagas.cli import backlog
 from sagas.definition import definition_text, listed_steps, undo_sagas, undo_text
 from sagas.definition.context import Context
@@ -512,8 +512,8 @@ def test_workers_undo_a_child(
             assert leased.original_idempotency_key == task.task.idempotency_key
             assert leased.idempotency_key == task.task.idempotency_key.replace("-run", "-undo")
             # as a `Worker` gets it
-            received = worker_task.task_of(json_views.task(undo, one.now()), Context())
-            assert worker_task.word_of(received) == "leaf/room/undo" and (
+            received = worker.task_of(json_views.task(undo, one.now()), Context())
+            assert worker.step_name(received) == "leaf/room/undo" and (
                 received.result,
                 received.key,
             ) == (

@@ -39,11 +39,9 @@ if sys.version_info < (3, 11):
 
 from sagas.api.opening import open, open_sync
 from sagas.api.run import Run
-from sagas.api.service_client import ServiceClient
+from sagas.api.service_client import ServiceClient, ServiceEvents, ServiceRun
 from sagas.api.service_connection import ServiceRefused
-from sagas.api.service_events import ServiceEvents
-from sagas.api.service_run import ServiceRun
-from sagas.api.service_views import ServiceEvent, ServiceSaga, ServiceSummary
+from sagas.api.service_replies import ServiceEvent, ServiceSaga, ServiceSummary
 from sagas.api.store import Store
 from sagas.api.sync_store import SyncRun, SyncStore
 from sagas.api.worker import Worker

@@ -16,8 +16,7 @@ from sagas.core.progress import active_attempts
 from sagas.core.results import ActiveAttempt, HistoryEvent, SagaResult, UnknownAttempt
 from sagas.definition import arguments, folded_drawing
 from sagas.engine.plan import Plan
-from sagas.inspection import lists
-from sagas.inspection import saga as one_saga
+from sagas.inspection import lists, saga as one_saga
 from sagas.inspection.question import AsyncStoreReader, Question
 from sagas.storage.interface import Reader
 
