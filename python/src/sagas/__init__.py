@@ -37,13 +37,11 @@ from typing import TYPE_CHECKING, Any
 if sys.version_info < (3, 11):
     raise ImportError(f"sagas needs Python 3.11 or later, and this is {sys.version.split()[0]}")
 
-from sagas.api.opening import open, open_sync
-from sagas.api.run import Run
+from sagas.api.store import Run, Store, open
+from sagas.api.sync_store import SyncRun, SyncStore, open_sync
 from sagas.api.service_client import ServiceClient, ServiceEvents, ServiceRun
 from sagas.api.service_connection import ServiceRefused
 from sagas.api.service_replies import ServiceEvent, ServiceSaga, ServiceSummary
-from sagas.api.store import Store
-from sagas.api.sync_store import SyncRun, SyncStore
 from sagas.api.worker import Worker
 from sagas.base.errors import (
     CannotDecode,

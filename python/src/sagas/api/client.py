@@ -10,10 +10,10 @@ from collections.abc import Coroutine
 from types import TracebackType
 from typing import TYPE_CHECKING, Any, TypeVar
 
-from sagas.api import client_start, timeouts
+from sagas.api import client_start, store_access
 from sagas.api.client_run import ClientRun
-from sagas.api.repeated_reports import check_again
-from sagas.api.schedules import Schedules
+from sagas.api.commands import check_repeated_report
+from sagas.api.shared_calls import SharedCalls
 from sagas.base.errors import Closed, InvalidStore, NoSuchSaga
 from sagas.base.fork_guard import OpenState
 
@@ -67,7 +67,7 @@ SELECT 1 FROM done
 """
 
 
-class Client(Schedules):
+class Client(SharedCalls):
     """Start and inspect sagas of a PostgreSQL store, without executing any.
 
     Use it by `async with sagas.Client("postgresql://...") as client`, with all calls in the event
@@ -271,7 +271,7 @@ class Client(Schedules):
     ) -> SagaResult:
         if timeout is None:
             return await work
-        return await timeouts.in_time(key, work, timeout, lambda: self.waits_for(key))
+        return await store_access.in_time(key, work, timeout, lambda: self.waits_for(key))
 
     async def _wait(self, key: str, request: dict[str, Any] | None) -> SagaResult:
         turn, before = 0, None
@@ -353,9 +353,9 @@ class Client(Schedules):
         await self._request(row, command, serialization.write(arguments))
 
     async def _check_kept(self, row: SagaRow, step: str, kind: str, outcome: Outcome) -> None:
-        """Check a report of a saga that has ended. See `check_again`."""
+        """Check a report of a saga that has ended. See `check_repeated_report`."""
         names = self._kind(row, (await self._known(row)).definition).names
-        await check_again(self._read, row, names, (step, kind), outcome, self._payloads)
+        await check_repeated_report(self._read, row, names, (step, kind), outcome, self._payloads)
 
     # -- questions
 

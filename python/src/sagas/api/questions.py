@@ -7,7 +7,7 @@ import builtins
 from collections.abc import Iterable
 from typing import TypeVar
 
-from sagas.api.schedules import Schedules
+from sagas.api.shared_calls import SharedCalls
 from sagas.api.store_access import StoreAccess
 from sagas.base import program
 from sagas.base.errors import NoSuchSaga
@@ -23,7 +23,7 @@ from sagas.storage.interface import Reader
 T = TypeVar("T")
 
 
-class Questions(Schedules):
+class Questions(SharedCalls):
     """Read an open store. These calls change nothing."""
 
     def __init__(self, access: StoreAccess) -> None:
