@@ -120,14 +120,13 @@ if TYPE_CHECKING:
     from sagas import celery as celery
     from sagas import inspection as inspection
     from sagas import testing as testing
-    from sagas.api.client import Client
-    from sagas.api.client_run import ClientRun
+    from sagas.api.client import Client, ClientRun
     from sagas.api.sync_client import SyncClient, SyncClientRun
 
 MODULES = ("celery", "inspection", "testing")
 LATER = {
     "Client": "api.client",
-    "ClientRun": "api.client_run",
+    "ClientRun": "api.client",
     "SyncClient": "api.sync_client",
     "SyncClientRun": "api.sync_client",
 }

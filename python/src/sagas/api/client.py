@@ -11,18 +11,16 @@ from types import TracebackType
 from typing import TYPE_CHECKING, Any, TypeVar
 
 from sagas.api import client_start, store_access
-from sagas.api.client_run import ClientRun
 from sagas.api.commands import check_repeated_report
 from sagas.api.shared_calls import SharedCalls
 from sagas.base.errors import Closed, InvalidStore, NoSuchSaga
 from sagas.base.fork_guard import OpenState
-
 from sagas.core import attention, history, pending, step_reports
-from sagas.core.batch import StoredSaga, SagaRow
+from sagas.core.batch import SagaRow, StoredSaga
 from sagas.core.outcomes import Outcome, reported_outcome
 from sagas.core.results import HistoryEvent, SagaResult
 from sagas.definition import arguments, children, payloads, serialization
-from sagas.definition.blobs import BlobStore, LEAST, check as check_blobs
+from sagas.definition.blobs import LEAST, BlobStore, check as check_blobs
 from sagas.definition.compiled import CompiledDefinition, version_of
 from sagas.definition.labels import Labels
 from sagas.definition.payloads import Codec, Payloads
@@ -461,3 +459,55 @@ class Client(SharedCalls):
         known = await self._known(row)
         kind = self._kind(row, known.definition)
         return history.stored_result(kind, row, known.results, known.shape)
+
+
+class ClientRun:
+    """Follow a saga that a client started, or found by its key. Made by `Client`.
+
+    Attributes:
+        key: The saga's key.
+        new: Whether this start wrote the saga, because its key was free. It is also True if a node
+            started the key at the same moment, or if the caller's transaction does not commit. It
+            is False if the connection was lost during the commit, and the start had to be repeated.
+    """
+
+    def __init__(
+        self, client: Client, key: str, words: dict[str, Any] | None = None, new: bool = False
+    ) -> None:
+        self._client, self.key, self._request, self.new = client, key, words, new
+
+    async def wait(self, timeout: float | None = None) -> SagaResult:
+        """Wait until the saga has ended. See `Client.wait`.
+
+        Raises:
+            KeyConflict: A node started the key with another input at the same moment.
+        """
+        work = self._client._wait(self.key, self._request)
+        return await self._client._in_time(self.key, work, timeout)
+
+    async def abort(self) -> bool:
+        """Abort the saga. See `Client.abort`."""
+        return await self._client.abort(self.key)
+
+    async def complete(
+        self, step: Step[Any] | str, result: Any = None, *, undo: bool = False, early: bool = True
+    ) -> None:
+        """Report that a step succeeded. See `Store.complete`."""
+        await self._client.complete(self.key, step, result, undo=undo, early=early)
+
+    async def fail(
+        self, step: Step[Any] | str, error: str, *, undo: bool = False, early: bool = True
+    ) -> None:
+        """Report that a step failed permanently. See `Store.fail`."""
+        await self._client.fail(self.key, step, error, undo=undo, early=early)
+
+    async def plan(self) -> Plan | None:
+        """Return the saga's last plan. See `Store.plan`."""
+        return await self._client.plan(self.key)
+
+    async def log(self) -> list[HistoryEvent]:
+        """Return the saga's events so far. See `Store.log`."""
+        return await self._client.log(self.key)
+
+    def __repr__(self) -> str:
+        return f"<run {self.key!r}>"

@@ -30,7 +30,7 @@ from sagas.core import (
 from sagas.core.batch import AnsweredRequest, Batch, RequestRef, SagaRow, StoredSaga
 from sagas.core.early_reports import EarlyReport, Refusal
 from sagas.core.model import Attempt, SagaInstance
-from sagas.core.outcomes import Outcome, SUCCEEDED
+from sagas.core.outcomes import SUCCEEDED, Outcome
 from sagas.core.states import Action, EarlyReason
 from sagas.definition import children, report_undos, serialization, tokens
 from sagas.definition.capacity import SHARD_CAPACITY

@@ -26,7 +26,7 @@ from sagas.base.errors import (
 from sagas.base.events import Event
 from sagas.core.results import EndQueries
 from sagas.core.states import WAITS_FOR
-from sagas.definition.blobs import BlobStore, LEAST, Reference, check as check_blobs
+from sagas.definition.blobs import LEAST, BlobStore, Reference, check as check_blobs
 from sagas.definition.fan import FIXED, Fan
 from sagas.definition.payloads import Codec, checked
 

@@ -14,11 +14,10 @@ from types import TracebackType
 from typing import TYPE_CHECKING, Any
 
 from sagas.api.commands import Commands
-from sagas.api.deliveries import Deliveries
+from sagas.api.claims import Deliveries, Workers
 from sagas.api.operators import Operators
 from sagas.api.shared_calls import over_own_connection
 from sagas.api.store_access import SagaLookup, Starter, StoreAccess
-from sagas.api.workers import Workers
 from sagas.base import program as program_module
 from sagas.base.errors import InvalidStore, WouldWaitForever
 from sagas.base.events import EventEmitter, Hook

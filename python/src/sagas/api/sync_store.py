@@ -11,8 +11,7 @@ from collections.abc import Callable
 from types import TracebackType
 from typing import TYPE_CHECKING, Any, ParamSpec
 
-from sagas.api.facade import Facade, blocking, blocking_plain
-from sagas.api.loop_thread import Loop
+from sagas.api.loop_thread import Facade, Loop, blocking, blocking_plain
 from sagas.api.store import Run, Store, open
 from sagas.base.errors import InvalidStore
 from sagas.core.results import SagaResult
