@@ -14,7 +14,7 @@ from test_command import Shell
 
 import sagas
 import sagas.testing
-from sagas.api import worker_task
+from sagas.api import worker
 from sagas.cli import backlog
 from sagas.definition import definition_text, listed_steps, undo_sagas, undo_text
 from sagas.definition.context import Context

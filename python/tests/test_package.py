@@ -13,8 +13,7 @@ import pytest
 import records
 from definitions import StepDraw, steps, toml
 from follower import Definition, Follower, follow
-from hypothesis import HealthCheck, given, settings
-from hypothesis import strategies as st
+from hypothesis import HealthCheck, given, settings, strategies as st
 
 import sagas
 import sagas.testing

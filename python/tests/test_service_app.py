@@ -16,7 +16,7 @@ from cases import run
 from serving import FEW, command, served
 
 import sagas
-from sagas.api.service_values import ServiceValues
+from sagas.api.service_replies import ServiceValues
 from sagas.server import command as command_module
 from sagas.server.app_store import AppStore
 from sagas.storage.admin import connect

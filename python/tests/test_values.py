@@ -16,8 +16,7 @@ from typing import Any, Generic, Mapping, NamedTuple, NewType, Optional, Sequenc
 
 import pytest
 from cases import run, simple
-from hypothesis import given
-from hypothesis import strategies as st
+from hypothesis import given, strategies as st
 
 import sagas
 from sagas.definition import decoders, serialization, type_checks

@@ -19,7 +19,7 @@ from schedule import Job, Schedule
 @pytest.mark.parametrize(
     "files, crates, needed, left",
     [
-        (["python/src/sagas/api/run.py"], [], ["python", "clients"], ["hostile", "page"]),
+        (["python/src/sagas/api/store.py"], [], ["python", "clients"], ["hostile", "page"]),
         (["docs/faq.md"], [], ["docs", "pages"], ["library", "hostile"]),
         (["page/src/page.js"], [], ["page", "release"], ["python", "hostile"]),
         (

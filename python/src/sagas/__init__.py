@@ -37,15 +37,11 @@ from typing import TYPE_CHECKING, Any
 if sys.version_info < (3, 11):
     raise ImportError(f"sagas needs Python 3.11 or later, and this is {sys.version.split()[0]}")
 
-from sagas.api.opening import open, open_sync
-from sagas.api.run import Run
-from sagas.api.service_client import ServiceClient
+from sagas.api.store import Run, Store, open
+from sagas.api.sync_store import SyncRun, SyncStore, open_sync
+from sagas.api.service_client import ServiceClient, ServiceEvents, ServiceRun
 from sagas.api.service_connection import ServiceRefused
-from sagas.api.service_events import ServiceEvents
-from sagas.api.service_run import ServiceRun
-from sagas.api.service_views import ServiceEvent, ServiceSaga, ServiceSummary
-from sagas.api.store import Store
-from sagas.api.sync_store import SyncRun, SyncStore
+from sagas.api.service_replies import ServiceEvent, ServiceSaga, ServiceSummary
 from sagas.api.worker import Worker
 from sagas.base.errors import (
     CannotDecode,
@@ -124,14 +120,13 @@ if TYPE_CHECKING:
     from sagas import celery as celery
     from sagas import inspection as inspection
     from sagas import testing as testing
-    from sagas.api.client import Client
-    from sagas.api.client_run import ClientRun
+    from sagas.api.client import Client, ClientRun
     from sagas.api.sync_client import SyncClient, SyncClientRun
 
 MODULES = ("celery", "inspection", "testing")
 LATER = {
     "Client": "api.client",
-    "ClientRun": "api.client_run",
+    "ClientRun": "api.client",
     "SyncClient": "api.sync_client",
     "SyncClientRun": "api.sync_client",
 }

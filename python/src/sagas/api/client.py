@@ -10,21 +10,17 @@ from collections.abc import Coroutine
 from types import TracebackType
 from typing import TYPE_CHECKING, Any, TypeVar
 
-from sagas.api import client_start, timeouts
-from sagas.api.client_run import ClientRun
-from sagas.api.repeated_reports import check_again
-from sagas.api.schedules import Schedules
+from sagas.api import client_start, store_access
+from sagas.api.commands import check_repeated_report
+from sagas.api.shared_calls import SharedCalls
 from sagas.base.errors import Closed, InvalidStore, NoSuchSaga
 from sagas.base.fork_guard import OpenState
-
-from sagas.core import pending
-from sagas.core import attention, history, step_reports
-from sagas.core.batch import StoredSaga, SagaRow
+from sagas.core import attention, history, pending, step_reports
+from sagas.core.batch import SagaRow, StoredSaga
 from sagas.core.outcomes import Outcome, reported_outcome
 from sagas.core.results import HistoryEvent, SagaResult
 from sagas.definition import arguments, children, payloads, serialization
-from sagas.definition.blobs import LEAST, BlobStore
-from sagas.definition.blobs import check as check_blobs
+from sagas.definition.blobs import LEAST, BlobStore, check as check_blobs
 from sagas.definition.compiled import CompiledDefinition, version_of
 from sagas.definition.labels import Labels
 from sagas.definition.payloads import Codec, Payloads
@@ -38,9 +34,15 @@ from sagas.runtime import operator_commands, retries
 from sagas.storage import operator_requests, queries
 from sagas.storage.blob_layer import Blobs
 from sagas.storage.factory import FORM
-from sagas.storage.postgresql import caller_connection, codec_note
-from sagas.storage.postgresql import connections as connections_module
-from sagas.storage.postgresql import key_finder, notifications, saga_requests, schema
+from sagas.storage.postgresql import (
+    caller_connection,
+    codec_note,
+    connections as connections_module,
+    key_finder,
+    notifications,
+    saga_requests,
+    schema,
+)
 from sagas.storage.record_file import RecordFile, record_path
 
 if TYPE_CHECKING:
@@ -63,7 +65,7 @@ SELECT 1 FROM done
 """
 
 
-class Client(Schedules):
+class Client(SharedCalls):
     """Start and inspect sagas of a PostgreSQL store, without executing any.
 
     Use it by `async with sagas.Client("postgresql://...") as client`, with all calls in the event
@@ -267,7 +269,7 @@ class Client(Schedules):
     ) -> SagaResult:
         if timeout is None:
             return await work
-        return await timeouts.in_time(key, work, timeout, lambda: self.waits_for(key))
+        return await store_access.in_time(key, work, timeout, lambda: self.waits_for(key))
 
     async def _wait(self, key: str, request: dict[str, Any] | None) -> SagaResult:
         turn, before = 0, None
@@ -349,9 +351,9 @@ class Client(Schedules):
         await self._request(row, command, serialization.write(arguments))
 
     async def _check_kept(self, row: SagaRow, step: str, kind: str, outcome: Outcome) -> None:
-        """Check a report of a saga that has ended. See `check_again`."""
+        """Check a report of a saga that has ended. See `check_repeated_report`."""
         names = self._kind(row, (await self._known(row)).definition).names
-        await check_again(self._read, row, names, (step, kind), outcome, self._payloads)
+        await check_repeated_report(self._read, row, names, (step, kind), outcome, self._payloads)
 
     # -- questions
 
@@ -457,3 +459,55 @@ class Client(Schedules):
         known = await self._known(row)
         kind = self._kind(row, known.definition)
         return history.stored_result(kind, row, known.results, known.shape)
+
+
+class ClientRun:
+    """Follow a saga that a client started, or found by its key. Made by `Client`.
+
+    Attributes:
+        key: The saga's key.
+        new: Whether this start wrote the saga, because its key was free. It is also True if a node
+            started the key at the same moment, or if the caller's transaction does not commit. It
+            is False if the connection was lost during the commit, and the start had to be repeated.
+    """
+
+    def __init__(
+        self, client: Client, key: str, words: dict[str, Any] | None = None, new: bool = False
+    ) -> None:
+        self._client, self.key, self._request, self.new = client, key, words, new
+
+    async def wait(self, timeout: float | None = None) -> SagaResult:
+        """Wait until the saga has ended. See `Client.wait`.
+
+        Raises:
+            KeyConflict: A node started the key with another input at the same moment.
+        """
+        work = self._client._wait(self.key, self._request)
+        return await self._client._in_time(self.key, work, timeout)
+
+    async def abort(self) -> bool:
+        """Abort the saga. See `Client.abort`."""
+        return await self._client.abort(self.key)
+
+    async def complete(
+        self, step: Step[Any] | str, result: Any = None, *, undo: bool = False, early: bool = True
+    ) -> None:
+        """Report that a step succeeded. See `Store.complete`."""
+        await self._client.complete(self.key, step, result, undo=undo, early=early)
+
+    async def fail(
+        self, step: Step[Any] | str, error: str, *, undo: bool = False, early: bool = True
+    ) -> None:
+        """Report that a step failed permanently. See `Store.fail`."""
+        await self._client.fail(self.key, step, error, undo=undo, early=early)
+
+    async def plan(self) -> Plan | None:
+        """Return the saga's last plan. See `Store.plan`."""
+        return await self._client.plan(self.key)
+
+    async def log(self) -> list[HistoryEvent]:
+        """Return the saga's events so far. See `Store.log`."""
+        return await self._client.log(self.key)
+
+    def __repr__(self) -> str:
+        return f"<run {self.key!r}>"

@@ -1,35 +1,61 @@
-"""Operator commands of an open store: abort, complete, fail and resolve."""
+"""Operator commands of an open store: abort, retry, report, resolve and compensate."""
 
 from __future__ import annotations
 
 import asyncio
 import contextlib
-from collections.abc import Iterable
+from collections.abc import Awaitable, Callable, Iterable, Sequence
 from typing import Any
 
-from sagas.api import child_reports
-from sagas.api.repeated_reports import check_again
-from sagas.api.saga_lookup import SagaLookup
-from sagas.api.store_access import StoreAccess
+from sagas.api.store_access import SagaLookup, Starter, StoreAccess
 from sagas.base.errors import (
+    Closed,
     KeyConflict,
-    SagaMoved,
     NoSuchSaga,
+    SagaMoved,
     SagasError,
     StepNotWaiting,
     WouldWaitForever,
 )
-from sagas.core import attempts, attention, early_reports, exhaustion, progress, step_reports
-from sagas.core.batch import AnsweredRequest, Batch, SagaRow, RequestRef
+from sagas.base.logger import logger
+from sagas.core import (
+    attempts,
+    attention,
+    child_results,
+    early_reports,
+    exhaustion,
+    progress,
+    step_reports,
+)
+from sagas.core.batch import AnsweredRequest, Batch, RequestRef, SagaRow, StoredSaga
 from sagas.core.early_reports import EarlyReport, Refusal
 from sagas.core.model import Attempt, SagaInstance
-from sagas.core.outcomes import Outcome
-from sagas.core.states import Action
-from sagas.definition import children, serialization
-from sagas.definition.compiled import ActionKey
+from sagas.core.outcomes import SUCCEEDED, Outcome
+from sagas.core.states import Action, EarlyReason
+from sagas.definition import children, report_undos, serialization, tokens
+from sagas.definition.capacity import SHARD_CAPACITY
+from sagas.definition.compiled import ActionKey, CompiledDefinition
+from sagas.definition.labels import TOKEN
+from sagas.definition.payloads import Payloads
+from sagas.definition.shape_values import ShapeValues
+from sagas.definition.start_options import StartOptions
+from sagas.definition.task import Task
+from sagas.definition.task_data import TaskSnapshot
 from sagas.definition.validation import meant
-from sagas.runtime import current_step, operator_commands
+from sagas.runtime import current_step, given_values, operator_commands, stored_values
 from sagas.storage import operator_requests
+from sagas.storage.queries import PHASE
+
+CHILDREN = child_results.CHILDREN.format(PHASE)
+PAUSE = 30.0
+"""Seconds between checks for reports that another node left without a notification."""
+UNUSED = """
+SELECT s.key, s.id, h.step FROM suspensions h JOIN sagas s ON s.id = h.id
+WHERE h.number = 0 AND h.reason = 'early_result' AND s.phase IS NOT NULL AND s.note IS NULL
+"""
+SHARD_NAME = "SELECT name FROM shards WHERE shard = ?"
+LABELS = f"SELECT name, value FROM labels WHERE id = ? AND name <> '{TOKEN}'"
+Read = Callable[..., Awaitable[Sequence[tuple[Any, ...]]]]
 
 
 class Commands:
@@ -68,7 +94,7 @@ class Commands:
                 children.check_abortable(key)
                 if key in coordinator.sagas.by_key:
                     continue
-                return bool(await self._hand_over(row, "abort", None, request))
+                return bool(await self.hand_over(row, "abort", None, request))
             try:
                 await coordinator.sagas.started(live)
             except KeyConflict:  # another saga has the key
@@ -86,7 +112,7 @@ class Commands:
             except SagaMoved:
                 continue
 
-    async def _hand_over(
+    async def hand_over(
         self, row: SagaRow, command: str, arguments: Any, request: RequestRef
     ) -> Any:
         """Ask the node that has the saga.
@@ -127,7 +153,7 @@ class Commands:
                     command, arguments = operator_commands.report_command(
                         step, kind, outcome, early, payloads
                     )
-                    await self._hand_over(row, command, arguments, request)
+                    await self.hand_over(row, command, arguments, request)
                     return
                 continue
             if of is not None and not live.committed:
@@ -157,7 +183,7 @@ class Commands:
                 if row.phase is not None:
                     raise step_reports.over(row)
                 if key not in self._access.coordinator.sagas.by_key:
-                    await self._hand_over(row, "retry", {"step": step, "kind": kind}, request)
+                    await self.hand_over(row, "retry", {"step": step, "kind": kind}, request)
                     return
                 continue
             _check_is(live, of)
@@ -190,10 +216,10 @@ class Commands:
         state that may not be stored.
         """
         coordinator, key, step = self._access.coordinator, attempt.instance.key, attempt.name
-        is_checked = not child_reports.is_of_child(attempt, outcome)
+        is_checked = not is_of_child(attempt, outcome)
         while not (is_checked and attempts.is_reportable(attempt)):
             if attempts.is_reportable(attempt):
-                await child_reports.check(coordinator.store.read, attempt, outcome)
+                await check_child_report(coordinator.store.read, attempt, outcome)
                 is_checked = True
                 continue
             is_over = await coordinator.executor.until_kept(attempt)
@@ -319,7 +345,9 @@ class Commands:
         coordinator = self._access.coordinator
         names = coordinator.registry.kind((await coordinator.store.known(row)).definition).names
         payloads = coordinator.registry.payloads
-        await check_again(coordinator.store.read, row, names, (step, kind), outcome, payloads)
+        await check_repeated_report(
+            coordinator.store.read, row, names, (step, kind), outcome, payloads
+        )
 
 
 def _over(live: SagaInstance, rows: Iterable[tuple[Any, ...]], word: ActionKey) -> str | None:
@@ -337,3 +365,205 @@ def _check_is(live: SagaInstance, of: int | None) -> None:
         raise NoSuchSaga(
             f"the saga with the key {live.key!r} that this request was for does not exist any more"
         )
+
+
+def is_of_child(attempt: Attempt, outcome: Outcome) -> bool:
+    """Return whether an operator reports that the child of an attempt has succeeded.
+
+    The result of an attempt that undoes a child is never read, so such attempts do not count.
+    """
+    starts_child = attempt.declared.child is not None and not attempt.undo
+    is_done = outcome.kind is SUCCEEDED
+    return starts_child and is_done and not children.undoes_child(attempt.key)
+
+
+async def check_child_report(read: Read, attempt: Attempt, outcome: Outcome) -> None:
+    """Raise `InvalidResult` if no child of this step can have the reported result."""
+    child = attempt.declared.child
+    steps = None if child is None or child.is_shaped else [step.name for step in child.steps]
+    rows = await read(CHILDREN, attempt.instance.id)
+    result = serialization.read(outcome.value)
+    phases = [(str(key), str(phase)) for key, phase in rows]
+    child_results.check(attempt.key, attempt.name, result, phases, steps)
+
+
+async def check_repeated_report(
+    read: Read,
+    row: SagaRow,
+    names: Sequence[str],
+    action: tuple[str, str],
+    outcome: Outcome,
+    payloads: Payloads,
+) -> None:
+    """Compare a report of a saga that has ended with the reported outcome.
+
+    Raises:
+        StepNotWaiting: No outcome was reported before.
+        ConflictingReport: Another outcome was reported before.
+    """
+    step, kind = action
+    if step not in names:
+        raise step_reports.over(row)
+    step_index = names.index(step)
+    first, why = (
+        step_reports.first_outcome(await read(step_reports.RESULTS, row.id), step_index, kind),
+        None,
+    )
+    if first is None:
+        why = step_reports.UNUSED_TEXT
+        first = step_reports.early_outcome(await read(step_reports.EARLY, row.id, step_index, kind))
+    if first is None:
+        raise step_reports.over(row)
+    step_reports.check(row.key, step, first, outcome, why, payloads)
+
+
+class UnusedReports:
+    """Starts sagas that compensate unused reports.
+
+    Such a saga is started before its report counts as undone. If that mark is not stored, the saga
+    is started again, and its key identifies one saga. So a compensation that has succeeded is not
+    called again.
+    """
+
+    def __init__(
+        self, access: StoreAccess, lookup: SagaLookup, starter: Starter, commands: Commands
+    ) -> None:
+        self._access, self._lookup = access, lookup
+        self._starter, self._commands = starter, commands
+        self._changed = asyncio.Event()
+
+    async def compensate(
+        self, key: str, step: str, request: RequestRef, of: int | None = None
+    ) -> None:
+        """Have the compensation called for a step whose report was not used."""
+        row = await self._ended(key, of)
+        coordinator = self._access.coordinator
+        known = await coordinator.store.known(row)
+        kind = coordinator.registry.kind(known.definition)
+        if step not in kind.names:
+            raise StepNotWaiting(f"saga {key!r} has no step {step!r}{meant(step, kind.names)}")
+        number = kind.names.index(step)
+        rows = await coordinator.store.read(step_reports.EARLY, row.id, number, Action.RUN.value)
+        reason, text = rows[0] if rows else (None, None)
+        if reason == EarlyReason.UNDONE and report_undos.fault(kind.steps[number]) is None:
+            return
+        subject = f"saga {key!r}, step {step!r}"
+        if reason != EarlyReason.RESULT:
+            raise StepNotWaiting(f"{subject}: there is no unused report of it")
+        if row.note is not None:
+            raise StepNotWaiting(f"{subject}: the saga is resolved already")
+        declared = kind.steps[number]
+        if kind.saga is None or declared is None:
+            if coordinator.store.shared:
+                await self._commands.hand_over(row, "compensate", {"step": step}, request)
+                return
+            raise StepNotWaiting(
+                f"{subject}: this program does not have the definition. Ask one that has it, or "
+                "undo the step by hand, and resolve the saga"
+            )
+        if fault := report_undos.fault(declared):
+            raise StepNotWaiting(f"{subject}: {fault}. Undo it by hand, and resolve the saga")
+        saga = coordinator.registry.report_undo(kind.saga, declared)
+        input = await self._input(row, known, kind, number, text or "null")
+        labels = {
+            str(name): str(value) for name, value in await coordinator.store.read(LABELS, row.id)
+        }
+        options = StartOptions(labels, parent=row.id)
+        await self._starter.start_child(saga, children.key_of(key, step, undo=True), input, options)
+        batch = Batch(-1, coordinator.clock())
+        batch.rare_rows.undone.append((row.id, number))
+        batch.answer(request, "true")
+        await coordinator.kept(batch)
+
+    async def _ended(self, key: str, of: int | None) -> SagaRow:
+        """Return the row of a saga. Raises `StepNotWaiting` if it has not ended."""
+        live = await self._lookup.live(key)
+        if live is not None and live.over:
+            with contextlib.suppress(SagaMoved):
+                await self._access.coordinator.sagas.ends.wait(live)
+        row = await self._lookup.row(key, of)
+        if row.phase is None:
+            raise StepNotWaiting(
+                f"saga {key!r} has not ended. Reports that it does not use are undone after its "
+                "end"
+            )
+        return row
+
+    async def _input(
+        self, row: SagaRow, known: StoredSaga, kind: CompiledDefinition, step: int, text: str
+    ) -> dict[str, Any]:
+        """Return the input of the saga that undoes a report. All nodes compute the same."""
+        decode, name = kind.payloads.decode, kind.names[step]
+        store = self._access.coordinator.store
+        ((shard,),) = await store.read(SHARD_NAME, row.id // SHARD_CAPACITY)
+        token = tokens.saga_token(shard, row.id % SHARD_CAPACITY)
+        saga_input = decode(await stored_values.input_of(store, row.id, row.input))
+        values = ShapeValues() if known.shape is None else ShapeValues.read(decode(known.shape))
+        location = kind.location(name, values, saga_input)
+        committed = {
+            index: value for index, _, _, event, value, _ in known.results if event == "commit"
+        }
+        needed = [index for index in kind.below[step] if index in committed]
+        results = {kind.names[index]: decode(committed[index] or "null") for index in needed}
+        task: Task[Any] = Task(
+            TaskSnapshot(
+                kind.name,
+                row.key,
+                name,
+                True,
+                1,
+                token,
+                location.input if location else saga_input,
+                results,
+                decode(text),
+                location=location,
+            )
+        )
+        fields_of_task = task.plain
+        location_data = None
+        if location is not None:
+            fields = ("shape", "declared_step", "index", "item_key", "item")
+            location_data = {field: fields_of_task[field] for field in fields} | {"step": name}
+            location_data["given"] = serialization.read(given_values.text_of(task))
+        return {
+            "key": row.key,
+            "token": token,
+            "saga": task.saga,
+            "step": name,
+            "input": fields_of_task["input"],
+            "results": fields_of_task["results"] | {name: fields_of_task["result"]},
+            "place": location_data,
+        }
+
+    # -- in the background
+
+    def look(self) -> None:
+        """Check for unused reports, because a saga has ended with one."""
+        self._changed.set()
+
+    async def run(self) -> None:
+        """Undo reports of steps with `early_unused="compensate"`, until the store closes."""
+        coordinator = self._access.coordinator
+        while not coordinator.closed:
+            self._changed.clear()
+            with contextlib.suppress(SagasError):  # the next check finds them
+                await self._undo_all()
+            with contextlib.suppress(TimeoutError):
+                async with asyncio.timeout(PAUSE):
+                    await self._changed.wait()
+
+    async def _undo_all(self) -> None:
+        coordinator = self._access.coordinator
+        for key, id, number in await coordinator.store.read(UNUSED):
+            try:
+                row = await self._lookup.row(str(key), int(id))
+                kind = coordinator.registry.kind((await coordinator.store.known(row)).definition)
+                declared = kind.steps[int(number)]
+                if declared is not None and declared.early_unused == "compensate":
+                    await self.compensate(row.key, kind.names[int(number)], None, row.id)
+            except Closed:
+                raise
+            except NoSuchSaga:
+                continue
+            except Exception as error:  # `attention` lists it for operators
+                logger.warning("a report of saga %r is not undone yet: %s", key, error)

@@ -1,19 +1,23 @@
-"""An event loop in a thread, for programs without async code."""
+"""An event loop in a thread, and blocking calls of the objects in it, for other threads."""
 
 from __future__ import annotations
 
 import asyncio
 import concurrent.futures
 import contextlib
+import functools
 import threading
 from collections.abc import Callable, Coroutine
-from typing import Any, TypeVar
+from typing import Any, Concatenate, Generic, ParamSpec, TypeVar
 
 from sagas.base.errors import Closed
 from sagas.base.fork_guard import OpenState
 from sagas.core import pending
 from sagas.runtime import current_step
 
+A = TypeVar("A")
+A_co = TypeVar("A_co", covariant=True)
+P = ParamSpec("P")
 T = TypeVar("T")
 SOON = 2.0
 """Seconds to find out what a saga waits for, or to end tasks that still run."""
@@ -127,3 +131,37 @@ async def _finish(loop: asyncio.AbstractEventLoop) -> None:
     if tasks:
         await asyncio.wait(tasks, timeout=SOON)
     await loop.shutdown_asyncgens()
+
+
+class Facade(Generic[A_co]):
+    """The calls of an object in an event loop, for any thread."""
+
+    def __init__(self, inner: A_co, loop: Loop) -> None:
+        self._inner, self._loop = inner, loop
+
+
+def blocking(
+    method: Callable[Concatenate[A, P], Coroutine[Any, Any, T]]
+) -> Callable[Concatenate[Facade[A], P], T]:
+    """Return a blocking method for an async one. It waits for the loop's thread."""
+
+    @functools.wraps(method)
+    def call(self: Facade[A], /, *args: P.args, **kwargs: P.kwargs) -> T:
+        return self._loop.do(method(self._inner, *args, **kwargs))
+
+    return call
+
+
+def blocking_plain(
+    method: Callable[Concatenate[A, P], T]
+) -> Callable[Concatenate[Facade[A], P], T]:
+    """Return a method that calls a plain one in the loop's thread."""
+
+    @functools.wraps(method)
+    def call(self: Facade[A], /, *args: P.args, **kwargs: P.kwargs) -> T:
+        async def run() -> T:
+            return method(self._inner, *args, **kwargs)
+
+        return self._loop.do(run())
+
+    return call

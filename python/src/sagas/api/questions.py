@@ -7,7 +7,7 @@ import builtins
 from collections.abc import Iterable
 from typing import TypeVar
 
-from sagas.api.schedules import Schedules
+from sagas.api.shared_calls import SharedCalls
 from sagas.api.store_access import StoreAccess
 from sagas.base import program
 from sagas.base.errors import NoSuchSaga
@@ -16,15 +16,14 @@ from sagas.core.progress import active_attempts
 from sagas.core.results import ActiveAttempt, HistoryEvent, SagaResult, UnknownAttempt
 from sagas.definition import arguments, folded_drawing
 from sagas.engine.plan import Plan
-from sagas.inspection import lists
-from sagas.inspection import saga as one_saga
+from sagas.inspection import lists, saga as one_saga
 from sagas.inspection.question import AsyncStoreReader, Question
 from sagas.storage.interface import Reader
 
 T = TypeVar("T")
 
 
-class Questions(Schedules):
+class Questions(SharedCalls):
     """Read an open store. These calls change nothing."""
 
     def __init__(self, access: StoreAccess) -> None:

@@ -1,4 +1,4 @@
-"""A client over HTTP: it starts sagas, waits for them, and decides steps.
+"""A client over HTTP: it starts sagas, waits for them, decides steps, and follows events.
 
     with sagas.ServiceClient("http://127.0.0.1:8080", token="...") as client:
         run = client.start("trip", "order-1", {"to": "Rome"})
@@ -12,6 +12,8 @@ from __future__ import annotations
 
 import builtins
 import datetime
+import http.client
+import json
 import threading
 import time
 import urllib.parse
@@ -20,19 +22,26 @@ from collections.abc import Iterator, Mapping, Sequence
 from types import TracebackType
 from typing import Any
 
-from sagas.api.service_connection import NO_HEADERS, ServiceConnection, ServiceRefused
-from sagas.api.service_events import ServiceEvents
-from sagas.api.service_run import ServiceRun
-from sagas.api.service_values import ServiceValues
-from sagas.api.service_views import (
+from sagas.api.service_connection import (
+    FIRST_PAUSE,
+    NO_HEADERS,
+    OpenAnswer,
+    ServiceConnection,
+    ServiceRefused,
+    end,
+)
+from sagas.api.service_replies import (
+    ServiceEvent,
     ServiceSaga,
     ServiceSummary,
+    ServiceValues,
     error_of,
+    event_of,
     saga_of,
     summary_of,
     waits_of,
 )
-from sagas.base.errors import NoSuchSaga
+from sagas.base.errors import Closed, NoSuchSaga
 from sagas.core.pending import timeout_error
 from sagas.definition import arguments, tracing
 from sagas.definition.blobs import BlobStore
@@ -42,10 +51,12 @@ from sagas.definition.saga import Saga
 from sagas.definition.start_options import Deadline, deadline_at
 from sagas.definition.step import Step
 
-ANSWER = 20.0  # seconds that one request may take
+ANSWER = 20.0  # seconds that one request, or the opening of a stream, may take
 MAX_WAIT = 30.0  # seconds that the service holds one request
 BEYOND = 15.0  # seconds that the reply may take after that
 LATE = 10.0  # minimum seconds for which a request is repeated
+SILENT = 40.0
+"""Seconds without even a comment after which the connection of a stream counts as dead."""
 
 
 class ServiceClient:
@@ -448,3 +459,161 @@ def _seconds_to(deadline: Deadline | None) -> float | None:
     now = time.time() if isinstance(deadline, datetime.datetime) else 0.0
     at = deadline_at(deadline, now)
     return None if at is None else max(0.0, at - now)
+
+
+class ServiceRun:
+    """Follow a saga that a client of a service started. Made by `ServiceClient`.
+
+    Attributes:
+        key: The saga's key.
+        saga: The saga's name.
+        version: The version of its definition.
+        new: Whether this call started it.
+    """
+
+    def __init__(self, client: ServiceClient, told: dict[str, Any]) -> None:
+        self._client = client
+        self.key: str = told["key"]
+        self.saga: str = told["definition"]
+        self.version: int = told["version"]
+        self.new: bool = told["new"]
+
+    def wait(self, timeout: float | None = None) -> ServiceSaga:
+        """Wait until the saga has ended. See `ServiceClient.wait`."""
+        return self._client.wait(self.key, timeout)
+
+    def get(self) -> ServiceSaga | None:
+        """Return the saga as it is now. See `ServiceClient.get`."""
+        return self._client.get(self.key)
+
+    def abort(self, *, note: str | None = None) -> bool:
+        """Abort the saga. See `ServiceClient.abort`."""
+        return self._client.abort(self.key, note=note)
+
+    def __repr__(self) -> str:
+        return f"<run {self.key!r}>"
+
+
+class ServiceEvents:
+    """Follow the events of a service, in a loop. Made by `ServiceClient.events`.
+
+    If the stream breaks, it continues after the last event. Each event of the loop is a
+    `ServiceEvent`. One thread iterates; any thread may close it.
+
+    Raises:
+        ServiceUnavailable: In a loop, if no service answers. Iterate again to continue.
+        ServiceRefused: In a loop, if the service refuses the stream, for example the token.
+    """
+
+    def __init__(
+        self, service: ServiceConnection, path: str, last: str | None, patience: float
+    ) -> None:
+        self._service, self._path, self._last, self._patience = service, path, last, patience
+        self._closed, self._lock = threading.Event(), threading.Lock()
+        self._answer: OpenAnswer | None = None
+        self._first: dict[str, str] | None = None  # read while it was opened
+
+    @property
+    def last_event_id(self) -> str | None:
+        """The id of the last event, for `last_event_id` of a later stream; or None."""
+        return self._last
+
+    def open(self) -> ServiceEvents:
+        """Wait until the service has opened the stream: later events are received.
+
+        A loop opens the stream by itself.
+
+        Returns:
+            This stream.
+
+        Raises:
+            ServiceUnavailable: No service answered in time.
+            ServiceRefused: The service refuses it: check token and filter.
+            Closed: The stream or its client is closed.
+        """
+        if self._answer is None:
+            try:
+                self._service.repeated(self._opened, self._patience, self._closed)
+            except ServiceRefused as refusal:
+                raise error_of(refusal.name, str(refusal)) or refusal from None
+        return self
+
+    def close(self) -> None:
+        """End the stream, also a loop over it in another thread."""
+        with self._lock:
+            self._closed.set()
+            if self._answer is not None:
+                end(self._answer.channel)
+
+    def __iter__(self) -> ServiceEvents:
+        return self
+
+    def __next__(self) -> ServiceEvent:
+        while not self._closed.is_set():
+            try:
+                self.open()
+            except Closed:
+                break
+            fields, self._first = self._first or self._read(), None
+            if fields is None:
+                self._drop()
+                self._closed.wait(FIRST_PAUSE)
+            elif "event" in fields and "data" in fields:
+                data = json.loads(fields["data"])
+                return event_of(fields["event"], self._last or "", data, time.time())
+        self._drop()
+        raise StopIteration
+
+    def _opened(self, url: str, left: float) -> None:
+        """Open the stream, and read its first fields: the id after which it continues."""
+        headers = {"Accept": "text/event-stream"}
+        if self._last is not None:
+            headers["Last-Event-ID"] = self._last
+        answer = self._service.opened(url, self._path, headers, min(ANSWER, left))
+        with self._lock:
+            self._answer = answer
+            if self._closed.is_set():
+                end(answer.channel)
+        answer.channel.settimeout(SILENT)
+        self._first = self._read()
+        if self._first is None:
+            self._drop()
+            raise ConnectionError("the stream ended before its first line")
+
+    def _read(self) -> dict[str, str] | None:
+        """Return the fields up to the next empty line; None if the stream has ended."""
+        assert self._answer
+        fields: dict[str, str] = {}
+        try:
+            while line := self._answer.response.readline():
+                text = line.rstrip(b"\r\n").decode(errors="replace")
+                if not text:
+                    self._last = fields.get("id", self._last)
+                    return fields
+                name, _, value = text.partition(":")
+                value = value.removeprefix(" ")
+                fields[name] = f"{fields[name]}\n{value}" if name in fields else value
+        except (OSError, ValueError, http.client.HTTPException):
+            pass  # it is opened again, unless it was closed
+        return None
+
+    def _drop(self) -> None:
+        with self._lock:
+            answer, self._answer = self._answer, None
+        if answer is not None:
+            answer.close()
+
+    def __enter__(self) -> ServiceEvents:
+        return self
+
+    def __exit__(
+        self,
+        kind: type[BaseException] | None,
+        error: BaseException | None,
+        trace: TracebackType | None,
+    ) -> None:
+        self.close()
+        self._drop()
+
+    def __repr__(self) -> str:
+        return f"<events of {self._service.url}>"

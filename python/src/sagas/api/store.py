@@ -1,42 +1,51 @@
-"""An open store."""
+"""An open store, how it is opened, and its handle of a saga."""
 
 from __future__ import annotations
 
 import asyncio
 import builtins
 import datetime
+import functools
 import os
 import signal
+import time
 from collections.abc import Callable, Iterable, Mapping
 from types import TracebackType
 from typing import TYPE_CHECKING, Any
 
-from sagas.api.batches import over_own_connection
-from sagas.api.children import ChildOperations
-from sagas.api.deliveries import Deliveries
-from sagas.api.retry_calls import RetryCalls
-from sagas.api.run import Run
-from sagas.api.starter import Starter
-from sagas.api.store_access import StoreAccess, transactions
-from sagas.api.workers import Workers
+from sagas.api.commands import Commands
+from sagas.api.claims import Deliveries, Workers
+from sagas.api.operators import Operators
+from sagas.api.shared_calls import over_own_connection
+from sagas.api.store_access import SagaLookup, Starter, StoreAccess
 from sagas.base import program as program_module
 from sagas.base.errors import InvalidStore, WouldWaitForever
-from sagas.base.events import Hook, EventEmitter
+from sagas.base.events import EventEmitter, Hook
 from sagas.base.logger import logger
+from sagas.core import history
 from sagas.core.batch import SagaRow
 from sagas.core.model import SagaInstance
-from sagas.core.results import SagaResult
+from sagas.core.results import HistoryEvent, SagaResult
 from sagas.definition import arguments, payloads, tracing
-from sagas.definition.blobs import BlobStore
-from sagas.definition.blobs import check as check_blobs
-from sagas.definition.shelf import DefinitionRegistry
+from sagas.definition.blobs import BlobStore, check as check_blobs
+from sagas.definition.compiled import CompiledDefinition
 from sagas.definition.labels import Labels
 from sagas.definition.payloads import Codec
 from sagas.definition.saga import Saga
-from sagas.definition.start_options import Deadline
-from sagas.definition.step import Seconds
-from sagas.runtime import blob_sweep, current_step, operator_commands
-from sagas.runtime import retention as retention_module
+from sagas.definition.shelf import DefinitionRegistry
+from sagas.definition.start_options import Deadline, StartOptions
+from sagas.definition.step import Seconds, Step
+from sagas.engine.plan import Plan
+from sagas.inspection import saga as saga_questions, what_if
+from sagas.inspection.question import AsyncStoreReader
+from sagas.runtime import (
+    blob_sweep,
+    current_step,
+    operator_commands,
+    retention as retention_module,
+    retries,
+)
+from sagas.runtime.children import ChildEnd
 from sagas.runtime.coordinator import Coordinator
 from sagas.runtime.scheduler import Scheduler
 from sagas.storage import factory
@@ -44,7 +53,95 @@ from sagas.storage.blob_layer import BlobDatabase
 from sagas.storage.schedules import Schedule, Schedules
 
 
-class Store(RetryCalls):
+def open(
+    path: str | os.PathLike[str],
+    sagas: Iterable[Saga],
+    *,
+    concurrency: int = 16,
+    accept_new: bool = True,
+    engine_processes: int = 16,
+    threads: int | None = None,
+    shutdown_timeout: Seconds | None = None,
+    idle: Seconds = 5.0,
+    on_event: Hook | None = None,
+    clock: Callable[[], float] = time.time,
+    program: str | None = None,
+    node: str | None = None,
+    lease: Seconds = 10.0,
+    retention: datetime.timedelta | None = None,
+    archive_dir: str | os.PathLike[str] | None = None,
+    context: Any = None,
+    codec: Codec | None = None,
+    blobs: BlobStore | None = None,
+    blob_threshold: int = 65_536,
+    record: str | os.PathLike[str] | None = None,
+) -> Store:
+    """Open a store: `async with sagas.open("trips.db", [trip]) as store`.
+
+    Definitions and arguments are checked at once; the file or the server, and the program `sagas`,
+    when the store is entered.
+
+    Args:
+        path: A SQLite file, which is created if it does not exist, for one program at a time. Or
+            `postgresql://user@host/database`, for any number of programs: each is a node. When a
+            node ends, the others execute its sagas.
+        sagas: The definitions, at least one.
+        concurrency: Maximum number of functions that run at once (default: 16). Steps that wait for
+            a time or for a decision take no slot.
+        accept_new: Whether to start new sagas (default: True). If not, only open ones continue.
+        engine_processes: Maximum number of engine processes (default: 16).
+        threads: Maximum number of plain functions that run at once (default: `concurrency`).
+            Functions of definitions, such as `when` and `until`, have as many threads, at least 4.
+        shutdown_timeout: Seconds, or a timedelta, after which closing cancels running functions
+            (default: never).
+        idle: Seconds, or a timedelta, after which an idle engine process ends (default: 5).
+        on_event: A plain function that is called in the event loop with each `Event`.
+        clock: A function that returns wall time, in seconds since 1970 (default: `time.time`).
+        program: Path of the program `sagas` (default: the one of the package).
+        node: This node's name (default: of host and process). A node that restarts under its name
+            gets its sagas back at once.
+        lease: Seconds, or a timedelta, without a heartbeat of a node after which other nodes
+            execute its sagas (default: 10).
+        retention: A timedelta for which ended sagas are kept (default: without limit). They are
+            deleted by whole shards; then their keys are free again.
+        archive_dir: A directory to which each shard is written before it is deleted.
+        context: What functions get as `task.context` (default: none): an object; or a function that
+            returns a context manager, which is entered and left together with the store.
+        codec: Encodes inputs and results before they are stored, for example to encrypt them
+            (default: they are stored as JSON).
+        blobs: Where inputs and results over `blob_threshold` are kept (default: in the database).
+        blob_threshold: Bytes of a value, as it is stored (default: 65,536).
+        record: PostgreSQL only: a file to which the node adds the replies to its commits and its
+            acknowledgements, for `sagas store URL record` (default: the one that the
+            environment variable `SAGAS_RECORD` names, if any).
+
+    Returns:
+        The store, to be entered.
+
+    Raises:
+        DefinitionError: A definition is not valid.
+        InvalidStore: The path is not a path.
+        TypeError: An argument has the wrong type.
+        ValueError: An argument is out of range.
+
+    Example:
+        >>> async def main():
+        ...     async with sagas.open("orders.db", [order]) as store:
+        ...         run = await store.start(order, "order-1", {"amount": 40})
+        ...         return await run.wait(timeout=60)
+        >>> print(asyncio.run(main()))
+        refund 40
+        order order-1: recovered, plan of cost 4
+          undone    charge
+          failed    send: sagas.Fail: sold out
+    """
+    options = locals()
+    store = Store(**options)
+    store.opened_with = options
+    return store
+
+
+class Store(Operators):
     """Hold an open store of sagas. Made by `sagas.open`, and used by `async with`.
 
     Make all calls in the event loop in which it was opened.
@@ -112,11 +209,8 @@ class Store(RetryCalls):
             else arguments.time("shutdown_timeout", shutdown_timeout)
         )
         self._teller, self._program = EventEmitter(on_event, clock), program
-        super().__init__(
-            StoreAccess("PostgreSQL" if factory.is_url(self._name) else self._name), self._name
-        )
-        self._starter = Starter(self._access, self._lookup, self._registry, accept_new)
-        self._reports.starter = self._starter
+        access = StoreAccess("PostgreSQL" if factory.is_url(self._name) else self._name)
+        super().__init__(access, self._name, self._registry, accept_new)
         self._requests: operator_commands.RequestExecutor | None = None
         self.workers = Workers(self._access)
         self.deliveries = Deliveries(self._access, self._registry)
@@ -443,3 +537,100 @@ class Store(RetryCalls):
                 "open, but its own is. Wait for that outside of a step"
             )
         await self._coordinator.settled()
+
+
+class Run:
+    """Follow a saga that was started, or found by its key. Made by `Store.start`.
+
+    Attributes:
+        key: The saga's key.
+        new: Whether this start created the saga.
+    """
+
+    def __init__(self, store: Store, key: str, new: bool = False) -> None:
+        self._store, self.key, self.new = store, key, new
+
+    async def wait(self, timeout: float | None = None) -> SagaResult:
+        """Wait until the saga has ended. See `Store.wait`."""
+        return await self._store.wait(self.key, timeout)
+
+    async def abort(self) -> bool:
+        """Abort the saga. See `Store.abort`."""
+        return await self._store.abort(self.key)
+
+    async def complete(
+        self, step: Step[Any] | str, result: Any = None, *, undo: bool = False, early: bool = True
+    ) -> None:
+        """Report that a step succeeded. See `Store.complete`."""
+        await self._store.complete(self.key, step, result, undo=undo, early=early)
+
+    async def fail(
+        self, step: Step[Any] | str, error: str, *, undo: bool = False, early: bool = True
+    ) -> None:
+        """Report that a step failed permanently. See `Store.fail`."""
+        await self._store.fail(self.key, step, error, undo=undo, early=early)
+
+    async def plan(self) -> Plan | None:
+        """Return the saga's last plan. See `Store.plan`."""
+        return await self._store.plan(self.key)
+
+    async def log(self) -> list[HistoryEvent]:
+        """Return the saga's events. See `Store.log`."""
+        return await self._store.log(self.key)
+
+    def __repr__(self) -> str:
+        return f"<run {self.key!r}>"
+
+
+class ChildOperations:
+    """The operations that the runtime performs on child sagas, by key."""
+
+    def __init__(
+        self, access: StoreAccess, lookup: SagaLookup, starter: Starter, commands: Commands
+    ) -> None:
+        self._access, self._lookup = access, lookup
+        self._starter, self._commands = starter, commands
+
+    async def start(
+        self, saga: Saga | CompiledDefinition, key: str, input: Any, options: StartOptions
+    ) -> bool:
+        """Start a child; return False if the key is used."""
+        return await self._starter.start_child(saga, key, input, options)
+
+    async def end(self, key: str) -> ChildEnd:
+        """Wait until a saga has ended."""
+        ended = await self._lookup.whole(key)
+        if isinstance(ended, SagaInstance):
+            end = history.live_result(ended)
+            return ChildEnd(end, ended.id, ended.kind, ended.text, ended.results)
+        coordinator = self._access.coordinator
+        known = await retries.until_answered(functools.partial(coordinator.store.known, ended))
+        kind = coordinator.registry.kind(known.definition)
+        results = {
+            step: value or "null"
+            for step, _, _, event, value, _ in known.results
+            if event == "commit"
+        }
+        return ChildEnd(
+            history.stored_result(kind, ended, known.results), ended.id, kind, ended.input, results
+        )
+
+    async def abort(self, key: str, by: str) -> None:
+        """Abort a saga, unless it has ended."""
+        await self._commands.abort(key, self._commands.command_row(key, "abort", by, None))
+
+    async def is_dropped(self, key: str, id: int, step: int) -> bool:
+        """Return whether a plan would undo a step if all running attempts succeed."""
+        store = self._access.coordinator.store
+        view = await AsyncStoreReader(store.read, store.read_long).ask(saga_questions.view(key))
+        if view is None or view.id != id:
+            return False
+        answer = (await asyncio.to_thread(what_if.of, view)).plan.answer
+        return "cost" in answer and step not in answer.get("kept", ())
+
+
+def transactions(*arguments: Any) -> Any:
+    """Return the caller of functions in transactions of PostgreSQL. It needs psycopg."""
+    from sagas.runtime.transactional_steps import Transactions
+
+    return Transactions(*arguments)

@@ -1,13 +1,45 @@
-"""Access to the coordinator of an open store, with checks of loop and process."""
+"""Access to the sagas of an open store by their keys: find, wait for and start one."""
 
 from __future__ import annotations
 
 import asyncio
-from typing import Any
+import builtins
+import contextlib
+import dataclasses
+import functools
+from collections.abc import Awaitable, Callable, Coroutine
+from typing import Any, TypeVar
 
-from sagas.base.errors import Closed
+from sagas.base.errors import (
+    Closed,
+    KeyConflict,
+    NoSuchSaga,
+    SagaMoved,
+    SagasError,
+    StoreUnavailable,
+)
 from sagas.base.fork_guard import OpenState, private_descriptors
+from sagas.core import history, pending
+from sagas.core.batch import SagaRow
+from sagas.core.key_lookup import KeyLookupPolicy
+from sagas.core.model import SagaInstance
+from sagas.core.pending import timeout_error
+from sagas.core.results import SagaResult
+from sagas.definition import arguments, children, serialization, start_options, undo_sagas
+from sagas.definition.compiled import CompiledDefinition
+from sagas.definition.labels import Labels, checked, with_token
+from sagas.definition.payloads import ABSENT
+from sagas.definition.saga import Saga
+from sagas.definition.shelf import DefinitionRegistry, Fitted
+from sagas.definition.start_options import Deadline, StartOptions, deadline_at
+from sagas.runtime import current_step, relocation, retries
 from sagas.runtime.coordinator import Coordinator
+
+T = TypeVar("T")
+SOON = 2.0
+"""Seconds to find out what a saga waits for."""
+StartWork = Coroutine[Any, Any, bool]
+"""Whether a start created the saga. Await it at once: its key is taken already."""
 
 
 class StoreAccess:
@@ -51,8 +83,352 @@ class StoreAccess:
         return coordinator
 
 
-def transactions(*arguments: Any) -> Any:
-    """Return the caller of functions in transactions of PostgreSQL. It needs psycopg."""
-    from sagas.runtime.transactional_steps import Transactions
+async def in_time(
+    key: str,
+    work: Coroutine[Any, Any, T],
+    timeout: float,
+    waits: Callable[[], Awaitable[list[str]]],
+) -> T:
+    """Return the result of `work`; a timeout says what the saga waits for.
 
-    return Transactions(*arguments)
+    Raises `TimeoutError`.
+    """
+    scope = asyncio.timeout(timeout)
+    try:
+        async with scope:
+            return await work
+    except TimeoutError:
+        if not scope.expired():
+            raise
+    try:
+        async with asyncio.timeout(SOON):
+            waited_for = await waits()
+    except TimeoutError:
+        waited_for = ["its store does not answer"]
+    except SagasError as error:
+        waited_for = [str(error)]
+    raise timeout_error(key, timeout, waited_for)
+
+
+class SagaLookup:
+    """Finds sagas by their keys, and waits for their ends."""
+
+    def __init__(self, access: StoreAccess) -> None:
+        self._access = access
+        self.finding: dict[str, asyncio.Future[None]] = {}  # keys that are being looked up
+        self.guessing = KeyLookupPolicy()
+
+    async def live(self, key: str) -> SagaInstance | None:
+        """Return the saga with this key, if this program executes it.
+
+        It waits until the key is known to belong to the saga.
+        """
+        while (live := self._access.coordinator.sagas.by_key.get(key)) and live.has_unchecked_key:
+            with contextlib.suppress(SagasError):  # its start raises that
+                await self._access.coordinator.sagas.started(live)
+        return live
+
+    async def find(self, key: str) -> SagaRow | None:
+        """Look up a key that is about to be started."""
+        coordinator = self._access.coordinator
+        finding = self.finding.setdefault(key, coordinator.loop.create_future())
+        try:
+            row = await coordinator.store.find(key)
+            if row is not None:
+                self.guessing.record_start(was_there=True)
+            return row
+        finally:
+            self.finding.pop(key, None)
+            if not finding.done():
+                finding.set_result(None)
+
+    async def row(self, key: str, of: int | None = None) -> SagaRow:
+        """Return the row of a saga. Raises `NoSuchSaga`.
+
+        `of` is the id of the saga, if a later saga with the same key is not meant.
+        """
+        row = await self._access.coordinator.store.find(key)
+        if row is None or (of is not None and row.id != of):
+            if row is None:
+                raise NoSuchSaga(f"no saga has the key {key!r}")
+            raise NoSuchSaga(
+                f"the saga with the key {key!r} that this request was for does not exist any more"
+            )
+        return row
+
+    def wait(self, key: str, timeout: float | None) -> Coroutine[Any, Any, SagaResult]:
+        """Wait until a saga has ended, for at most `timeout` seconds."""
+        if timeout is not None:
+            work = self.until_ended(key)
+            return in_time(key, work, timeout, lambda: self.waits_for(key))
+        coordinator = self._access.coordinator_here()
+        if caller := current_step.waiter(coordinator.executor.calls.running):
+            return coordinator.waits.guard(caller, key, self.until_ended(key))
+        return self.until_ended(key)
+
+    async def until_ended(self, key: str) -> SagaResult:
+        """Wait until a saga has ended, for callers that limit the time themselves."""
+        coordinator = self._access.coordinator_here()
+        live = coordinator.sagas.by_key.get(key)
+        if live is not None and live.has_unchecked_key:
+            live = await self.live(key)
+        if live is not None:  # the common case: this program executes it
+            try:
+                await coordinator.sagas.ends.wait(live)
+                if live.is_whole:
+                    return history.live_result(live)
+            except SagaMoved:
+                pass
+        over = await self.whole(key)
+        if isinstance(over, SagaInstance):
+            return history.live_result(over)
+        return await retries.until_answered(functools.partial(self._end_of, over))
+
+    async def _end_of(self, row: SagaRow) -> SagaResult:
+        coordinator = self._access.coordinator
+        known = await coordinator.store.known(row)
+        kind = coordinator.registry.kind(known.definition)
+        return history.stored_result(kind, row, known.results, known.shape)
+
+    async def whole(self, key: str) -> SagaInstance | SagaRow:
+        """Wait until a saga has ended; return the saga, or its row.
+
+        It is the row if large values of the saga are not in memory.
+        """
+        while True:
+            over = await self.over(key)
+            if isinstance(over, SagaRow) or over.is_whole:
+                return over
+            row = await retries.until_answered(lambda: self.row(key))
+            if row.phase is not None:
+                return row
+
+    async def over(self, key: str) -> SagaInstance | SagaRow:
+        """Wait until a saga has ended; return it if it was executed here, or its row."""
+        turn, coordinator = 0, self._access.coordinator_here()
+        while True:
+            live = await self.live(key)
+            if live is None:
+                row = await retries.until_answered(lambda: self.row(key))
+                if row.phase is not None:
+                    if record := coordinator.store.record:
+                        record.seen(row.id, "wake")
+                    return row
+                pending.check_refused(row)
+                if key not in self._access.coordinator.sagas.by_key:
+                    await coordinator.store.wait_for_end(row.id, turn)
+                    turn += 1
+            else:
+                try:
+                    await coordinator.sagas.ends.wait(live)
+                    return live
+                except SagaMoved:
+                    pass
+            coordinator = self._access.coordinator
+
+    async def waits_for(self, key: str) -> builtins.list[str]:
+        """Return what a saga waits for, in words.
+
+        The list is empty for a saga that another node executes.
+        """
+        live = self._access.coordinator.sagas.by_key.get(key)
+        if live is None and (row := await self._access.coordinator.store.find(key)) and row.id < 0:
+            return [pending.NO_NODE_YET]
+        return pending.live_waits(live)
+
+
+class Starter:
+    """Starts sagas. Without `accepts_new`, it only finds existing ones."""
+
+    def __init__(
+        self,
+        access: StoreAccess,
+        lookup: SagaLookup,
+        registry: DefinitionRegistry,
+        accepts_new: bool,
+    ) -> None:
+        self._access, self._lookup, self._registry = access, lookup, registry
+        self.accepts_new = accepts_new
+
+    def start(
+        self,
+        saga: Saga,
+        key: str,
+        input: Any,
+        labels: Labels | None,
+        deadline: Deadline | None,
+        traceparent: str | None = None,
+        token: str | None = None,
+    ) -> StartWork:
+        """Start a saga; return whether this start created it.
+
+        `token` is the name of a service's token.
+        """
+        coordinator = self._access.coordinator_here()
+        arguments.key(key)
+        undo_sagas.check_started(saga)
+        text = serialization.write_value(input, "input")
+        fitted = self._registry.fit(saga, text)
+        if saga.has_children:
+            children.check_key(key, saga)
+        options = start_options.NONE
+        if deadline is None:
+            deadline = saga.deadline
+        options_given = (labels, deadline, traceparent, token)
+        if any(option is not None for option in options_given):
+            deadline_time, saga_labels = deadline_at(deadline, coordinator.clock()), checked(labels)
+            saga_labels = (
+                saga_labels if token is None else with_token(saga_labels, token, len(text))
+            )
+            options = StartOptions(saga_labels, deadline_time, None, None, traceparent)
+        if fitted is None:
+            return self._shape(coordinator, saga, key, text, options, self.accepts_new)
+        return self._start(coordinator, saga, fitted, key, text, options, self.accepts_new)
+
+    def start_child(
+        self, saga: Saga | CompiledDefinition, key: str, input: Any, options: StartOptions
+    ) -> StartWork:
+        """Start a child, also if the store accepts no new sagas: its parent is not new.
+
+        A saga that undoes a child is passed as its compiled definition.
+        """
+        coordinator = self._access.coordinator_here()
+        arguments.key(key, or_child=True)
+        # the input of a saga that undoes a child contains the child's results
+        if isinstance(saga, CompiledDefinition):
+            text = serialization.write(input, "input")
+            return self._start(
+                coordinator, saga, Fitted(saga, None, None), key, text, options, accepts=True
+            )
+        text = serialization.write_value(input, "input")
+        fitted = self._registry.fit(saga, text)
+        if fitted is None:
+            return self._shape(coordinator, saga, key, text, options, accepts=True)
+        return self._start(coordinator, saga, fitted, key, text, options, accepts=True)
+
+    async def _shape(
+        self,
+        coordinator: Coordinator,
+        saga: Saga,
+        key: str,
+        text: str,
+        options: StartOptions,
+        accepts: bool,
+    ) -> bool:
+        """Start a saga whose steps come from its input, after computing the steps.
+
+        Its key is not taken before that.
+        """
+        fitted = await coordinator.declared.fit(self._registry, saga, text)
+        self._access.coordinator_here()  # it may be closed by now
+        return await self._start(coordinator, saga, fitted, key, text, options, accepts)
+
+    def _start(
+        self,
+        coordinator: Coordinator,
+        saga: Saga | CompiledDefinition,
+        fitted: Fitted,
+        key: str,
+        text: str,
+        options: StartOptions,
+        accepts: bool,
+    ) -> StartWork:
+        kind, shape, invalid = fitted
+        if shape is not None:
+            options = dataclasses.replace(options, shape=shape)
+        text = self._registry.payloads.encode(text)
+        is_new = invalid is None and accepts and key not in coordinator.sagas.by_key
+        if is_new and self._lookup.guessing.may_skip_lookup():  # judging by the last starts
+            assert kind
+            new = coordinator.sagas.add(key, text, kind, options)
+            return self._begin(coordinator, new, guessed=True)
+        return self._start_looked_up(coordinator, saga, fitted, key, text, options, accepts)
+
+    async def _start_looked_up(
+        self,
+        coordinator: Coordinator,
+        saga: Saga | CompiledDefinition,
+        fitted: Fitted,
+        key: str,
+        text: str,
+        options: StartOptions,
+        accepts: bool,
+    ) -> bool:
+        """Start a saga after looking up its key."""
+        lookup, payloads = self._lookup, self._registry.payloads
+        kind, _, invalid = fitted
+        live = coordinator.sagas.by_key.get(key)
+        is_sound = invalid is None and accepts
+        if live is not None and live.has_unchecked_key:
+            live = await lookup.live(key)
+        # otherwise its key is looked up with others, when it is assigned to a shard
+        looks = coordinator.store.shared or not is_sound
+        row = await lookup.find(key) if looks and live is None else None
+        live = coordinator.sagas.by_key.get(key)  # another start may have arrived
+        stored = (live.kind.name, live.text) if live else (row.saga, row.input) if row else None
+        if live and live.text == ABSENT and (row := await coordinator.store.find(key)):
+            stored = row.saga, row.input
+        if stored:
+            kind_or_saga, store = kind or saga, coordinator.store
+            error = await relocation.conflict_with_stored(
+                store, key, kind_or_saga, text, *stored, payloads
+            )
+            if error and live and not live.committed and not coordinator.store.shared:
+                # that start may have no right to the key either
+                row = await coordinator.store.find(key)
+                if row:
+                    stored = row.saga, row.input
+                    error = await relocation.conflict_with_stored(
+                        store, key, kind_or_saga, text, *stored, payloads
+                    )
+                    live = None
+            if error:
+                raise error
+        elif not accepts:
+            raise Closed(
+                f"{self._access.path}: opened with accept_new=False, so it starts no new sagas"
+            )
+        elif invalid:
+            raise invalid
+        else:
+            assert kind
+            new = coordinator.sagas.add(key, text, kind, options)
+            return await self._begin(coordinator, new, guessed=False)
+        if live and not live.committed:
+            await coordinator.sagas.started(live)
+        elif live is None:  # another node wrote it, and may not know yet that it is stored
+            await coordinator.store.replicated()
+        return False
+
+    async def _begin(self, coordinator: Coordinator, live: SagaInstance, guessed: bool) -> bool:
+        """Start a saga whose key seems to be free; return False if another node was first."""
+        live.guessed = guessed
+        # before it is assigned, since it may be stored or refused at once
+        stored = coordinator.sagas.started(live)
+        coordinator.shards.assign(live)
+        try:
+            await stored
+        except KeyConflict:
+            self._lookup.guessing.record_start(was_there=True)
+            raise
+        except StoreUnavailable:
+            if not (guessed and await self._is_there(live)):
+                raise
+        self._lookup.guessing.record_start(was_there=not live.committed)
+        return live.committed
+
+    async def _is_there(self, live: SagaInstance) -> bool:
+        """Return whether the store has a saga whose start has failed.
+
+        Raises `KeyConflict` and `StoreUnavailable`.
+        """
+        row = await self._lookup.find(live.key)
+        if row is None:
+            return False
+        store = self._access.coordinator.store
+        error = await relocation.conflict_with_stored(
+            store, live.key, live.kind, live.text, row.saga, row.input
+        )
+        if error:
+            raise error
+        return True

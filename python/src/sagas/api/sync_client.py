@@ -9,10 +9,8 @@ from typing import TYPE_CHECKING, Any
 import psycopg
 
 from sagas.api import client_start
-from sagas.api.client import Client
-from sagas.api.client_run import ClientRun
-from sagas.api.facade import Facade, blocking
-from sagas.api.loop_thread import Loop
+from sagas.api.client import Client, ClientRun
+from sagas.api.loop_thread import Facade, Loop, blocking
 from sagas.core.results import SagaResult
 from sagas.definition.blobs import BlobStore
 from sagas.definition.labels import Labels

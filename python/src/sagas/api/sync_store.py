@@ -1,24 +1,27 @@
-"""The store for programs without async code."""
+"""The store for programs without async code, and how it is opened."""
 
 from __future__ import annotations
 
 import asyncio
+import functools
+import inspect
 import signal
 import threading
+from collections.abc import Callable
 from types import TracebackType
-from typing import TYPE_CHECKING, Any
+from typing import TYPE_CHECKING, Any, ParamSpec
 
+from sagas.api.loop_thread import Facade, Loop, blocking, blocking_plain
+from sagas.api.store import Run, Store, open
 from sagas.base.errors import InvalidStore
-from sagas.api.facade import Facade, blocking_plain, blocking
-from sagas.api.loop_thread import Loop
-from sagas.api.run import Run
-from sagas.api.store import Store
 from sagas.core.results import SagaResult
 from sagas.definition.labels import Labels
 from sagas.definition.payloads import Codec
 from sagas.definition.saga import Saga
 from sagas.definition.start_options import Deadline
 from sagas.definition.step import Seconds
+
+P = ParamSpec("P")
 
 
 class SyncRun(Facade[Run]):
@@ -219,3 +222,23 @@ class SyncStore(Facade[Store]):
     plan = blocking(Store.plan)
     draw = blocking(Store.draw)
     audit = blocking(Store.audit)
+
+
+def _without_async(make: Callable[P, Store]) -> Callable[P, SyncStore]:
+    @functools.wraps(make, assigned=())
+    def open_sync(*args: P.args, **kwargs: P.kwargs) -> SyncStore:
+        return SyncStore(make(*args, **kwargs))
+
+    signature = inspect.signature(make)
+    details = (make.__doc__ or "").partition("\n")[2].partition("Example:")[0].rstrip()
+    details = details.replace("`async with`", "`with`")
+    vars(open_sync)["__signature__"] = signature.replace(return_annotation="SyncStore")
+    open_sync.__annotations__ = {**make.__annotations__, "return": "SyncStore"}
+    open_sync.__qualname__ = "open_sync"
+    summary = 'Open a store without async: `with sagas.open_sync("trips.db", [trip]) as store`.'
+    open_sync.__doc__ = f"{summary}\n{details}"
+    return open_sync
+
+
+open_sync = _without_async(open)
+"""The blocking version of `open`: the loop runs in its own thread."""

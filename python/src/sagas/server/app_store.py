@@ -6,7 +6,7 @@ import inspect
 from collections.abc import Iterable, Mapping
 from typing import Any
 
-from sagas.api import opening
+from sagas.api import store as store_module
 from sagas.api.store import Store
 from sagas.api.sync_store import SyncStore
 from sagas.definition.saga import Saga
@@ -50,7 +50,7 @@ class AppStore:
 
 def _options_of(location: str, store: Store) -> dict[str, Any]:
     """Return the options of a store that differ from their defaults. Raises `ValueError`."""
-    defaults = inspect.signature(opening.open).parameters
+    defaults = inspect.signature(store_module.open).parameters
     set_options = {
         name: value
         for name, value in store.opened_with.items()

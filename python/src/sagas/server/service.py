@@ -12,9 +12,8 @@ from collections import OrderedDict
 from collections.abc import Awaitable
 from typing import TYPE_CHECKING, Any, TypeVar
 
-from sagas.api import opening
-from sagas.api.run import Run
-from sagas.api.store import Store
+from sagas.api import store
+from sagas.api.store import Run, Store
 from sagas.base.errors import (
     DefinitionError,
     KeyConflict,
@@ -29,8 +28,7 @@ from sagas.definition import tokens
 from sagas.definition.compiled import version_of
 from sagas.definition.labels import Labels
 from sagas.definition.saga import Saga
-from sagas.inspection import activity
-from sagas.inspection import saga as one_saga
+from sagas.inspection import activity, saga as one_saga
 from sagas.inspection.question import Question
 from sagas.inspection.stored_values import stored
 from sagas.inspection.views import SagaView
@@ -91,7 +89,7 @@ class Service:
         self.places = ConcurrencyLimits(settings.places)
         streams = settings.streams
         self.streams = Streams(streams.most, streams.most_each, streams.kept)
-        self.store: Store = opening.open(
+        self.store: Store = store.open(
             settings.path,
             settings.sagas,
             on_event=self._event,

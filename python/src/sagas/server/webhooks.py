@@ -11,7 +11,7 @@ import contextlib
 import logging
 import random
 
-from sagas.api.deliveries import Deliveries
+from sagas.api.claims import Deliveries
 from sagas.base.errors import Closed, SagasError
 from sagas.base.events import Event
 from sagas.core.announcements import TYPES
