@@ -17,14 +17,12 @@ from sagas.api.schedules import Schedules
 from sagas.base.errors import Closed, InvalidStore, NoSuchSaga
 from sagas.base.fork_guard import OpenState
 
-from sagas.core import pending
-from sagas.core import attention, history, step_reports
+from sagas.core import attention, history, pending, step_reports
 from sagas.core.batch import StoredSaga, SagaRow
 from sagas.core.outcomes import Outcome, reported_outcome
 from sagas.core.results import HistoryEvent, SagaResult
 from sagas.definition import arguments, children, payloads, serialization
-from sagas.definition.blobs import LEAST, BlobStore
-from sagas.definition.blobs import check as check_blobs
+from sagas.definition.blobs import BlobStore, LEAST, check as check_blobs
 from sagas.definition.compiled import CompiledDefinition, version_of
 from sagas.definition.labels import Labels
 from sagas.definition.payloads import Codec, Payloads
@@ -38,9 +36,15 @@ from sagas.runtime import operator_commands, retries
 from sagas.storage import operator_requests, queries
 from sagas.storage.blob_layer import Blobs
 from sagas.storage.factory import FORM
-from sagas.storage.postgresql import caller_connection, codec_note
-from sagas.storage.postgresql import connections as connections_module
-from sagas.storage.postgresql import key_finder, notifications, saga_requests, schema
+from sagas.storage.postgresql import (
+    caller_connection,
+    connections as connections_module,
+    lookups,
+    node_lease,
+    notifications,
+    saga_requests,
+    schema,
+)
 from sagas.storage.record_file import RecordFile, record_path
 
 if TYPE_CHECKING:
@@ -162,7 +166,7 @@ class Client(Schedules):
                     f"{self.path}: the store has no tables yet. Start a node, or run `sagas store "
                     "URL init`"
                 )
-            await codec_note.agree(self._asker, self._payloads.codec is not None)
+            await node_lease.agree_on_encoding(self._asker, self._payloads.codec is not None)
             if self._record:
                 self._record.open()
         except BaseException:
@@ -342,7 +346,7 @@ class Client(Schedules):
         if row.phase is not None:
             await self._check_kept(row, name, kind, outcome)
             return
-        await codec_note.agree(self._asker, self._payloads.codec is not None)
+        await node_lease.agree_on_encoding(self._asker, self._payloads.codec is not None)
         command, arguments = operator_commands.report_command(
             name, kind, outcome, early, self._payloads
         )
@@ -432,7 +436,7 @@ class Client(Schedules):
 
     async def _find(self, key: str) -> SagaRow | None:
         keys = [serialization.clean(key)] if isinstance(key, str) else []  # only texts are keys
-        rows = [SagaRow(*row) for row in await self._ask(key_finder.FIND, keys=json.dumps(keys))]
+        rows = [SagaRow(*row) for row in await self._ask(lookups.FIND, keys=json.dumps(keys))]
         return max(rows, key=lambda row: row.id) if rows else None
 
     async def _row(self, key: str) -> SagaRow:
