@@ -35,7 +35,7 @@ from sagas.inspection.question import AsyncStoreReader, Question
 from sagas.runtime import operator_commands, retries
 from sagas.storage import operator_requests, queries
 from sagas.storage.blob_layer import Blobs
-from sagas.storage.factory import FORM
+from sagas.storage.store_name import FORM
 from sagas.storage.postgresql import (
     caller_connection,
     connections as connections_module,

@@ -27,19 +27,17 @@ from sagas.core.batch import SagaRow
 from sagas.core.model import SagaInstance
 from sagas.core.results import SagaResult
 from sagas.definition import arguments, payloads, tracing
-from sagas.definition.blobs import BlobStore
-from sagas.definition.blobs import check as check_blobs
+from sagas.definition.blobs import BlobStore, check as check_blobs
 from sagas.definition.shelf import DefinitionRegistry
 from sagas.definition.labels import Labels
 from sagas.definition.payloads import Codec
 from sagas.definition.saga import Saga
 from sagas.definition.start_options import Deadline
 from sagas.definition.step import Seconds
-from sagas.runtime import blob_sweep, current_step, operator_commands
-from sagas.runtime import retention as retention_module
+from sagas.runtime import blob_sweep, current_step, operator_commands, retention as retention_module
 from sagas.runtime.coordinator import Coordinator
 from sagas.runtime.scheduler import Scheduler
-from sagas.storage import factory
+from sagas.storage import factory, store_name
 from sagas.storage.blob_layer import BlobDatabase
 from sagas.storage.schedules import Schedule, Schedules
 
@@ -113,7 +111,7 @@ class Store(RetryCalls):
         )
         self._teller, self._program = EventEmitter(on_event, clock), program
         super().__init__(
-            StoreAccess("PostgreSQL" if factory.is_url(self._name) else self._name), self._name
+            StoreAccess("PostgreSQL" if store_name.is_url(self._name) else self._name), self._name
         )
         self._starter = Starter(self._access, self._lookup, self._registry, accept_new)
         self._reports.starter = self._starter

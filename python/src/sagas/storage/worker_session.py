@@ -14,7 +14,7 @@ from sagas.core.outcomes import Outcome
 from sagas.definition.payloads import PLAIN
 from sagas.definition.step import Function
 from sagas.storage import queries
-from sagas.storage.factory import is_url
+from sagas.storage.store_name import is_url
 
 BEGIN = """
 SELECT l.shard, e.attempt, e.outcome

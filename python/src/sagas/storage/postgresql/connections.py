@@ -31,13 +31,13 @@ from psycopg import conninfo, errors
 from psycopg_pool import AsyncConnectionPool, PoolTimeout
 
 from sagas.base.errors import InvalidStore, StoreUnavailable
-from sagas.storage.factory import FORM, is_url
 from sagas.storage.postgresql import replication
 from sagas.storage.postgresql.replication import (
     NotReplicated,
     PlainStoreConnection,
     StoreConnection,
 )
+from sagas.storage.store_name import FORM, is_url
 
 PATIENCE = 20.0
 """Seconds that a statement may take.

@@ -19,19 +19,19 @@ from sagas.definition.serialization import clean
 from sagas.storage import external
 from sagas.storage.deliveries import Deliveries
 from sagas.storage.external import (
-    OPEN,
-    REPORT_COUNTS,
+    Batcher,
     Claim,
     ClaimRequest,
     ExternalRequest,
     Heartbeat,
+    OPEN,
     QueueState,
+    REPORT_COUNTS,
     Report,
     ReportRequest,
     Row,
     earlier,
 )
-from sagas.storage.lots import Batcher
 from sagas.storage.postgresql import connections, notifications, wire
 from sagas.storage.postgresql.connections import Asker
 

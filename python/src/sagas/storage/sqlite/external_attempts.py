@@ -15,20 +15,20 @@ from sagas.core.batch import Batch
 from sagas.definition.serialization import clean
 from sagas.storage.deliveries import Deliveries
 from sagas.storage.external import (
-    OPEN,
-    REPORTED_IN_PAIRS,
-    REPORT_COUNTS,
+    Batcher,
     Claim,
     ClaimRequest,
     ExternalRequest,
     Heartbeat,
+    OPEN,
     QueueState,
+    REPORTED_IN_PAIRS,
+    REPORT_COUNTS,
     Report,
     ReportRequest,
     Row,
     earlier,
 )
-from sagas.storage.lots import Batcher
 from sagas.storage.sqlite.writer import SPANS
 
 MOST = 200
