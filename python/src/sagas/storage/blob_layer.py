@@ -351,11 +351,11 @@ class BlobDatabase:
         return loaded
 
     async def known(self, row: SagaRow) -> StoredSaga:
-        """See `StoreReader.known`."""
+        """See `Database.known`."""
         return await self._whole(await self._inner.known(row))
 
     async def history(self, row: SagaRow) -> StoredSaga:
-        """See `StoreReader.history`."""
+        """See `Database.history`."""
         return await self._whole(await self._inner.history(row))
 
     async def _whole(self, known: StoredSaga) -> StoredSaga:
@@ -364,15 +364,15 @@ class BlobDatabase:
         return known._replace(results=results, shape=shape)
 
     async def read(self, query: str, *arguments: Any) -> list[Row]:
-        """See `StoreReader.read`."""
+        """See `Database.read`."""
         return await self.blobs.rows(await self._inner.read(query, *arguments))
 
     async def read_stored(self, query: str, *arguments: Any) -> list[Row]:
-        """See `StoreReader.read_stored`."""
+        """See `Database.read_stored`."""
         return await self._inner.read(query, *arguments)
 
     async def read_long(self, query: str, *arguments: Any) -> list[Row]:
-        """See `StoreReader.read_long`."""
+        """See `Database.read_long`."""
         return await self.blobs.rows(await self._inner.read_long(query, *arguments))
 
     async def swept(self) -> int:

@@ -581,10 +581,6 @@ class PostgreSQL(queries.Questions):
         """Return another connection, for a thread that only reads."""
         return Reader(self.url, self.path)
 
-    def find_now(self, key: str) -> SagaRow | None:
-        """Raise an error: a database cannot answer at once."""
-        raise NotImplementedError
-
     def find_many(self, keys: Sequence[str]) -> dict[str, SagaRow]:
         """Raise an error: a database cannot answer at once."""
         raise NotImplementedError

@@ -3,6 +3,7 @@
 from __future__ import annotations
 
 import asyncio
+import bisect
 import contextlib
 import functools
 import os
@@ -24,6 +25,7 @@ from sagas.base.errors import (
 )
 from sagas.base.fork_guard import private_descriptors
 from sagas.base.logger import logger
+from sagas.core import undo_check
 from sagas.core.batch import (
     Grant,
     LoadedShard,
@@ -33,6 +35,7 @@ from sagas.core.batch import (
     SagaRow,
     ShardRow,
 )
+from sagas.core.undo_check import CompletedChild
 from sagas.definition.payloads import Payloads
 from sagas.definition.serialization import cleaned
 from sagas.definition.step import Bounds
@@ -79,7 +82,7 @@ def migrate_file(path: str) -> str:
     )
 
 
-class Sqlite(queries.Questions, queries.Rows):
+class Sqlite(queries.Questions):
     """The file and its lock.
 
     Short reads happen in the loop, and long ones in a thread. A `Writer` writes.
@@ -331,11 +334,37 @@ class Sqlite(queries.Questions, queries.Rows):
         except sqlite3.Error as error:
             raise StoreUnavailable(f"{self.path}: {error}") from error
 
+    def open_logs(self) -> list[ShardRow]:
+        """Return the shards that are not closed, in order."""
+        rows = self.rows(f"{queries.LOGS} WHERE closed = 0 ORDER BY shard")
+        definitions = self.rows(queries.TEXTS, rows[0][0], rows[-1][0]) if rows else []
+        texts = queries.texts_of(definitions)
+        return [
+            ShardRow(shard, name, texts.get(shard, []), opened, open, note=note)
+            for shard, name, note, opened, open in rows
+        ]
+
+    def places(self, shard: int) -> list[int]:
+        """Return the indexes of the definitions of a shard's open sagas."""
+        return [index for (index,) in self.rows(queries.PLACES, *queries.bounds(shard))]
+
+    def completed_children(self) -> dict[int, list[CompletedChild]]:
+        """Return the completed children below the open sagas of each shard."""
+        rows = self.rows(queries.COMPLETED_IN_FILE)
+        if not rows:
+            return {}
+        return undo_check.children_by_shard(rows, self.rows(queries.ALL_DEFINITIONS))
+
     def find_many(self, keys: Sequence[str]) -> dict[str, SagaRow]:
         """Return the sagas that have these keys, by key."""
-        return self.find_in_batches(
-            keys, functools.partial(self._read, self._writer.reader() or self._reader)
-        )
+        db, sagas = self._writer.reader() or self._reader, {}
+        for index in range(0, len(keys), queries.MOST_KEYS):
+            batch = [*keys[index : index + queries.MOST_KEYS]]
+            count = queries.COUNTS[bisect.bisect_left(queries.COUNTS, len(batch))]
+            batch += batch[:1] * (count - len(batch))
+            for row in self._read(db, queries.FIND_MANY[count], batch):
+                sagas[row[1]] = SagaRow(*row)
+        return sagas
 
     async def read(self, query: str, *parameters: Any) -> list[tuple[Any, ...]]:
         """See `rows`: the file can be read at once."""
@@ -386,7 +415,8 @@ class Sqlite(queries.Questions, queries.Rows):
 
     async def find(self, key: str) -> SagaRow | None:
         """Return the saga with this key."""
-        return self.find_now(key)
+        rows = self.rows(queries.FIND, key)
+        return SagaRow(*rows[0]) if rows else None
 
     async def requests(self, after: int, limit: int) -> list[PendingRequest]:
         """Return the requests without an answer."""
