@@ -1,4 +1,4 @@
-"""The database that a store's name selects."""
+"""The database that a store's name selects, and the session of a worker with it."""
 
 from __future__ import annotations
 
@@ -13,6 +13,7 @@ from sagas.storage.interface import Database
 from sagas.storage.record_file import record_path
 from sagas.storage.sqlite.storage import Sqlite
 from sagas.storage.store_name import check_name, is_url, missing_client
+from sagas.storage.worker_session import WorkerSession
 
 
 def make(
@@ -72,3 +73,14 @@ def make(
         record=record_path(record),
         encodes=definitions.payloads.codec is not None,
     )
+
+
+def open_worker_session(store: str) -> WorkerSession:
+    """Return a session with that store. It connects with its first query."""
+    if is_url(store):
+        from sagas.storage.postgresql.worker_session import PostgreSQLWorkerSession
+
+        return PostgreSQLWorkerSession(store)
+    from sagas.storage.sqlite.worker_session import SqliteWorkerSession
+
+    return SqliteWorkerSession(store)

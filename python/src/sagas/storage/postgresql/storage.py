@@ -237,7 +237,7 @@ class PostgreSQL(queries.Questions):
 
     def peers(self) -> Peers:
         """Return the calls between this node and the others."""
-        return PostgreSQLPeers(self)
+        return PostgreSQLPeers(self.url, self.asker, self.lease.node)
 
     def watch(self, watcher: Watcher) -> None:
         """Listen to notifications, and take over shards."""
