@@ -223,7 +223,8 @@ Answer = TypeVar("Answer")
 class Batcher(Generic[Item, Answer]):
     """Sends requests in batches, one batch after the other.
 
-    The items of a batch have the same group, or no group.
+    Concurrent callers share a transaction, as the batches of a commit do. The items of a batch have
+    the same group, or no group.
     """
 
     def __init__(
@@ -237,7 +238,7 @@ class Batcher(Generic[Item, Answer]):
 
         Args:
             ask: Returns the answers to a batch, in its order.
-            most: Maximum number of items in a batch.
+            limit: Maximum number of items in a batch.
             dropped: Called with an item and its answer if its caller was cancelled before the
                 answer.
             group: Returns the group of an item, or None (default: no item has a group).
