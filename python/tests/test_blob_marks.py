@@ -21,7 +21,7 @@ from test_blobs import LARGE, THRESHOLD, Memory, at, copy, values_in
 import sagas
 from sagas.core import attempts
 from sagas.definition.payloads import PLAIN
-from sagas.storage import blob_layer, blob_marks
+from sagas.storage import blob_layer
 
 OLD = datetime.timedelta(days=3).total_seconds()
 
@@ -174,7 +174,7 @@ def test_an_exact_copy_at_the_same_path(tmp_path: pathlib.Path) -> None:
         ]
         theirs = mark.with_name("0" * 32)
         mark.rename(theirs)  # as a store does that has this one's token
-        assert (await mine.renew()) == blob_marks.Location.read(
+        assert (await mine.renew()) == blob_layer.Location.read(
             theirs.read_bytes()
         ) and mark.exists()
         theirs.unlink()

@@ -26,7 +26,7 @@ from sagas.core.outcomes import SUCCEEDED, Outcome, failure, unknown
 from sagas.core.dispatch import Order
 from sagas.core.states import AttemptState
 from sagas.runtime.remote_steps import MAX_CARRIED
-from sagas.storage.worker_session import open_worker_session
+from sagas.storage.factory import open_worker_session
 
 T = TypeVar("T")
 

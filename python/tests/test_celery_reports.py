@@ -29,7 +29,7 @@ from sagas.core import outcomes
 from sagas.core.outcomes import Outcome
 from sagas.core.dispatch import Order
 from sagas.runtime import retention
-from sagas.storage.worker_session import open_worker_session
+from sagas.storage.factory import open_worker_session
 from sagas.storage.postgresql import worker_session
 
 

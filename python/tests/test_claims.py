@@ -23,7 +23,7 @@ from sagas.server.problems import Problem
 from sagas.server.routes import task_claims
 from sagas.server.settings import ConcurrencySettings
 from sagas.server.waiting_claims import WaitingClaims
-from sagas.storage.lots import Batcher
+from sagas.storage.external import Batcher
 
 WORD = [("far", "a", "run")]
 

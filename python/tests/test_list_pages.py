@@ -16,7 +16,7 @@ from sagas.inspection.question import StoreReader
 from sagas.server.routes import filters
 from sagas.storage import admin
 from sagas.storage.filters import NOTHING, Filter, Scope
-from sagas.storage.postgresql.reader import Reader as DatabaseReader
+from sagas.storage.postgresql.lookups import Reader as DatabaseReader
 from sagas.storage.sqlite.store_file import Reader as FileReader
 
 COUNT = 400

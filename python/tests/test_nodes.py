@@ -1063,7 +1063,7 @@ def test_an_end_is_noticed_without_a_notification(
     intervals.
     """
     monkeypatch.setattr(
-        "sagas.storage.postgresql.announcer.Announcer.say", lambda self, messages: None
+        "sagas.storage.postgresql.notifications.Announcer.say", lambda self, messages: None
     )
     monkeypatch.setattr(notifications, "FIRST_LOOK", 0.01)
     gate = asyncio.Event()

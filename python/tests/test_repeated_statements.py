@@ -12,7 +12,7 @@ from server import serving
 
 import sagas
 from sagas.storage.postgresql.connections import Asker
-from sagas.storage.postgresql.prepared import ReconnectingWire, array, numbered
+from sagas.storage.postgresql.wire import ReconnectingWire, array, numbered
 
 SLOW = "SELECT pg_sleep(0.3)::text || $1::text"
 

@@ -31,7 +31,7 @@ from witness import Witness, witness_at
 import sagas
 from sagas.base import program
 from sagas.cli import store_command
-from sagas.storage.postgresql import connections, hosts
+from sagas.storage.postgresql import connections
 
 
 def test_a_synchronous_standby_takes_over(tmp_path: pathlib.Path) -> None:
@@ -765,7 +765,9 @@ def test_a_primary_that_was_replaced_and_lives(by: str, monkeypatch: pytest.Monk
             assert (await ended(store, kind, "before")).ok
             assert (await (await client.start(kind, "too")).wait()).ok
             if by == "late":
-                monkeypatch.setattr(hosts, "timeline_of", noted(looks, hosts.timeline_of))
+                monkeypatch.setattr(
+                    connections, "timeline_of_host", noted(looks, connections.timeline_of_host)
+                )
                 await asyncio.to_thread(pair.hold_back)
                 await until(lambda: looks)
             await asyncio.to_thread(pair.standby.promote)

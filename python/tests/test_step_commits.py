@@ -28,7 +28,7 @@ from relay import relaying
 from server import Server, paired, serving
 
 import sagas
-from sagas.storage.postgresql.step_protocol import Prepares
+from sagas.storage.postgresql.step_connections import Prepares
 
 BOOK = "INSERT INTO book(key, step, token) VALUES(%s, %s, %s)"
 ORDERS = (
@@ -442,7 +442,7 @@ def test_few_statements_are_kept(url: str, monkeypatch: pytest.MonkeyPatch) -> N
     """Commits of many forms continue over one connection, which frees its prepared statements
     before they are too many for the server.
     """
-    monkeypatch.setattr("sagas.storage.postgresql.prepared.MOST", 3)
+    monkeypatch.setattr("sagas.storage.postgresql.wire.MOST", 3)
     prepare(url)
     kind = three()
 

@@ -108,7 +108,7 @@ from sagas.definition.task import Task
 from sagas.engine.library import InvalidText, Verdict, audit, check, plan
 from sagas.engine.plan import Choice, Plan
 from sagas.runtime.leased_tasks import Heartbeat, LeasedTask, Queue
-from sagas.storage import factory
+from sagas.storage import store_name
 from sagas.storage.batches import BatchResult
 from sagas.storage.folder_blobs import FolderBlobStore
 from sagas.storage.postgresql.blob_store import PostgresBlobStore
@@ -141,7 +141,7 @@ def __getattr__(name: str) -> Any:
     try:
         module = importlib.import_module(f".{LATER[name]}", __name__)
     except ImportError as error:
-        raise factory.missing(error) from error
+        raise store_name.missing_client(error) from error
     return getattr(module, name)
 
 

@@ -33,12 +33,12 @@ from sagas.inspection.question import AsyncStoreReader, Question
 from sagas.runtime import operator_commands, retries
 from sagas.storage import operator_requests, queries
 from sagas.storage.blob_layer import Blobs
-from sagas.storage.factory import FORM
+from sagas.storage.store_name import FORM
 from sagas.storage.postgresql import (
     caller_connection,
-    codec_note,
     connections as connections_module,
-    key_finder,
+    lookups,
+    node_lease,
     notifications,
     saga_requests,
     schema,
@@ -164,7 +164,7 @@ class Client(SharedCalls):
                     f"{self.path}: the store has no tables yet. Start a node, or run `sagas store "
                     "URL init`"
                 )
-            await codec_note.agree(self._asker, self._payloads.codec is not None)
+            await node_lease.agree_on_encoding(self._asker, self._payloads.codec is not None)
             if self._record:
                 self._record.open()
         except BaseException:
@@ -344,7 +344,7 @@ class Client(SharedCalls):
         if row.phase is not None:
             await self._check_kept(row, name, kind, outcome)
             return
-        await codec_note.agree(self._asker, self._payloads.codec is not None)
+        await node_lease.agree_on_encoding(self._asker, self._payloads.codec is not None)
         command, arguments = operator_commands.report_command(
             name, kind, outcome, early, self._payloads
         )
@@ -434,7 +434,7 @@ class Client(SharedCalls):
 
     async def _find(self, key: str) -> SagaRow | None:
         keys = [serialization.clean(key)] if isinstance(key, str) else []  # only texts are keys
-        rows = [SagaRow(*row) for row in await self._ask(key_finder.FIND, keys=json.dumps(keys))]
+        rows = [SagaRow(*row) for row in await self._ask(lookups.FIND, keys=json.dumps(keys))]
         return max(rows, key=lambda row: row.id) if rows else None
 
     async def _row(self, key: str) -> SagaRow:

@@ -48,7 +48,7 @@ from sagas.runtime import (
 from sagas.runtime.children import ChildEnd
 from sagas.runtime.coordinator import Coordinator
 from sagas.runtime.scheduler import Scheduler
-from sagas.storage import factory
+from sagas.storage import factory, store_name
 from sagas.storage.blob_layer import BlobDatabase
 from sagas.storage.schedules import Schedule, Schedules
 
@@ -209,7 +209,7 @@ class Store(Operators):
             else arguments.time("shutdown_timeout", shutdown_timeout)
         )
         self._teller, self._program = EventEmitter(on_event, clock), program
-        access = StoreAccess("PostgreSQL" if factory.is_url(self._name) else self._name)
+        access = StoreAccess("PostgreSQL" if store_name.is_url(self._name) else self._name)
         super().__init__(access, self._name, self._registry, accept_new)
         self._requests: operator_commands.RequestExecutor | None = None
         self.workers = Workers(self._access)

@@ -19,7 +19,8 @@ from sagas.core.dispatch import Order
 from sagas.definition.saga import Saga
 from sagas.definition.decorators import Declare
 from sagas.definition.step import Manner, Step
-from sagas.storage.worker_session import WorkerSession, open_worker_session
+from sagas.storage.factory import open_worker_session
+from sagas.storage.worker_session import WorkerSession
 
 if TYPE_CHECKING:
     from sagas.storage.interface import Database

@@ -16,7 +16,7 @@ from celery.worker.control import inspect_command
 
 from sagas.base.errors import WrongStore
 from sagas.base.logger import logger
-from sagas.storage.factory import is_url
+from sagas.storage.store_name import is_url
 
 if TYPE_CHECKING:
     from sagas.celery import Queue

@@ -26,7 +26,7 @@ from sagas.inspection import lists
 from sagas.inspection.names import step_names
 from sagas.inspection.views import Waits
 from sagas.runtime.operator_commands import step_arguments
-from sagas.storage import admin, codec_note, factory
+from sagas.storage import admin, codec_note, store_name
 from sagas.storage.admin import Trouble
 from sagas.storage.batches import Batch
 from sagas.storage.operator_requests import reason
@@ -175,7 +175,7 @@ def request(
     elif answer is None:
         when = (
             "a node executes the saga (run `sagas store URL nodes`)"
-            if factory.is_url(path)
+            if store_name.is_url(path)
             else "the program handles it"
         )
         print(

@@ -11,7 +11,7 @@ from sagas.definition.payloads import PLAIN
 from sagas.storage import admin
 from sagas.storage.admin import CANNOT, Trouble
 from sagas.storage.blob_layer import Blobs
-from sagas.storage.blob_option import blobs_of
+from sagas.storage.folder_blobs import blobs_of
 
 SECRET = "SELECT value FROM secrets WHERE name = 'leases'"
 

@@ -7,7 +7,7 @@ from typing import Any
 
 from sagas.cli import nodes as nodes_module
 from sagas.cli.formatting import GOOD, moment, show_json, table
-from sagas.storage import factory
+from sagas.storage import store_name
 from sagas.storage.sqlite import storage
 
 
@@ -81,7 +81,7 @@ def migrate(path: str, options: argparse.Namespace) -> int:
     """Migrate the tables to the version of this release, as opening the store does."""
     print(
         nodes_module.init(path, None)
-        if path.startswith(factory.SCHEMES)
+        if path.startswith(store_name.SCHEMES)
         else storage.migrate_file(path)
     )
     return GOOD

@@ -9,7 +9,7 @@ from typing import Any
 
 from sagas.definition.capacity import SHARD_CAPACITY
 from sagas.definition.compiled import name_of, version_of
-from sagas.storage import factory, queries
+from sagas.storage import queries, store_name
 from sagas.storage.admin import DatabaseSource, Trouble
 
 OPEN = f"""s.id >= l.shard * {SHARD_CAPACITY} AND s.id < (l.shard + 1) * {SHARD_CAPACITY}
@@ -48,8 +48,8 @@ GROUP BY saga, version, digest, fits, others ORDER BY saga, version, digest
 
 def is_database(name: str) -> None:
     """Raise `Trouble` if the store is a file."""
-    factory.check_name(name)
-    if not factory.is_url(name):
+    store_name.check_name(name)
+    if not store_name.is_url(name):
         raise Trouble(f"{name} is a SQLite file. This command needs a PostgreSQL store", 2)
 
 
@@ -117,7 +117,7 @@ def init(name: str, role: str | None) -> str:
     try:
         from sagas.storage.postgresql import connections, schema
     except ImportError as error:
-        raise factory.missing(error) from error
+        raise store_name.missing_client(error) from error
     database = connections.named(name)
     with connections.translate_errors(database):
         link = connections.connect_now(name)

@@ -25,8 +25,7 @@ from sagas.definition.context import Context
 from sagas.definition.declaration import Declaration
 from sagas.definition.decoders import Decoder
 from sagas.definition.layout import Layout
-from sagas.definition.payloads import PLAIN as PLAIN_PAYLOADS
-from sagas.definition.payloads import Payloads
+from sagas.definition.payloads import PLAIN as PLAIN_PAYLOADS, Payloads
 from sagas.definition.place import StepLocation
 from sagas.definition.saga import Saga
 from sagas.definition.shape_values import ShapeValues

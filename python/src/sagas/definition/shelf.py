@@ -19,9 +19,8 @@ from sagas.definition import (
 from sagas.definition.capacity import MOST_DEFINITIONS, SHARD_CAPACITY
 from sagas.definition.compiled import Hooks, CompiledDefinition, name_of, version_of
 from sagas.definition.context import Context
-from sagas.definition.payloads import PLAIN as PLAIN_PAYLOADS
+from sagas.definition.payloads import PLAIN as PLAIN_PAYLOADS, Payloads
 from sagas.definition.listed_steps import of as listed_steps
-from sagas.definition.payloads import Payloads
 from sagas.definition.saga import Saga
 from sagas.definition.shape import Shape
 from sagas.definition.shaped_kinds import ShapedKinds

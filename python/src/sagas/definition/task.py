@@ -12,9 +12,11 @@ from sagas.definition.collection import Collection, of_names
 from sagas.definition.control import Cancellation, Progress
 from sagas.definition.place import NO_ITEM, StepLocation
 from sagas.definition.selection import Selection
-from sagas.definition.task_data import TaskData as TaskData
-from sagas.definition.task_data import TaskSnapshot as TaskSnapshot
-from sagas.definition.task_data import snapshot as snapshot
+from sagas.definition.task_data import (
+    TaskData as TaskData,
+    TaskSnapshot as TaskSnapshot,
+    snapshot as snapshot,
+)
 
 I = TypeVar("I")
 R = TypeVar("R")

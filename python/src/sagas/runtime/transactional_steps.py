@@ -26,9 +26,14 @@ from sagas.definition.task import Task
 from sagas.runtime import invocation
 from sagas.storage.postgresql import step_commit
 from sagas.storage.postgresql.step_commit import TABLE, UNPREPARED, Fence
-from sagas.storage.postgresql.step_connections import AsyncStepLink, StepLink, is_prepared
+from sagas.storage.postgresql.step_connections import (
+    AsyncStepLink,
+    Prepares,
+    StepLink,
+    check_whole,
+    is_prepared,
+)
 from sagas.storage.postgresql.step_pool import REST, Loan, Pool, Reservation
-from sagas.storage.postgresql.step_protocol import Prepares, check_whole
 
 if TYPE_CHECKING:
     from concurrent.futures import Executor

@@ -24,8 +24,7 @@ from sagas.base import module_values
 from sagas.base.errors import DefinitionError, InvalidStore, SagasError
 from sagas.base.option_values import age, integer_from, positive
 from sagas.definition import arguments, payloads
-from sagas.definition.blobs import LEAST
-from sagas.definition.blobs import check as check_blobs
+from sagas.definition.blobs import LEAST, check as check_blobs
 from sagas.server import auth, definition_files, log_format
 from sagas.server.app_store import AppStore
 from sagas.server.quotas import Quota
@@ -40,7 +39,7 @@ from sagas.server.settings import (
     is_loopback,
 )
 from sagas.server.webhook_file import WebhookFault
-from sagas.storage import blob_option, factory
+from sagas.storage import folder_blobs, store_name
 
 GOOD, NO, USAGE, CANNOT, OVERDUE, INTERRUPTED = 0, 1, 2, 4, 5, 130
 GARBAGE = 5000
@@ -330,7 +329,7 @@ def loaded(option: str, location: str) -> Any:
 def blobs_of(location: str | None) -> Any:
     """Return the blob store of an option. Raises `Trouble`."""
     try:
-        return None if location is None else blob_option.blobs_of(location)
+        return None if location is None else folder_blobs.blobs_of(location)
     except ValueError as error:
         raise Trouble(str(error)) from error
 
@@ -393,10 +392,10 @@ def settings_of(parsed: argparse.Namespace) -> Settings:
     if not sagas:
         raise Trouble("nothing to serve: pass --definitions DIR or --app MODULE:NAME")
     try:
-        factory.check_name(parsed.path)
+        store_name.check_name(parsed.path)
     except InvalidStore as error:
         raise Trouble(str(error)) from error
-    if not factory.is_url(parsed.path):
+    if not store_name.is_url(parsed.path):
         if parsed.record:
             raise Trouble("--record requires a postgresql:// URL")
         file = pathlib.Path(parsed.path)

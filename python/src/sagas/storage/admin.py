@@ -17,7 +17,7 @@ from typing import Any, Protocol
 
 from sagas.base.errors import SagasError, StoreUnavailable
 from sagas.definition.serialization import cleaned
-from sagas.storage import factory, queries
+from sagas.storage import queries, store_name
 from sagas.storage.filters import Filter
 from sagas.storage.operator_requests import ANSWER, ASK, ASK_START, WITHDRAW
 from sagas.storage.sqlite import store_file
@@ -274,7 +274,7 @@ class DatabaseSource:
             from sagas.storage.postgresql import connections
             from sagas.storage.postgresql import schema as schema
         except ImportError as error:
-            raise factory.missing(error) from error
+            raise store_name.missing_client(error) from error
 
         self.name = connections.named(url)
         self._translating_errors = functools.partial(connections.translate_errors, self.name)
@@ -393,8 +393,8 @@ class DatabaseSource:
 
 def connect(name: str, mode: str = "ro") -> Source:
     """Connect to a store. Raises `Trouble`, `StoreUnavailable`, `InvalidStore`."""
-    factory.check_name(name)
-    if factory.is_url(name):
+    store_name.check_name(name)
+    if store_name.is_url(name):
         return DatabaseSource(name, mode)
     return FileSource(name, mode)
 

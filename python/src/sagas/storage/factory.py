@@ -1,8 +1,7 @@
-"""The database that a store's name selects."""
+"""The database that a store's name selects, and the session of a worker with it."""
 
 from __future__ import annotations
 
-import re
 from collections.abc import Callable
 from typing import Any
 
@@ -13,59 +12,8 @@ from sagas.definition.shelf import DefinitionRegistry
 from sagas.storage.interface import Database
 from sagas.storage.record_file import record_path
 from sagas.storage.sqlite.storage import Sqlite
-
-SCHEMES = ("postgresql:", "postgres:")
-FORM = "postgresql://user@host/database"
-NO_FILE = re.compile(
-    r"(?P<scheme>[a-z][a-z0-9+.:-]*)://|(?P<url>postgres(?:ql)?(?::|//|/[^/]*@))"
-    r"|(?:host|hostaddr|port|dbname|user|password|passfile|service)\s*=|\w+\s*=.*\s\w+\s*=",
-    re.IGNORECASE | re.DOTALL,
-)
-"""Names that are meant for a database, and are not a valid URL of one."""
-
-
-def is_url(name: str) -> bool:
-    """Whether a name is that of a PostgreSQL database, and not of a file."""
-    return name.startswith(SCHEMES)
-
-
-def check_name(name: str) -> None:
-    """Check that a name is the path of a file, or the URL of a PostgreSQL database.
-
-    Raises `InvalidStore`, which says what to write instead. It repeats no text that may have a
-    password.
-    """
-    if is_url(name):
-        return
-    if not name or name == ":memory:" or name.startswith("file:"):
-        raise InvalidStore(
-            f"{name}: must be the path of a file. In memory, for a test: sagas.testing.run"
-        )
-    text = name.strip()
-    match = NO_FILE.match(text)
-    if match and match["scheme"] == "sqlite":
-        raise InvalidStore(
-            f"{name}: name a SQLite store by its path: "
-            f"{text[len('sqlite://'):].removeprefix('/')}"
-        )
-    if match:
-        form = f"{match['scheme']}://" if match["scheme"] else "a list of words"
-        if match["url"] or is_url(text):
-            form = "a URL behind a space" if is_url(text) else "a misspelled URL"
-        raise InvalidStore(f"{form}: a store is an SQLite file, or {FORM}")
-
-
-def missing(error: ImportError) -> InvalidStore:
-    """Return the error for a missing PostgreSQL client, with what to install."""
-    if error.name is None:  # psycopg is installed, but does not find libpq
-        return InvalidStore(
-            f"PostgreSQL: {str(error).splitlines()[0]} psycopg needs libpq: apt-get install "
-            "libpq5, or pip install 'psycopg[binary]'"
-        )
-    return InvalidStore(
-        f"PostgreSQL needs {error.name}: pip install psycopg psycopg_pool (the extra "
-        "`postgresql`), or apt-get install python3-psycopg python3-psycopg-pool"
-    )
+from sagas.storage.store_name import check_name, is_url, missing_client
+from sagas.storage.worker_session import WorkerSession
 
 
 def make(
@@ -105,7 +53,7 @@ def make(
     try:
         from sagas.storage.postgresql.storage import PostgreSQL
     except ImportError as error:
-        raise missing(error) from error
+        raise missing_client(error) from error
     compiled_names = {f"{kind.name}/{kind.version}": kind.text for kind in definitions.kinds}
     compiled_names |= {
         f"{saga.name}/{saga.version}": definition_text.declared(saga)
@@ -125,3 +73,14 @@ def make(
         record=record_path(record),
         encodes=definitions.payloads.codec is not None,
     )
+
+
+def open_worker_session(store: str) -> WorkerSession:
+    """Return a session with that store. It connects with its first query."""
+    if is_url(store):
+        from sagas.storage.postgresql.worker_session import PostgreSQLWorkerSession
+
+        return PostgreSQLWorkerSession(store)
+    from sagas.storage.sqlite.worker_session import SqliteWorkerSession
+
+    return SqliteWorkerSession(store)

@@ -1,4 +1,4 @@
-"""A blob store in a folder."""
+"""A blob store in a folder, and the option that names a blob store."""
 
 from __future__ import annotations
 
@@ -8,6 +8,9 @@ import pathlib
 import re
 import secrets
 from collections.abc import Iterator
+from typing import Any
+
+from sagas.base.module_values import load_reference
 
 KEY = re.compile(r"[0-9a-f]+(?:/[0-9a-f]+)*")
 PART, TRIES = ".part", 3
@@ -108,3 +111,16 @@ def _sync(folder: pathlib.Path) -> None:
         os.fsync(file)
     finally:
         os.close(file)
+
+
+def blobs_of(location: str) -> Any:
+    """Return the blob store that an option names.
+
+    Raises:
+        ValueError: It is neither a folder nor something that a module has.
+    """
+    if ":" in location:
+        return load_reference("--blobs", location)
+    if pathlib.Path(location).exists() and not pathlib.Path(location).is_dir():
+        raise ValueError(f"--blobs {location}: this is a file; pass a directory, or MODULE:NAME")
+    return FolderBlobStore(location)

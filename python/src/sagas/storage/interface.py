@@ -1,16 +1,31 @@
-"""Interfaces of a store's database: `Sqlite` and `PostgreSQL` implement them.
+"""The interface of a store's database, which `Sqlite` and `PostgreSQL` implement.
 
-Nothing else of the package knows which database a store has. Commits need a `CommitWriter`, and
-questions need a `StoreReader`. Only the coordinator and its parts need a whole `Database`.
+`factory.make` returns the `Database` that a store's name selects, and `blob_layer` may put a blob
+store before it. The program that opened the store knows its database only by this interface, and
+asks what it is able to do:
+
+- `shared`: whether other nodes may own shards. Then `peers` has the calls between the nodes.
+- `inside`: calls functions in transactions; None for a file.
+- `record`: the file that has each commit and each acknowledgement, if there is one.
+- `blobs`: the blob store of large values, if there is one.
+- `find_many`: only a file is read at once. A server has a reply for each `find`.
+- `commit_seconds`: 0 if it never makes sense to hold back a commit.
+
+Commits need only a `CommitWriter`, and a thread with questions needs only a `Reader`. The database
+calls a `Watcher` when something may have changed. Its tables of external attempts and of deliveries
+have their own interfaces (`external`, `deliveries`).
+
+Others have connections of their own: commands of operators (`admin`), workers (`worker_session`),
+and clients (`postgresql.caller_connection`, `postgresql.lookups`).
 
 A database holds keys, inputs, results, outcomes and the event log of each shard. It is the only
 truth. A commit writes a list of `Batch` objects (core/batch.py). A batch is what one shard gained
 at once. Functions are called, and callers are answered, only after the commit of their batch.
 
 A batch may open a saga without a lookup of its key (`Batch.guessed`). If the key is taken, the
-batch is not written, and its `then` is called with `Lost`. A database that is `shared` has more
-than one node: each shard has an owner and an epoch, which grows at each `load`. A batch is also
-lost if its shard or epoch is no longer that of its writer.
+batch is not written, and `then` is called with the shard as lost. A database that is `shared` has
+more than one node: each shard has an owner and an epoch, which grows at each `load`. A batch is
+also lost if its shard or epoch is no longer that of its writer.
 """
 
 from __future__ import annotations
@@ -49,7 +64,7 @@ CommitCallback = Callable[[Sequence[Batch], "BaseException | None", frozenset[in
 """Called with the batches, the error or None, and the shards that were lost.
 
 The error is what kept the batches from being written, as far as that is known. Nothing was written
-of the shards that were lost (`Lost`).
+of the shards that were lost.
 """
 
 FunctionCheck = Callable[[list[str], list[int], Sequence[CompletedChild]], "str | None"]
@@ -177,45 +192,7 @@ class CommitWriter(Protocol):
         """
 
 
-class StoreReader(Protocol):
-    """What questions need of a store's database.
-
-    `find_now` and `find_many` are for a file, and answer at once. All raise `StoreUnavailable` if
-    something cannot be read.
-    """
-
-    async def read(self, query: str, *parameters: Any) -> list[tuple[Any, ...]]:
-        """Return the rows of a query.
-
-        SQLite and PostgreSQL both understand the query, which has a `?` for each parameter.
-        """
-
-    async def read_stored(self, query: str, *parameters: Any) -> list[tuple[Any, ...]]:
-        """As `read`, with references in place of values that are in a blob store."""
-
-    async def read_long(self, query: str, *parameters: Any) -> list[tuple[Any, ...]]:
-        """As `read`, for rows that may have many megabytes."""
-
-    async def text(self, shard: int) -> str:
-        """Return a shard's event log, which may have many megabytes."""
-
-    async def known(self, row: SagaRow) -> StoredSaga:
-        """Return what the store has of a saga. Raises `NoSuchSaga` if it was deleted."""
-
-    async def history(self, row: SagaRow) -> StoredSaga:
-        """As `known`, with the chunks of the event log that name the saga."""
-
-    def reader(self) -> Reader:
-        """Return another connection, for a thread that only reads."""
-
-    def find_now(self, key: str) -> SagaRow | None:
-        """Return the saga with this key at once. See `Database.find`."""
-
-    def find_many(self, keys: Sequence[str]) -> dict[str, SagaRow]:
-        """Return the sagas that have these keys, by key."""
-
-
-class Database(CommitWriter, StoreReader, Protocol):
+class Database(CommitWriter, Protocol):
     """What the coordinator needs of a store's database.
 
     All calls are for the event loop in which it was opened. They raise `StoreUnavailable` if
@@ -300,6 +277,9 @@ class Database(CommitWriter, StoreReader, Protocol):
     async def find(self, key: str) -> SagaRow | None:
         """Return the saga with this key. Its input may be a reference to a blob."""
 
+    def find_many(self, keys: Sequence[str]) -> dict[str, SagaRow]:
+        """Return the sagas that have these keys, by key, at once. It is only for a file."""
+
     async def load(self, shard: int, epoch: int, born: NewShard | None) -> LoadedShard | None:
         """Return a shard as a runner loads it; None if another node owns it, or it is gone.
 
@@ -359,6 +339,32 @@ class Database(CommitWriter, StoreReader, Protocol):
         The pause grows with each turn. The caller then looks again.
         """
 
+    # -- questions
+
+    async def read(self, query: str, *parameters: Any) -> list[tuple[Any, ...]]:
+        """Return the rows of a query.
+
+        SQLite and PostgreSQL both understand the query, which has a `?` for each parameter.
+        """
+
+    async def read_stored(self, query: str, *parameters: Any) -> list[tuple[Any, ...]]:
+        """As `read`, with references in place of values that are in a blob store."""
+
+    async def read_long(self, query: str, *parameters: Any) -> list[tuple[Any, ...]]:
+        """As `read`, for rows that may have many megabytes."""
+
+    async def text(self, shard: int) -> str:
+        """Return a shard's event log, which may have many megabytes."""
+
+    async def known(self, row: SagaRow) -> StoredSaga:
+        """Return what the store has of a saga. Raises `NoSuchSaga` if it was deleted."""
+
+    async def history(self, row: SagaRow) -> StoredSaga:
+        """As `known`, with the chunks of the event log that name the saga."""
+
+    def reader(self) -> Reader:
+        """Return another connection, for a thread that only reads."""
+
 
 class StepCaller(StepTransactions, Protocol):
     """Calls functions in transactions, over connections of its own."""
@@ -373,7 +379,7 @@ class StepCaller(StepTransactions, Protocol):
     ) -> Outcome | None:
         """Call a function in a transaction that holds its result.
 
-        Raises `Lost` if it is unknown whether the transaction was committed.
+        Raises `ShardLost` if it is unknown whether the transaction was committed.
         """
 
     def close_idle(self) -> None:

@@ -5,16 +5,13 @@ SQLite and PostgreSQL both understand these queries, which have a `?` for each p
 
 from __future__ import annotations
 
-import bisect
 import json
-from collections.abc import Callable, Sequence
+from collections.abc import Sequence
 from typing import Any
 
 from sagas.base.errors import NoSuchSaga
-from sagas.core import undo_check
-from sagas.core.batch import StoredSaga, ShardRow, SagaRow
+from sagas.core.batch import SagaRow, StoredSaga
 from sagas.core.held_values import LARGE_VALUE
-from sagas.core.undo_check import CompletedChild
 from sagas.definition import arguments
 from sagas.definition.capacity import SHARD_CAPACITY
 from sagas.definition.children import UNDO
@@ -276,54 +273,6 @@ def damage_of(text: str, end: int) -> str | None:
     if events == end:
         return None
     return f"its event log has a gap: the last commit ends at event {end}, and {events} are there"
-
-
-class Rows:
-    """The queries that are answered at once, by `rows`."""
-
-    def rows(self, query: str, *parameters: Any) -> list[tuple[Any, ...]]:
-        """Return the rows of a query."""
-        raise NotImplementedError
-
-    def open_logs(self) -> list[ShardRow]:
-        """Return the shards that are not closed, in order."""
-        rows = self.rows(f"{LOGS} WHERE closed = 0 ORDER BY shard")
-        texts = texts_of(self.rows(TEXTS, rows[0][0], rows[-1][0]) if rows else [])
-        return [
-            ShardRow(shard, name, texts.get(shard, []), opened, open, note=note)
-            for shard, name, note, opened, open in rows
-        ]
-
-    def places(self, shard: int) -> list[int]:
-        """Return the indexes of the definitions of a shard's open sagas."""
-        return [index for (index,) in self.rows(PLACES, *bounds(shard))]
-
-    def completed_children(self) -> dict[int, list[CompletedChild]]:
-        """Return the completed children below the open sagas of each shard."""
-        rows = self.rows(COMPLETED_IN_FILE)
-        return undo_check.children_by_shard(rows, self.rows(ALL_DEFINITIONS)) if rows else {}
-
-    def find_now(self, key: str) -> SagaRow | None:
-        """Return the saga with this key."""
-        rows = self.rows(FIND, key)
-        return SagaRow(*rows[0]) if rows else None
-
-    def find_many(self, keys: Sequence[str]) -> dict[str, SagaRow]:
-        """Return the sagas that have these keys, by key."""
-        return self.find_in_batches(keys, lambda query, parameters: self.rows(query, *parameters))
-
-    def find_in_batches(
-        self, keys: Sequence[str], rows: Callable[[str, Sequence[str]], list[tuple[Any, ...]]]
-    ) -> dict[str, SagaRow]:
-        """See `find_many`. `rows` returns the rows of a query."""
-        sagas = {}
-        for index in range(0, len(keys), MOST_KEYS):
-            batch = [*keys[index : index + MOST_KEYS]]
-            count = COUNTS[bisect.bisect_left(COUNTS, len(batch))]
-            batch += batch[:1] * (count - len(batch))
-            for row in rows(FIND_MANY[count], batch):
-                sagas[row[1]] = SagaRow(*row)
-        return sagas
 
 
 def known_query(id: int, history: bool) -> tuple[Any, ...]:

@@ -14,7 +14,6 @@ from sagas.core.outcomes import Outcome
 from sagas.definition.payloads import PLAIN
 from sagas.definition.step import Function
 from sagas.storage import queries
-from sagas.storage.factory import is_url
 
 BEGIN = """
 SELECT l.shard, e.attempt, e.outcome
@@ -51,17 +50,6 @@ class WorkerSession(Protocol):
 
     def close(self) -> None:
         """Close the connection."""
-
-
-def open_worker_session(store: str) -> WorkerSession:
-    """Return a session with that store. It connects with its first query."""
-    if is_url(store):
-        from sagas.storage.postgresql.worker_session import PostgreSQLWorkerSession
-
-        return PostgreSQLWorkerSession(store)
-    from sagas.storage.sqlite.worker_session import SqliteWorkerSession
-
-    return SqliteWorkerSession(store)
 
 
 def fetched(

@@ -1,4 +1,13 @@
-"""Connections, settings and the meaning of errors."""
+"""Connections: the URL and its hosts, settings, the meaning of errors.
+
+A server that a standby has replaced may still accept writes, and its commits then wait for that
+standby. A program that waits too long asks all hosts: the one with the highest timeline is the
+primary.
+
+A pooler whose transactions run in different sessions of the server is refused. With such a pooler,
+connections share settings with strangers, and a listener gets no notification. The check is made
+before anything is set.
+"""
 
 from __future__ import annotations
 
@@ -6,8 +15,15 @@ import asyncio
 import contextlib
 import functools
 import re
-from collections.abc import AsyncIterator, Awaitable, Callable, Coroutine, Iterator, Mapping
-from collections.abc import Sequence
+from collections.abc import (
+    AsyncIterator,
+    Awaitable,
+    Callable,
+    Coroutine,
+    Iterator,
+    Mapping,
+    Sequence,
+)
 from typing import Any, Protocol, TypeVar
 
 import psycopg
@@ -15,14 +31,13 @@ from psycopg import conninfo, errors
 from psycopg_pool import AsyncConnectionPool, PoolTimeout
 
 from sagas.base.errors import InvalidStore, StoreUnavailable
-from sagas.storage.factory import FORM, is_url
-from sagas.storage.postgresql import hosts, pooler, replication
-from sagas.storage.postgresql.hosts import Hosts
+from sagas.storage.postgresql import replication
 from sagas.storage.postgresql.replication import (
     NotReplicated,
     PlainStoreConnection,
     StoreConnection,
 )
+from sagas.storage.store_name import FORM, is_url
 
 PATIENCE = 20.0
 """Seconds that a statement may take.
@@ -87,7 +102,11 @@ RIGHTS = "have the owner of the database run `sagas store URL init --role {role}
 CLIENT_ERRORS = (psycopg.Error, PoolTimeout, OSError, TimeoutError)
 """The errors of a server that does not answer as it should."""
 
-TIMELINE = hosts.TIMELINE
+TIMELINE = "left(pg_walfile_name(pg_current_wal_lsn()), 8)"
+"""The server's timeline: another one once a standby has taken over.
+
+The standby may not have the last commits.
+"""
 TAKEOVER = (
     "INSERT INTO takeovers(shard, epoch, node, last_seq, timeline) "
     f"SELECT shard, epoch, {{node}}, {{last}}, {TIMELINE} FROM {{taken}}"
@@ -117,6 +136,9 @@ An error without a code counts, too.
 T = TypeVar("T")
 Row = tuple[Any, ...]
 Link = StoreConnection
+
+
+# -- the URL
 
 
 def read(url: str) -> dict[str, Any]:
@@ -197,6 +219,161 @@ def named(url: str) -> str:
     return f"postgresql://{user}{hosts_with_ports}/{parameters.get('dbname', '')}"
 
 
+# -- the hosts of a URL, in the order in which they are tried
+
+HOST_PATIENCE = 5.0
+"""Seconds that a host has for its answer."""
+HOST_LISTS = "host", "hostaddr", "port"
+"""The parameters that have a value for each host."""
+
+
+class Hosts(str):
+    """A URL, with the order in which its hosts are tried.
+
+    For all other uses it is the given URL.
+    """
+
+    def __init__(self, url: str) -> None:
+        self._hosts = host_parameters(conninfo.conninfo_to_dict(url))
+        self._order = [*range(len(self._hosts))]
+        self._asking = asyncio.Lock()
+        self.turn = 0
+        """The number of changes of the first host."""
+
+    @property
+    def are_several(self) -> bool:
+        """Whether there is more than one host."""
+        return len(self._order) > 1
+
+    def parameters(self) -> dict[str, str]:
+        """Return the connection parameters of the hosts, in their order."""
+        hosts = [self._hosts[index] for index in self._order]
+        return {name: ",".join(host[name] for host in hosts) for name in hosts[0]}
+
+    async def choose(self, address: str) -> str | None:
+        """Ask all hosts, and try the one with the highest timeline first from now on.
+
+        Args:
+            address: The parameters of a connection to any of the hosts.
+
+        Returns:
+            The highest timeline; None if no host accepts writes.
+        """
+        if not self.are_several or self._asking.locked():
+            return None
+        async with self._asking:
+            questions = (timeline_of_host(address, self._hosts[index]) for index in self._order)
+            timelines = dict(zip(self._order, await asyncio.gather(*questions)))
+            best = max((timeline for timeline in timelines.values() if timeline), default=None)
+            if best is not None and timelines[self._order[0]] != best:
+                first = next(index for index in self._order if timelines[index] == best)
+                rest = [index for index in self._order if index != first]
+                self._order, self.turn = [first, *rest], self.turn + 1
+            return best
+
+
+def host_parameters(parameters: Mapping[str, Any]) -> list[dict[str, str]]:
+    """Return the parameters of each host."""
+    lists = {name: str(parameters[name]).split(",") for name in HOST_LISTS if parameters.get(name)}
+    count = max((len(values) for values in lists.values()), default=1)
+    return [
+        {name: values[index if len(values) > 1 else 0] for name, values in lists.items()}
+        for index in range(count)
+    ]
+
+
+async def timeline_of_host(address: str, host: Mapping[str, str]) -> str | None:
+    """Return the timeline of a host; None if it does not accept writes, or does not answer."""
+    try:
+        async with asyncio.timeout(HOST_PATIENCE):
+            single = conninfo.make_conninfo(address, **host)
+            async with await psycopg.AsyncConnection.connect(single, autocommit=True) as connection:
+                rows = await (await connection.execute(f"SELECT {TIMELINE}")).fetchall()
+                return str(rows[0][0])
+    except (psycopg.Error, OSError, TimeoutError):
+        return None
+
+
+# -- poolers
+
+SESSION = "SELECT pg_backend_pid()"
+SESSION_PATIENCE = 2.0
+"""Seconds for a second session: a pooler that has none left pools sessions."""
+STATEMENT_POOLING = "statement pooling"
+"""PgBouncer's error for BEGIN if each statement may have another session."""
+
+
+class TransactionPooled(errors.OperationalError):
+    """The transactions of one connection run in several sessions."""
+
+    def __init__(self) -> None:
+        super().__init__(
+            "this is a connection pooler that pools transactions, as PgBouncer does with "
+            "pool_mode=transaction. A store needs sessions of its own. Nothing was written or set. "
+            "Name the server itself, or a pooler that pools sessions"
+        )
+
+
+async def check_sessions(connection: psycopg.AsyncConnection[Any], address: str) -> None:
+    """Raise `TransactionPooled` if the connection is one of such a pooler.
+
+    A pooler has its own session numbers, so most connections need no second one.
+
+    Args:
+        connection: A new connection that commits each statement.
+        address: Its address, for another connection.
+    """
+
+    async def session(of: psycopg.AsyncConnection[Any]) -> int:
+        rows = await (await of.execute(SESSION, prepare=False)).fetchall()
+        return int(rows[0][0])
+
+    first = await session(connection)
+    if first == connection.info.backend_pid:
+        return
+    other = await psycopg.AsyncConnection.connect(address, autocommit=True)
+    try:
+        async with asyncio.timeout(SESSION_PATIENCE):
+            await other.execute("BEGIN")
+            is_shared = await session(other) == first or await session(connection) != first
+    except TimeoutError:
+        is_shared = False
+    except errors.OperationalError as error:
+        if STATEMENT_POOLING not in str(error):
+            raise
+        is_shared = True
+    finally:
+        await other.close()
+    if is_shared:
+        raise TransactionPooled
+
+
+def check_sessions_now(connection: psycopg.Connection[Any], address: str) -> None:
+    """See `check_sessions`, for a connection of a thread."""
+
+    def session(of: psycopg.Connection[Any]) -> int:
+        return int(of.execute(SESSION, prepare=False).fetchall()[0][0])
+
+    first = session(connection)
+    if first == connection.info.backend_pid:
+        return
+    other = psycopg.connect(address, autocommit=True)
+    try:
+        other.execute("BEGIN")
+        is_shared = session(other) == first or session(connection) != first
+    except errors.OperationalError as error:
+        if STATEMENT_POOLING not in str(error):
+            raise
+        is_shared = True
+    finally:
+        other.close()
+    if is_shared:
+        raise TransactionPooled
+
+
+# -- errors
+
+
 @contextlib.contextmanager
 def translate_errors(store_name: str) -> Iterator[None]:
     """Raise errors of PostgreSQL and of its connections as `StoreUnavailable`.
@@ -205,7 +382,7 @@ def translate_errors(store_name: str) -> Iterator[None]:
     """
     try:
         yield
-    except pooler.TransactionPooled as error:
+    except TransactionPooled as error:
         raise InvalidStore(f"{store_name}: {error}") from error
     except CLIENT_ERRORS as error:
         raise store_unavailable(store_name, error) from error
@@ -245,12 +422,15 @@ def was_cut(error: StoreUnavailable) -> bool:
     return cause.sqlstate is None or cause.sqlstate.startswith(CUT)
 
 
+# -- connections, and a pool of them
+
+
 async def connect(url: str, settings: str = SETTINGS) -> Link:
     """Return a connection of the store's own, which commits each statement."""
     connection = await Link.connect(address(url), autocommit=True, prepare_threshold=1)
     assert isinstance(connection, Link)
     try:
-        await pooler.check(connection, address(url))
+        await check_sessions(connection, address(url))
         await connection.execute(settings, prepare=False)
     except BaseException:
         await connection.close()
@@ -266,7 +446,7 @@ async def check_access(url: str, store_name: str) -> None:
     try:
         async with asyncio.timeout(LOGIN_TIMEOUT):
             await (await connect(url)).close()
-    except pooler.TransactionPooled as error:
+    except TransactionPooled as error:
         raise InvalidStore(f"{store_name}: {error}") from error
     except CLIENT_ERRORS as error:
         # otherwise the error keeps the connection open, and the server waits for a password
@@ -288,7 +468,7 @@ def connect_now(url: str, settings: str = f"{SETTINGS}; {LIMITED}") -> PlainStor
     connection = PlainStoreConnection.connect(address(url), autocommit=True)
     assert isinstance(connection, PlainStoreConnection)
     try:
-        pooler.check_now(connection, address(url))
+        check_sessions_now(connection, address(url))
         connection.execute(settings, prepare=False)
     except BaseException:
         connection.close()
@@ -297,7 +477,7 @@ def connect_now(url: str, settings: str = f"{SETTINGS}; {LIMITED}") -> PlainStor
 
 
 async def _configure(address: str, connection: psycopg.AsyncConnection[Any]) -> None:
-    await pooler.check(connection, address)
+    await check_sessions(connection, address)
     await connection.execute(f"{SETTINGS}; {LIMITED}; {ABANDONED}", prepare=False)
 
 

@@ -1,4 +1,7 @@
-"""External attempts: claims and reports of many in one statement."""
+"""External attempts: claims and reports of many in one statement.
+
+The deliveries of webhooks, which the same programs change, take one statement each.
+"""
 
 from __future__ import annotations
 
@@ -6,6 +9,7 @@ import asyncio
 import contextlib
 import functools
 import json
+import re
 from collections.abc import Awaitable, Callable, Sequence
 from typing import Any, Optional, Union
 
@@ -15,22 +19,21 @@ from sagas.definition.serialization import clean
 from sagas.storage import external
 from sagas.storage.deliveries import Deliveries
 from sagas.storage.external import (
-    OPEN,
-    REPORT_COUNTS,
+    Batcher,
+    Claim,
+    ClaimRequest,
     ExternalRequest,
     Heartbeat,
-    Claim,
+    OPEN,
+    QueueState,
+    REPORT_COUNTS,
     Report,
     ReportRequest,
     Row,
-    QueueState,
-    ClaimRequest,
     earlier,
 )
-from sagas.storage.lots import Batcher
-from sagas.storage.postgresql import notifications, prepared
+from sagas.storage.postgresql import connections, notifications, wire
 from sagas.storage.postgresql.connections import Asker
-from sagas.storage.postgresql.deliveries import PostgreSQLDeliveries
 
 CHANNEL = "sagas_reports"
 MOST = 200
@@ -134,13 +137,13 @@ rows could deadlock.
 SHARDS = "json_object_agg(attempt, shard)::text"
 CLAIM_PARAMETERS = ("tasks", "most", "workers", "seconds")
 REPORT_PARAMETERS = ("attempts", "leases", "outcomes", "values")
-CLAIMS_WIRED = prepared.numbered(
+CLAIMS_WIRED = wire.numbered(
     f"WITH {CLOCK}, {CLAIMED} SELECT {ROWS}, NULL FROM taken", *CLAIM_PARAMETERS
 )
-REPORTS_WIRED = prepared.numbered(
+REPORTS_WIRED = wire.numbered(
     f"WITH {REPORTED} SELECT NULL, {SHARDS} FROM kept", *REPORT_PARAMETERS
 )
-BOTH_WIRED = prepared.numbered(
+BOTH_WIRED = wire.numbered(
     f"WITH {CLOCK}, {UNREPORTED}, {REPORTED} "
     f"SELECT (SELECT {ROWS} FROM taken), (SELECT {SHARDS} FROM kept)",
     *CLAIM_PARAMETERS,
@@ -216,7 +219,7 @@ class PostgreSQLExternalAttempts:
 
     def __init__(self, url: str, asker: Asker) -> None:
         self._asker = asker
-        self._own = prepared.ReconnectingWire(url, asker.store_name)
+        self._own = wire.ReconnectingWire(url, asker.store_name)
         asker.attach(self._own)
         # claims that wait for other nodes hold a connection of the pool
         self._locking = asyncio.Lock()
@@ -293,12 +296,12 @@ class PostgreSQLExternalAttempts:
         parameters: list[bytes] = []
         if claims:
             each = [claim for claim in claims for _ in range(claim.limit)]
-            seconds = prepared.array([repr(claim.seconds) for claim in each])
-            workers = prepared.array([claim.worker for claim in each])
-            parameters += [prepared.array(claims[0].tasks), b"%d" % len(each), workers, seconds]
+            seconds = wire.array([repr(claim.seconds) for claim in each])
+            workers = wire.array([claim.worker for claim in each])
+            parameters += [wire.array(claims[0].tasks), b"%d" % len(each), workers, seconds]
         if reports:
             attempts, leases, outcomes, values = zip(*reports)
-            parameters += map(prepared.array, (attempts, map(str, leases), outcomes, values))
+            parameters += map(wire.array, (attempts, map(str, leases), outcomes, values))
         text = CLAIMS_WIRED if not reports else BOTH_WIRED if claims else REPORTS_WIRED
         ((rows, shards),) = await self._own.ask(text, *parameters)
         return rows_of(rows), json.loads(shards) if shards else {}
@@ -386,3 +389,34 @@ class PostgreSQLExternalAttempts:
 
     async def notify_owners(self) -> None:
         await self._asker.ask(NOTIFY_REPORTED)
+
+
+# -- deliveries of webhooks
+
+DELIVERY_NOW = "extract(epoch FROM clock_timestamp())::float8"
+DELIVERY_PARAMETER = re.compile(r"(?<!:):([a-z]+)")
+DELIVERY_CASTS = {"status": "::integer", "pause": "::float8", "error": "::text", "state": "::text"}
+
+
+class PostgreSQLDeliveries:
+    """See `Deliveries`. It uses a node's connections."""
+
+    def __init__(self, asker: Asker) -> None:
+        self._asker = asker
+
+    def begin(self, *_: object) -> None:
+        """Do nothing: each call is a statement of its own."""
+
+    async def change(self, text: str, **parameters: Any) -> list[connections.Row]:
+        return await self._asker.ask(delivery_form(text), **parameters)
+
+    async def ask(self, text: str, **parameters: Any) -> list[connections.Row]:
+        return await self._asker.read(delivery_form(text), **parameters)
+
+
+def delivery_form(text: str) -> str:
+    """Return a statement for psycopg."""
+    named = DELIVERY_PARAMETER.sub(
+        lambda match: f"%({match[1]})s{DELIVERY_CASTS.get(match[1], '')}", text
+    )
+    return named.format(now=DELIVERY_NOW, locked=" FOR UPDATE SKIP LOCKED")

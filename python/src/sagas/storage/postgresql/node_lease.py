@@ -5,6 +5,8 @@ decides. The node's own clock only measures durations.
 
 A node is one run of a program. It renews its lease each second. If the lease expires, other nodes
 may take its shards. Then its commits write nothing, since the shards have other epochs.
+
+No node without a codec has a lease once the note that values are encoded is in the database.
 """
 
 from __future__ import annotations
@@ -19,6 +21,7 @@ from typing import TYPE_CHECKING, Any
 
 import tomllib
 
+from sagas.base.errors import StoreLocked
 from sagas.base.logger import logger
 from sagas.base.wording import number
 from sagas.core import undo_check
@@ -26,14 +29,56 @@ from sagas.core.batch import ShardRow
 from sagas.core.undo_check import CompletedChild
 from sagas.definition.capacity import SHARD_CAPACITY
 from sagas.definition.compiled import version_of
-from sagas.storage.codec_note import NOTED, missing
-from sagas.storage.postgresql import codec_note, notifications
-from sagas.storage.postgresql.codec_note import ALLOWS
-from sagas.storage.postgresql.connections import TIMELINE, RAISED, Asker
+from sagas.storage.codec_note import NOTE, NOTED, missing
+from sagas.storage.postgresql import notifications
+from sagas.storage.postgresql.connections import RAISED, TIMELINE, Asker, translate_errors
 from sagas.storage.queries import COMPLETED_CHILDREN, OPENED
 
 if TYPE_CHECKING:
     from sagas.storage.interface import FunctionCheck
+
+# -- the note that values are encoded
+
+ALLOWS = "(%(encodes)s OR NOT EXISTS (SELECT 1 FROM secrets WHERE name = 'codec'))"
+"""Whether a node may have a lease, by whether it encodes values."""
+LOCK_LEASES = "LOCK TABLE nodes IN SHARE ROW EXCLUSIVE MODE"
+"""Locks the leases.
+
+No node gets or renews a lease until the transaction ends. Each sees the note afterwards.
+"""
+LIVE_NODES = "SELECT name FROM nodes WHERE lease > now() ORDER BY 1"
+"""The nodes that have the store open. Without a note, none of them has a codec."""
+
+
+async def agree_on_encoding(asker: Asker, encodes: bool) -> None:
+    """Store the note that values are encoded, or check that there is none.
+
+    Raises:
+        MissingCodec: The values are encoded, and this program has no codec.
+        StoreLocked: A node without a codec has the store open.
+    """
+    if await asker.read(NOTED):
+        if not encodes:
+            raise missing(asker.store_name)
+    elif encodes:
+        await asker.whole(_note_encoding(asker))
+
+
+async def _note_encoding(asker: Asker) -> None:
+    with translate_errors(asker.store_name):
+        async with asker.pool.connection() as connection, connection.transaction():
+            await connection.execute(LOCK_LEASES)
+            nodes = await (await connection.execute(LIVE_NODES)).fetchall()
+            noted = await (await connection.execute(NOTED)).fetchall()
+            if nodes and not noted:
+                raise StoreLocked(
+                    f"{asker.store_name}: node {nodes[0][0]} has this store open without a "
+                    "codec, or is of an earlier release. Stop all such nodes first"
+                )
+            await connection.execute(NOTE)
+
+
+# -- leases
 
 BEAT = 1.0
 """Maximum number of seconds between two heartbeats of a node."""
@@ -308,10 +353,10 @@ class Lease:
         `StoreLocked`.
         """
         await self._asker.ask(GONE, node=self.node, name=self.name)
-        await codec_note.agree(self._asker, self.encodes)
+        await agree_on_encoding(self._asker, self.encodes)
         timeline = (await self.beat([]))[3]
         if self._enters:
-            await codec_note.agree(self._asker, self.encodes)
+            await agree_on_encoding(self._asker, self.encodes)
         return timeline
 
     async def _look_for_codec(self) -> None:

@@ -14,16 +14,13 @@ import contextlib
 import json
 import secrets
 from collections.abc import Awaitable, Callable, Coroutine
-from typing import TYPE_CHECKING, Any
+from typing import Any
 
 from sagas.base.errors import OwnerUnavailable, SagasError, StoreUnavailable
 from sagas.base.logger import logger
 from sagas.storage.operator_requests import checked_answer
 from sagas.storage.postgresql import connections
 from sagas.storage.postgresql.notifications import AT_ONCE, Listener, notify_statement
-
-if TYPE_CHECKING:
-    from sagas.storage.postgresql.storage import PostgreSQL
 
 CHANNEL = "sagas_peers"
 LOOK = 1.0
@@ -72,8 +69,8 @@ OWNER = (
 class PostgreSQLPeers:
     """One node's part of the calls. `answers` has the handler of each command."""
 
-    def __init__(self, database: PostgreSQL) -> None:
-        self.node, self._asker = database.lease.node, database.asker
+    def __init__(self, url: str, asker: connections.Asker, node: str) -> None:
+        self.node, self._asker = node, asker
         self.answers: dict[str, Callable[[Any], Awaitable[Any]]] = {"hello": self._greet}
         self.on_message: Callable[..., object] = lambda message: None
         """Called with each message that another node broadcast."""
@@ -86,7 +83,7 @@ class PostgreSQLPeers:
         self._jobs: set[asyncio.Task[None]] = set()
         self._fetching = self._fetch_again = self._is_sending = self._closing = False
         self._unsent: list[str] = []
-        self._listener = Listener(database.url, (CHANNEL,), self._heard, self._listens)
+        self._listener = Listener(url, (CHANNEL,), self._heard, self._listens)
         self._has_listened = False
 
     # -- opening and closing

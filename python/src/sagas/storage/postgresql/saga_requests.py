@@ -8,14 +8,14 @@ from collections.abc import Sequence
 from typing import Any
 
 from sagas.base.errors import NoSuchSaga, StoreUnavailable
-from sagas.core.batch import PendingRequest, SagaRow, PendingStart
+from sagas.core.batch import PendingRequest, PendingStart, SagaRow
 from sagas.core.pending import check_refused
 from sagas.definition.capacity import SHARD_CAPACITY
 from sagas.definition.payloads import Payloads
 from sagas.definition.serialization import clean
 from sagas.storage import operator_requests, queries
 from sagas.storage.postgresql import connections, notifications
-from sagas.storage.postgresql.key_finder import FIND_ONE
+from sagas.storage.postgresql.lookups import FIND_ONE
 from sagas.storage.postgresql.node_lease import UNTAKEN
 
 MINE = f"""

@@ -14,7 +14,7 @@ from typing import Any, NamedTuple
 import psycopg
 
 from sagas.base.errors import StoreUnavailable
-from sagas.core.batch import NewShard, StoredSuspension, LoadedShard, OpenSagaRow, ResultRow, Tail
+from sagas.core.batch import LoadedShard, NewShard, OpenSagaRow, ResultRow, StoredSuspension, Tail
 from sagas.definition.capacity import SHARD_CAPACITY
 from sagas.storage import queries
 from sagas.storage.postgresql import connections

@@ -14,8 +14,7 @@ from psycopg import pq
 
 from sagas.core.batch import Tail
 from sagas.storage.postgresql import connections
-from sagas.storage.postgresql.step_connections import is_prepared
-from sagas.storage.postgresql.step_protocol import encoding_of
+from sagas.storage.postgresql.step_connections import encoding_of, is_prepared
 
 COMMIT = "; COMMIT"
 UNPREPARED = ("26000", "42P05")

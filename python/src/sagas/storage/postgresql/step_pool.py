@@ -22,8 +22,13 @@ from psycopg import errors, pq
 from psycopg.rows import tuple_row
 
 from sagas.storage.postgresql import connections
-from sagas.storage.postgresql.step_connections import AsyncStepLink, StepLink, converted, is_as_made
-from sagas.storage.postgresql.step_protocol import Prepares
+from sagas.storage.postgresql.step_connections import (
+    AsyncStepLink,
+    Prepares,
+    StepLink,
+    converted,
+    is_as_made,
+)
 
 L = TypeVar("L", AsyncStepLink, StepLink)
 REST = 600.0

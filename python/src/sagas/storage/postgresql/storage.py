@@ -4,6 +4,7 @@ from __future__ import annotations
 
 import asyncio
 import contextlib
+from collections import deque
 from collections.abc import Sequence
 from typing import Any
 
@@ -11,14 +12,14 @@ from sagas.base.errors import StoreUnavailable
 from sagas.base.logger import logger
 from sagas.core.batch import (
     Batch,
-    NewShard,
     Grant,
-    StoredSaga,
     LoadedShard,
-    ShardRow,
+    NewShard,
     PendingRequest,
-    SagaRow,
     PendingStart,
+    SagaRow,
+    ShardRow,
+    StoredSaga,
 )
 from sagas.definition.payloads import Payloads
 from sagas.definition.serialization import cleaned
@@ -26,11 +27,11 @@ from sagas.definition.step import Bounds
 from sagas.storage import queries
 from sagas.storage.external import ExternalAttempts
 from sagas.storage.interface import (
+    CommitCallback,
     FunctionCheck,
     MakesTransactions,
     Peers,
     StepCaller,
-    CommitCallback,
     Watcher,
 )
 from sagas.storage.postgresql import (
@@ -40,21 +41,51 @@ from sagas.storage.postgresql import (
     saga_requests,
     schema,
 )
-from sagas.storage.postgresql.announcer import Announcer
 from sagas.storage.postgresql.commit_statement import Commit
-from sagas.storage.postgresql.continuity import Continuity
+from sagas.storage.postgresql.connections import Asker
 from sagas.storage.postgresql.external_attempts import PostgreSQLExternalAttempts
-from sagas.storage.postgresql.key_finder import KeyFinder
 from sagas.storage.postgresql.limit_slots import TIDY, LimitSlots
-from sagas.storage.postgresql.lookups import Lookups
-from sagas.storage.postgresql.missing_tables import MissingTables
+from sagas.storage.postgresql.lookups import KeyFinder, Lookups, Reader
 from sagas.storage.postgresql.node_lease import UNDRIVEN, Lease, describe_undriven
+from sagas.storage.postgresql.notifications import Announcer
 from sagas.storage.postgresql.peer_calls import PostgreSQLPeers
-from sagas.storage.postgresql.reader import Reader
+from sagas.storage.postgresql.schema import MissingTables
 from sagas.storage.postgresql.shard_loader import ShardLoader
-from sagas.storage.postgresql.shard_numbers import ShardNumbers
-from sagas.storage.postgresql.writer import Writer
+from sagas.storage.postgresql.writer import Continuity, Writer
 from sagas.storage.record_file import RecordFile
+
+RESERVE = 64
+"""The size of the reserve."""
+MORE_NUMBERS = f"SELECT nextval('shard_numbers') FROM generate_series(1, {RESERVE})"
+
+
+class ShardNumbers:
+    """Numbers for new shards of one node, with a reserve in memory.
+
+    It sets `wanted` when `fill` should be called.
+    """
+
+    def __init__(self, asker: Asker, wanted: asyncio.Event) -> None:
+        self._asker, self._wanted = asker, wanted
+        self._numbers: deque[int] = deque()
+
+    async def fill(self) -> None:
+        """Get more from the server if few are left. Raises `StoreUnavailable`."""
+        if len(self._numbers) < RESERVE // 2:
+            self._numbers.extend(number for (number,) in await self._asker.ask(MORE_NUMBERS))
+
+    def take(self) -> int:
+        """Take a number. Raises `StoreUnavailable` if the reserve is empty."""
+        if len(self._numbers) <= RESERVE // 2:
+            self._wanted.set()
+        if not self._numbers:
+            raise StoreUnavailable(
+                f"{self._asker.store_name}: the database has not assigned a new shard in time, "
+                "because it does not answer or many sagas were started at once. Nothing was "
+                "started. Start it again"
+            )
+        return self._numbers.popleft()
+
 
 TEXT = "SELECT coalesce(string_agg(text, '' ORDER BY first_seq), '') FROM event_log WHERE shard = ?"
 
@@ -206,7 +237,7 @@ class PostgreSQL(queries.Questions):
 
     def peers(self) -> Peers:
         """Return the calls between this node and the others."""
-        return PostgreSQLPeers(self)
+        return PostgreSQLPeers(self.url, self.asker, self.lease.node)
 
     def watch(self, watcher: Watcher) -> None:
         """Listen to notifications, and take over shards."""
@@ -549,10 +580,6 @@ class PostgreSQL(queries.Questions):
     def reader(self) -> Reader:
         """Return another connection, for a thread that only reads."""
         return Reader(self.url, self.path)
-
-    def find_now(self, key: str) -> SagaRow | None:
-        """Raise an error: a database cannot answer at once."""
-        raise NotImplementedError
 
     def find_many(self, keys: Sequence[str]) -> dict[str, SagaRow]:
         """Raise an error: a database cannot answer at once."""

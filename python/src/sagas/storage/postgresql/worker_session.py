@@ -13,7 +13,7 @@ from psycopg.rows import tuple_row
 
 from sagas.base.errors import StoreUnavailable, Unknown
 from sagas.core import outcomes
-from sagas.core.dispatch import AttemptTexts, Order, AlreadyReported
+from sagas.core.dispatch import AlreadyReported, AttemptTexts, Order
 from sagas.core.outcomes import Outcome
 from sagas.definition import awaitables
 from sagas.definition.step import Function
@@ -21,9 +21,8 @@ from sagas.definition.task import Task
 from sagas.storage.external import REPORT_COUNTS
 from sagas.storage.postgresql import connections
 from sagas.storage.postgresql.external_attempts import NOTIFY_REPORTED, REPORT
-from sagas.storage.postgresql.step_connections import AsyncStepLink, StepLink
+from sagas.storage.postgresql.step_connections import AS_MADE, AsyncStepLink, StepLink, check_whole
 from sagas.storage.postgresql.step_pool import is_good
-from sagas.storage.postgresql.step_protocol import AS_MADE, check_whole
 from sagas.storage.worker_session import BEGIN, fetched
 
 RECORD = f"""

@@ -1,6 +1,7 @@
 """External attempts in a store's file.
 
-Claims and reports go into the next transaction of the program that has the file open.
+Claims and reports go into the next transaction of the program that has the file open, and so do
+the changes of deliveries of webhooks.
 """
 
 from __future__ import annotations
@@ -14,22 +15,21 @@ from sagas.core.batch import Batch
 from sagas.definition.serialization import clean
 from sagas.storage.deliveries import Deliveries
 from sagas.storage.external import (
-    OPEN,
-    REPORTED_IN_PAIRS,
-    REPORT_COUNTS,
+    Batcher,
+    Claim,
+    ClaimRequest,
     ExternalRequest,
     Heartbeat,
-    Claim,
+    OPEN,
+    QueueState,
+    REPORTED_IN_PAIRS,
+    REPORT_COUNTS,
     Report,
     ReportRequest,
     Row,
-    QueueState,
-    ClaimRequest,
     earlier,
 )
-from sagas.storage.lots import Batcher
-from sagas.storage.sqlite.deliveries import SqliteDeliveries
-from sagas.storage.sqlite.statements import SPANS
+from sagas.storage.sqlite.writer import SPANS
 
 MOST = 200
 """Maximum number of claims and reports in one transaction."""
@@ -242,3 +242,31 @@ class SqliteExternalAttempts:
 
     async def notify_owners(self) -> None:
         """Do nothing: there are no other nodes."""
+
+
+# -- deliveries of webhooks
+
+
+class SqliteDeliveries:
+    """See `Deliveries`. This is the only program that has the file open."""
+
+    def begin(self, write: Callable[[Batch], Awaitable[None]], clock: Callable[[], float]) -> None:
+        """Start the use of the table. `write` adds a batch to the next transaction."""
+        self._write, self._clock = write, clock
+
+    async def change(self, text: str, **parameters: Any) -> list[tuple[Any, ...]]:
+        batch = Batch(-1, self._clock())
+        rows: list[tuple[Any, ...]] = []
+
+        def work(db: sqlite3.Connection) -> None:
+            rows[:] = db.execute(*self._form(text, parameters)).fetchall()
+
+        batch.rare_rows.work.append(work)
+        await self._write(batch)
+        return rows
+
+    async def ask(self, text: str, **parameters: Any) -> list[tuple[Any, ...]]:
+        return await self.change(text, **parameters)
+
+    def _form(self, text: str, parameters: dict[str, Any]) -> tuple[str, dict[str, Any]]:
+        return text.format(now=":now", locked=""), {**parameters, "now": self._clock()}

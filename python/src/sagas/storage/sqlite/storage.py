@@ -1,8 +1,9 @@
-"""A store in a file: its lock and its reads."""
+"""A store in a file: its lock, its reads, and the slots of its steps."""
 
 from __future__ import annotations
 
 import asyncio
+import bisect
 import contextlib
 import functools
 import os
@@ -11,7 +12,7 @@ import shlex
 import sqlite3
 import threading
 import time
-from collections.abc import Sequence
+from collections.abc import Callable, Sequence
 from typing import Any
 
 from sagas.base.errors import (
@@ -24,15 +25,17 @@ from sagas.base.errors import (
 )
 from sagas.base.fork_guard import private_descriptors
 from sagas.base.logger import logger
+from sagas.core import undo_check
 from sagas.core.batch import (
-    NewShard,
     Grant,
     LoadedShard,
-    ShardRow,
+    NewShard,
     PendingRequest,
-    SagaRow,
     PendingStart,
+    SagaRow,
+    ShardRow,
 )
+from sagas.core.undo_check import CompletedChild
 from sagas.definition.payloads import Payloads
 from sagas.definition.serialization import cleaned
 from sagas.definition.step import Bounds
@@ -40,7 +43,6 @@ from sagas.storage import codec_note, queries
 from sagas.storage.external import ExternalAttempts
 from sagas.storage.interface import FunctionCheck, Watcher
 from sagas.storage.record_file import RecordFile
-from sagas.storage.sqlite import limit_slots
 from sagas.storage.sqlite.external_attempts import SqliteExternalAttempts
 from sagas.storage.sqlite.schema import VERSION
 from sagas.storage.sqlite.store_file import (
@@ -48,13 +50,13 @@ from sagas.storage.sqlite.store_file import (
     check_file,
     close_lock,
     connect,
+    describe_error,
+    file_identity,
     holder_of,
     lengthen,
     lock_of,
     migrate,
     take_lock,
-    file_identity,
-    describe_error,
 )
 from sagas.storage.sqlite.writer import Writer
 
@@ -80,7 +82,7 @@ def migrate_file(path: str) -> str:
     )
 
 
-class Sqlite(queries.Questions, queries.Rows):
+class Sqlite(queries.Questions):
     """The file and its lock.
 
     Short reads happen in the loop, and long ones in a thread. A `Writer` writes.
@@ -305,13 +307,13 @@ class Sqlite(queries.Questions, queries.Rows):
 
     async def admit(self, name: str, bounds: Bounds, want: int, have: Sequence[int]) -> Grant:
         """Take slots of a step: this program is the only node."""
-        places = limit_slots.free(bounds.concurrency, want, have) if bounds.concurrency else []
+        places = free_slots(bounds.concurrency, want, have) if bounds.concurrency else []
         count, pause = len(places) if bounds.concurrency else want, MOST_LOOK
         if bounds.rate_limit and count:
             # a killed program has counted its calls, since only a crash of the machine loses them
             connected = functools.partial(connect, self.file, "NORMAL")
             count, pause = await asyncio.to_thread(
-                limit_slots.take, connected, self.path, name, bounds.rate_limit, count, time.time()
+                take_slots, connected, self.path, name, bounds.rate_limit, count, time.time()
             )
         return Grant(count, places[:count], pause)
 
@@ -332,11 +334,37 @@ class Sqlite(queries.Questions, queries.Rows):
         except sqlite3.Error as error:
             raise StoreUnavailable(f"{self.path}: {error}") from error
 
+    def open_logs(self) -> list[ShardRow]:
+        """Return the shards that are not closed, in order."""
+        rows = self.rows(f"{queries.LOGS} WHERE closed = 0 ORDER BY shard")
+        definitions = self.rows(queries.TEXTS, rows[0][0], rows[-1][0]) if rows else []
+        texts = queries.texts_of(definitions)
+        return [
+            ShardRow(shard, name, texts.get(shard, []), opened, open, note=note)
+            for shard, name, note, opened, open in rows
+        ]
+
+    def places(self, shard: int) -> list[int]:
+        """Return the indexes of the definitions of a shard's open sagas."""
+        return [index for (index,) in self.rows(queries.PLACES, *queries.bounds(shard))]
+
+    def completed_children(self) -> dict[int, list[CompletedChild]]:
+        """Return the completed children below the open sagas of each shard."""
+        rows = self.rows(queries.COMPLETED_IN_FILE)
+        if not rows:
+            return {}
+        return undo_check.children_by_shard(rows, self.rows(queries.ALL_DEFINITIONS))
+
     def find_many(self, keys: Sequence[str]) -> dict[str, SagaRow]:
         """Return the sagas that have these keys, by key."""
-        return self.find_in_batches(
-            keys, functools.partial(self._read, self._writer.reader() or self._reader)
-        )
+        db, sagas = self._writer.reader() or self._reader, {}
+        for index in range(0, len(keys), queries.MOST_KEYS):
+            batch = [*keys[index : index + queries.MOST_KEYS]]
+            count = queries.COUNTS[bisect.bisect_left(queries.COUNTS, len(batch))]
+            batch += batch[:1] * (count - len(batch))
+            for row in self._read(db, queries.FIND_MANY[count], batch):
+                sagas[row[1]] = SagaRow(*row)
+        return sagas
 
     async def read(self, query: str, *parameters: Any) -> list[tuple[Any, ...]]:
         """See `rows`: the file can be read at once."""
@@ -387,7 +415,8 @@ class Sqlite(queries.Questions, queries.Rows):
 
     async def find(self, key: str) -> SagaRow | None:
         """Return the saga with this key."""
-        return self.find_now(key)
+        rows = self.rows(queries.FIND, key)
+        return SagaRow(*rows[0]) if rows else None
 
     async def requests(self, after: int, limit: int) -> list[PendingRequest]:
         """Return the requests without an answer."""
@@ -422,3 +451,56 @@ class Sqlite(queries.Questions, queries.Rows):
         The shard is set aside, so that seldom happens.
         """
         await asyncio.sleep(min(MOST_LOOK, LOOK * 2 ** min(turn, 10)))
+
+
+# -- slots of limits and of rate limits
+
+FREE_SLOTS = (
+    "SELECT slot FROM limit_slots WHERE name = ? AND kind = 'rate' AND slot <= ? AND (until IS "
+    "NULL OR until <= ? OR until > ?) ORDER BY slot LIMIT ?"
+)
+NEXT_SLOT = (
+    "SELECT min(until) FROM limit_slots WHERE name = ? AND kind = 'rate' AND slot <= ? AND until > "
+    "?"
+)
+
+
+def free_slots(limit: int, want: int, have: Sequence[int]) -> list[int]:
+    """Return the free slots of a limit. One program is the only node of a file."""
+    taken = set(have)
+    return [slot for slot in range(1, limit + 1) if slot not in taken][:want]
+
+
+def take_slots(
+    connect: Callable[[], sqlite3.Connection],
+    store_name: str,
+    name: str,
+    rate: tuple[int, float],
+    want: int,
+    now: float,
+) -> tuple[int, float]:
+    """Take slots of a rate limit for calls that begin now. For a thread.
+
+    They are stored, so that a restarted program does not begin to count again.
+
+    Returns:
+        The number of calls that may begin now, and the seconds until more may begin.
+    """
+    calls, seconds = rate
+    try:
+        with contextlib.closing(connect()) as db:
+            db.execute("BEGIN IMMEDIATE")
+            db.executemany(
+                "INSERT OR IGNORE INTO limit_slots(name, kind, slot) VALUES(?, 'rate', ?)",
+                [(name, slot) for slot in range(1, calls + 1)],
+            )
+            rows = db.execute(FREE_SLOTS, (name, calls, now, now + seconds, want)).fetchall()
+            db.executemany(
+                "UPDATE limit_slots SET until = ? WHERE name = ? AND kind = 'rate' AND slot = ?",
+                [(now + seconds, name, slot) for (slot,) in rows],
+            )
+            (soon,) = db.execute(NEXT_SLOT, (name, calls, now)).fetchone()
+            db.execute("COMMIT")
+    except sqlite3.Error as error:
+        raise StoreUnavailable(f"{store_name}: {error}") from error
+    return len(rows), seconds if soon is None else soon - now

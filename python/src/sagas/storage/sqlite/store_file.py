@@ -15,8 +15,15 @@ from sagas.base.errors import InvalidStore, StoreSchemaTooNew, StoreUnavailable
 from sagas.base.fork_guard import private_descriptors
 from sagas.definition.serialization import cleaned
 from sagas.storage.sqlite.schema import STARTED, VERSION, statements
-from sagas.storage.sqlite.writer import BUSY, CHECKPOINT, LONG
 
+BUSY = 5000  # ms: an operator's command may be writing
+CHECKPOINT = 750
+"""Pages of the WAL at which the thread's next commit moves it into the file.
+
+That takes as long as about ten commits.
+"""
+LONG = 1000
+"""Pages that the loop writes into the WAL, by its estimate, before the thread commits once."""
 FRAME = 24  # bytes before each page of a WAL
 LENGTH = CHECKPOINT + LONG * 3 // 4
 """The initial length of the WAL, in pages.

@@ -9,6 +9,7 @@ from __future__ import annotations
 import asyncio
 import bisect
 import contextlib
+import functools
 import itertools
 import math
 import queue
@@ -18,23 +19,132 @@ import time
 from collections.abc import Callable, Iterable, Sequence
 from typing import Any
 
-from sagas.core.batch import Batch, EndedRow, RareRows
+from sagas.core.batch import Batch, DefinitionRow, EndedRow, RareRows, Withdrawal
+from sagas.definition.serialization import clean, cleaned
+from sagas.storage import external
 from sagas.storage.interface import CommitCallback
-from sagas.storage.sqlite import statements
+from sagas.storage.sqlite.store_file import BUSY, CHECKPOINT, LONG
 
-BUSY = 5000  # ms: an operator's command may be writing
-CHECKPOINT = 750
-"""Pages of the WAL at which the thread's next commit moves it into the file.
+# -- the statements of a commit
 
-That takes as long as about ten commits.
+LINES = "INSERT INTO event_log VALUES(?, ?, ?, ?)"
+OPENED = (
+    "INSERT INTO sagas(id, key, saga, definition_index, input, at, deadline, traceparent) VALUES {}"
+)
+RESULTS = "INSERT INTO attempts VALUES {}"
+ENDED = """
+UPDATE sagas SET phase = ?, outcome = ?, recovered = ?, undo_failed = ?, ended = ? WHERE id IN ({})
 """
+DEFINITION = "INSERT OR IGNORE INTO definitions VALUES(?, ?)"
+DEFINED = "INSERT OR IGNORE INTO shard_definitions VALUES(?, ?, ?)"
+SHAPES = "INSERT INTO shapes VALUES(?, ?)"
+LABELS = "INSERT INTO labels VALUES(?, ?, ?)"
+CHILDREN = "INSERT INTO children VALUES(?, ?)"
+OFFERS = f"""
+INSERT INTO external_attempts AS e({external.OFFER}) VALUES(?, ?, ?, ?, ?, ?, ?, ?, ?, ?, ?)
+ON CONFLICT(attempt) DO UPDATE SET {external.OFFERED_AGAIN.replace("greatest", "max")}
+"""
+CANCELLED = """
+UPDATE external_attempts SET cancelled = ? WHERE id = ? AND action = 'run' AND outcome IS NULL
+"""
+FREED = "DELETE FROM suspensions WHERE id = ? AND step = ? AND action = ? AND number <= ?"
+DELIVERIES = """
+INSERT OR IGNORE INTO webhook_deliveries(id, webhook, type, saga, key, body, at)
+VALUES(?, ?, ?, ?, ?, ?, ?)
+"""
+SPANS = "INSERT OR IGNORE INTO attempt_spans VALUES(?, ?, ?, ?, ?, ?)"
+PROGRESS = "INSERT OR REPLACE INTO progress VALUES(?, ?, ?, ?, ?, ?, ?)"
+SUSPENDED = """
+UPDATE external_attempts SET outcome = ?2, until = NULL
+WHERE attempt = ?1 AND (outcome IS NULL
+  OR outcome IN ('unknown', 'suspended') OR outcome IN ('failed', 'failed_permanently'))
+"""
+WITHDRAWN = f"""
+UPDATE external_attempts SET outcome = 'withdrawn' WHERE attempt = ? AND {external.UNCLAIMED}
+"""
+SETTLED = """
+UPDATE external_attempts SET outcome = 'settled', value = NULL,
+shard = CASE WHEN outcome IS NOT 'succeeded' OR ?2 = 'succeeded' THEN shard END WHERE attempt = ?1
+"""
+"""If a worker reported a success, and the commit says otherwise, the shard is null, which is
+refused.
+"""
+DONE = "SELECT 1 FROM external_attempts WHERE attempt = ? AND outcome = 'succeeded'"
+
+HELD = "INSERT OR REPLACE INTO suspensions VALUES(?, ?, ?, ?, ?, ?, ?, ?, ?)"
+ANSWERS = "UPDATE operator_commands SET answer = ? WHERE id = ?"
+REQUESTS = "INSERT INTO operator_commands(key, command, value, at, answer) VALUES(?, ?, ?, ?, ?)"
+NOTES = "UPDATE sagas SET note = ? WHERE id = ? AND note IS NULL"
+UNDONE = """
+UPDATE suspensions SET reason = 'early_undone'
+WHERE id = ? AND step = ? AND action = 'run' AND number = 0 AND reason = 'early_result'
+"""
+CLOSED = "UPDATE shards SET closed = ?, audit = ? WHERE shard = ?"
+SET_ASIDE = "UPDATE shards SET audit = ? WHERE shard = ? AND closed = 0"
+RowsOf = Callable[[int, RareRows], Sequence[Sequence[Any]]]
+"""The parameters of a part of a batch, by the number of its shard."""
+PARTS: dict[str, tuple[str, RowsOf]] = {
+    "held": (HELD, lambda shard, rare: [cleaned(row) for row in rare.held]),
+    "freed": (FREED, lambda shard, rare: rare.freed),
+    "progress": (PROGRESS, lambda shard, rare: rare.progress),
+    "work": ("", lambda shard, rare: ()),
+    "labels": (LABELS, lambda shard, rare: rare.labels),
+    "shapes": (SHAPES, lambda shard, rare: rare.shapes),
+    "children": (CHILDREN, lambda shard, rare: rare.children),
+    "offers": (OFFERS, lambda shard, rare: rare.offers),
+    "cancelled": (CANCELLED, lambda shard, rare: rare.cancelled),
+    "suspended": (
+        SUSPENDED,
+        lambda shard, rare: [(at, outcome) for at, _, outcome in rare.suspended],
+    ),
+    "withdrawn": (WITHDRAWN, lambda shard, rare: ()),
+    "settled": (SETTLED, lambda shard, rare: [(at, outcome) for at, _, outcome in rare.settled]),
+    "deliveries": (DELIVERIES, lambda shard, rare: [cleaned(row) for row in rare.deliveries]),
+    "spans": (SPANS, lambda shard, rare: [cleaned(row) for row in rare.spans]),
+    "answers": (ANSWERS, lambda shard, rare: rare.answers),
+    "asked": (REQUESTS, lambda shard, rare: [(*row, answer) for row, answer in rare.asked]),
+    "notes": (NOTES, lambda shard, rare: [(clean(note), id) for note, id in rare.notes]),
+    "undone": (UNDONE, lambda shard, rare: rare.undone),
+    "closed": (CLOSED, lambda shard, rare: [(*rare.closed, shard)] if rare.closed else ()),
+    "set_aside": (
+        SET_ASIDE,
+        lambda shard, rare: [(*rare.set_aside, shard)] if rare.set_aside else (),
+    ),
+}
+"""The statement of each part of a batch, in order.
+
+`work` and `withdrawn` are handled separately. Definitions are written before all others (`define`).
+"""
+
+
+def define(db: sqlite3.Connection, shards: Iterable[tuple[int, Sequence[DefinitionRow]]]) -> None:
+    """Insert the definitions of shards that are not stored yet."""
+    rows = [(shard, *row) for shard, defined in shards for row in defined]
+    if rows:
+        db.executemany(DEFINITION, [row[2:] for row in rows])
+        db.executemany(DEFINED, [row[:3] for row in rows])
+
+
+def withdraw(db: sqlite3.Connection, withdrawals: Iterable[Withdrawal]) -> None:
+    """Withdraw the attempts that no worker has."""
+    for withdrawal in withdrawals:
+        withdrawal.is_done = db.execute(WITHDRAWN, (withdrawal.attempt,)).rowcount > 0
+
+
+@functools.lru_cache(maxsize=256)
+def rows_statement(statement: str, width: int, count: int) -> str:
+    """Return a statement with marks for this number of rows."""
+    row = "?" if width == 1 else f"({', '.join('?' * width)})"
+    return statement.format(", ".join([row] * count))
+
+
+# -- the writer
+
 MOST = 6000
 """Pages of the WAL at which any next commit moves it into the file.
 
 Large values make it that long.
 """
-LONG = 1000
-"""Pages that the loop writes into the WAL, by its estimate, before the thread commits once."""
 ROWS = (
     *range(1, 17),
     *range(20, 33, 4),
@@ -261,7 +371,7 @@ class Writer:
         """
         settled = batch.rare.settled if batch.rare else ()
         tokens = [token for token, _, outcome in settled if outcome is None]
-        is_done = (self._db.execute(statements.DONE, (token,)).fetchone() for token in tokens)
+        is_done = (self._db.execute(DONE, (token,)).fetchone() for token in tokens)
         return any(map(self._has, batch.unchecked_keys)) or any(is_done)
 
     def _has(self, key: str) -> bool:
@@ -318,9 +428,9 @@ class Writer:
             for of in shards.values():
                 self._put_lines(of, events)
         if opened:
-            self._put_many(statements.OPENED, 8, opened)
+            self._put_many(OPENED, 8, opened)
         if results:
-            self._put_many(statements.RESULTS, 7, results)
+            self._put_many(RESULTS, 7, results)
         if ended:
             self._put_ended(ended)
         for batch in batches:
@@ -339,7 +449,7 @@ class Writer:
         for batch in batches:
             if batch.new_shard:
                 name, defined = batch.new_shard
-                statements.define(self._db, [(shard, defined)])
+                define(self._db, [(shard, defined)])
                 self._execute(
                     "INSERT OR IGNORE INTO shards(shard, name) VALUES(?, ?)", (shard, name)
                 )
@@ -349,33 +459,33 @@ class Writer:
                 has += batch.text.count("\n")
         if has > had:
             text = batch.text if len(batches) == 1 else "".join([batch.text for batch in batches])
-            self._execute(statements.LINES, (shard, had, batch.at, text))
+            self._execute(LINES, (shard, had, batch.at, text))
             events[shard] = has
 
     def _put_ended(self, rows: Sequence[EndedRow]) -> None:
         """Update ended sagas. Most of them ended in the same way, and at the same time."""
         if len(rows) == 1:
-            self._execute(statements.of_rows(statements.ENDED, 1, 1), rows[0])
+            self._execute(rows_statement(ENDED, 1, 1), rows[0])
             return
         ways: dict[tuple[Any, ...], list[tuple[int]]] = {}
         for row in rows:
             ways.setdefault(row[:-1], []).append((row[-1],))
         for way, ids in ways.items():
-            self._put_many(statements.ENDED, 1, ids, way)
+            self._put_many(ENDED, 1, ids, way)
 
     def _put_rare(self, rare: Sequence[tuple[int, RareRows]]) -> None:
         """Write the rare parts of shards with these numbers."""
         has = {part for _, parts in rare for part in parts.parts}
         if "defined" in has:
-            statements.define(self._db, ((shard, parts.defined) for shard, parts in rare))
-        for part, (statement, rows_of) in statements.PARTS.items():
+            define(self._db, ((shard, parts.defined) for shard, parts in rare))
+        for part, (statement, rows_of) in PARTS.items():
             if part == "work" and part in has:
                 for _, parts in rare:
                     for work in parts.work:
                         work(self._db)
             elif part == "withdrawn" and part in has:
                 for _, parts in rare:
-                    statements.withdraw(self._db, parts.withdrawn)
+                    withdraw(self._db, parts.withdrawn)
             elif part in has:
                 self._many(statement, [rows_of(shard, parts) for shard, parts in rare])
 
@@ -396,13 +506,13 @@ class Writer:
         One statement for each row takes longer, and releases the interpreter's lock each time.
         """
         if len(rows) == 1 and not parameters:
-            self._execute(statements.of_rows(statement, width, 1), rows[0])
+            self._execute(rows_statement(statement, width, 1), rows[0])
             return
         first = 0
         while first < len(rows):
             count = ROWS[bisect.bisect_right(ROWS, len(rows) - first) - 1]
             self._execute(
-                statements.of_rows(statement, width, count),
+                rows_statement(statement, width, count),
                 [*parameters, *itertools.chain.from_iterable(rows[first : first + count])],
             )
             first += count

@@ -54,7 +54,8 @@ class Wire:
 
         Args:
             connection: The connection.
-            heard: Called with each notification of a channel on which the connection listens.
+            on_notification: Called with each notification of a channel on which the connection
+                listens.
             patience: Maximum number of seconds for a reply (default: `connections.PATIENCE`).
         """
         self._connection, self._pgconn, self._heard = connection, connection.pgconn, on_notification

@@ -1,0 +1,60 @@
+"""The name of a store: the path of a file, or the URL of a database."""
+
+from __future__ import annotations
+
+import re
+
+from sagas.base.errors import InvalidStore
+
+SCHEMES = ("postgresql:", "postgres:")
+FORM = "postgresql://user@host/database"
+NO_FILE = re.compile(
+    r"(?P<scheme>[a-z][a-z0-9+.:-]*)://|(?P<url>postgres(?:ql)?(?::|//|/[^/]*@))"
+    r"|(?:host|hostaddr|port|dbname|user|password|passfile|service)\s*=|\w+\s*=.*\s\w+\s*=",
+    re.IGNORECASE | re.DOTALL,
+)
+"""Names that are meant for a database, and are not a valid URL of one."""
+
+
+def is_url(name: str) -> bool:
+    """Whether a name is that of a PostgreSQL database, and not of a file."""
+    return name.startswith(SCHEMES)
+
+
+def check_name(name: str) -> None:
+    """Check that a name is the path of a file, or the URL of a PostgreSQL database.
+
+    Raises `InvalidStore`, which says what to write instead. It repeats no text that may have a
+    password.
+    """
+    if is_url(name):
+        return
+    if not name or name == ":memory:" or name.startswith("file:"):
+        raise InvalidStore(
+            f"{name}: must be the path of a file. In memory, for a test: sagas.testing.run"
+        )
+    text = name.strip()
+    match = NO_FILE.match(text)
+    if match and match["scheme"] == "sqlite":
+        raise InvalidStore(
+            f"{name}: name a SQLite store by its path: "
+            f"{text[len('sqlite://'):].removeprefix('/')}"
+        )
+    if match:
+        form = f"{match['scheme']}://" if match["scheme"] else "a list of words"
+        if match["url"] or is_url(text):
+            form = "a URL behind a space" if is_url(text) else "a misspelled URL"
+        raise InvalidStore(f"{form}: a store is an SQLite file, or {FORM}")
+
+
+def missing_client(error: ImportError) -> InvalidStore:
+    """Return the error for a missing PostgreSQL client, with what to install."""
+    if error.name is None:  # psycopg is installed, but does not find libpq
+        return InvalidStore(
+            f"PostgreSQL: {str(error).splitlines()[0]} psycopg needs libpq: apt-get install "
+            "libpq5, or pip install 'psycopg[binary]'"
+        )
+    return InvalidStore(
+        f"PostgreSQL needs {error.name}: pip install psycopg psycopg_pool (the extra "
+        "`postgresql`), or apt-get install python3-psycopg python3-psycopg-pool"
+    )
