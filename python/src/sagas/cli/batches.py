@@ -11,7 +11,7 @@ from sagas.cli.formatting import GOOD, NO, complain, show_json
 from sagas.cli.snapshot import Snapshot
 from sagas.definition import labels as labels_module
 from sagas.definition.serialization import clean
-from sagas.inspection import unmatched
+from sagas.inspection import names
 from sagas.inspection.views import SagaView
 from sagas.storage import admin
 from sagas.storage.admin import Trouble
@@ -97,7 +97,7 @@ def warn_of(path: str, sagas: Filter, is_needed: bool, step: str | None = None) 
     """Warn about labels and steps that nothing has, if the filter selects nothing."""
     if is_needed and (sagas.labels or step):
         with Snapshot(path) as store:
-            for warning in store.ask(unmatched.of(sagas, step)):
+            for warning in store.ask(names.unmatched_warnings(sagas, step)):
                 complain(warning)
 
 

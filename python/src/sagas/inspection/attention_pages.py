@@ -10,13 +10,12 @@ from typing import Any, Optional
 
 from sagas.core.attention import AttentionReason
 from sagas.definition.payloads import unescaped
-from sagas.inspection import names as names_module
-from sagas.inspection import unused_reports
+from sagas.inspection import lists, names as names_module
 from sagas.inspection.lists import chain_of
-from sagas.inspection.names import OF_SHARD, Names
+from sagas.inspection.names import Names
+from sagas.storage.queries import DAMAGED, DAMAGED_SINCE, OF_SHARD, PHASES
 from sagas.inspection.question import Query, Question
 from sagas.storage.filters import Filter
-from sagas.storage.queries import DAMAGED, DAMAGED_SINCE, PHASES
 
 EntryPosition = Optional[tuple[float, int, int]]
 """The last entry of the previous page: its saga's start and id, and its step's index or -1."""
@@ -44,7 +43,7 @@ WHERE h.reason = """
 UNUSED = f"""
 SELECT s.at AS started, s.id, h.step, s.key, s.saga, d.definition, h.action, NULL, h.detail,
   h.since, NULL
-FROM suspensions h JOIN sagas s ON s.id = h.id {OF_SHARD} WHERE {unused_reports.LEFT}
+FROM suspensions h JOIN sagas s ON s.id = h.id {OF_SHARD} WHERE {lists.UNUSED_REPORT}
 """
 IN_DAMAGED = f"""
 SELECT s.at AS started, s.id, -1 AS place, s.key, s.saga, coalesce(d.definition, ''), '' AS action,
@@ -151,7 +150,7 @@ def entries(
         listed = [row for row in listed if row[2] >= 0 and names.is_of(step, row[5], row[2])]
     result = [_entry(kind, names, *row) for row in listed]
     if kind == AttentionReason.UNUSED_REPORT:
-        by = yield from unused_reports.reporters(entry.key for entry in result)
+        by = yield from lists.reporters(entry.key for entry in result)
         reported = ((entry, by.get((entry.key, entry.step or ""))) for entry in result)
         result = [dataclasses.replace(entry, by=reporter) for entry, reporter in reported]
     if step is None:

@@ -13,7 +13,7 @@ from sagas.definition.groups import Block, Groups
 from sagas.definition.saga import Saga
 from sagas.inspection import definitions, picture
 from sagas.inspection.definitions import AtStep
-from sagas.inspection.group_boxes import Box, StepDisplay
+from sagas.inspection.picture import Box, StepDisplay
 from sagas.inspection.lists import COUNTED
 from sagas.inspection.question import Question
 from sagas.server import declared_steps
