@@ -7,7 +7,8 @@ from __future__ import annotations
 
 import time
 
-from hypothesis import given, settings, strategies as st
+from hypothesis import given, settings
+from hypothesis import strategies as st
 
 from sagas.inspection import picture, timeline
 from sagas.inspection.picture import FEW, StepDisplay, folded

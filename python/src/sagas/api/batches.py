@@ -17,7 +17,8 @@ from sagas.definition import arguments
 from sagas.definition.labels import Labels, checked, selecting
 from sagas.definition.payloads import Payloads
 from sagas.definition.saga import Saga
-from sagas.inspection import lists, names as names_module, pages
+from sagas.inspection import lists, pages
+from sagas.inspection import names as names_module
 from sagas.inspection.question import Question
 from sagas.storage import admin
 from sagas.storage.batches import Batch, BatchResult

@@ -10,12 +10,13 @@ from typing import Any, Optional
 
 from sagas.core.attention import AttentionReason
 from sagas.definition.payloads import unescaped
-from sagas.inspection import lists, names as names_module
+from sagas.inspection import lists
+from sagas.inspection import names as names_module
 from sagas.inspection.lists import chain_of
 from sagas.inspection.names import Names
-from sagas.storage.queries import DAMAGED, DAMAGED_SINCE, OF_SHARD, PHASES
 from sagas.inspection.question import Query, Question
 from sagas.storage.filters import Filter
+from sagas.storage.queries import DAMAGED, DAMAGED_SINCE, OF_SHARD, PHASES
 
 EntryPosition = Optional[tuple[float, int, int]]
 """The last entry of the previous page: its saga's start and id, and its step's index or -1."""

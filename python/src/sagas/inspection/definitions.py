@@ -8,9 +8,9 @@ from collections import Counter
 
 from sagas.inspection import names as names_module
 from sagas.inspection.lists import PERSON, WAITS
-from sagas.storage.queries import OF_SHARD, PHASES
 from sagas.inspection.question import Query, Question
 from sagas.storage.filters import Scope
+from sagas.storage.queries import OF_SHARD, PHASES
 
 MOST_COSTS, MOST_FAILED = 5000, 2000
 """How many of the latest recovered sagas are used for the costs and for the failures."""

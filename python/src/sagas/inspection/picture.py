@@ -13,7 +13,7 @@ from sagas.core.states import WAITS_FOR
 from sagas.definition.groups import ALL, Block, Group, Groups
 from sagas.engine.plan import Choice
 from sagas.inspection import wording
-from sagas.inspection.layout import GAP_X, HEIGHT, Placed, Point, WIDTH, lay_out
+from sagas.inspection.layout import GAP_X, HEIGHT, WIDTH, Placed, Point, lay_out
 from sagas.inspection.views import SagaView, Waits, state_of
 
 EARLY = {"complete": "its success is reported", "fail": "its failure is reported"}

@@ -11,9 +11,9 @@ from sagas.base.errors import NoSuchSaga
 from sagas.core import states as states_module
 from sagas.core.batch import SagaRow
 from sagas.core.history import (
-    AttemptEnd,
     EFFECT_STATES,
     FAILED_STATES,
+    AttemptEnd,
     Projection,
     attempts_of,
     errors_of,

@@ -9,7 +9,7 @@ from html import escape
 from typing import Any, NamedTuple
 
 from sagas.base.wording import number
-from sagas.core.history import AttemptEnd, FAILURE_EVENTS, START_EVENTS, Stretch, was_called
+from sagas.core.history import FAILURE_EVENTS, START_EVENTS, AttemptEnd, Stretch, was_called
 from sagas.core.spans import AGAIN_WORD, LEASED_WORD, PERSON_WORD, QUEUED_WORD, RUNNING_WORD
 from sagas.core.states import Suspension
 from sagas.definition import listed_steps

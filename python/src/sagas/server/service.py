@@ -29,13 +29,14 @@ from sagas.definition import tokens
 from sagas.definition.compiled import version_of
 from sagas.definition.labels import Labels
 from sagas.definition.saga import Saga
-from sagas.inspection import saga as one_saga, views
+from sagas.inspection import views
+from sagas.inspection import saga as one_saga
 from sagas.inspection.question import Question
 from sagas.inspection.wording import stored
 from sagas.inspection.views import SagaView
 from sagas.runtime.leased_tasks import Queue
 from sagas.server import declared_steps, private_files, webhook_file
-from sagas.server.auth import Rates, Sessions, Tokens, Principal
+from sagas.server.auth import Principal, Rates, Sessions, Tokens
 from sagas.server.event_stream import Hub
 from sagas.server.figures import Figures
 from sagas.server.metrics import Metrics

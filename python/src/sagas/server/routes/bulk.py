@@ -9,7 +9,8 @@ from typing import Any
 from starlette.responses import Response
 
 from sagas.base.errors import SagasError, StepNotWaiting
-from sagas.inspection import attention_pages, lists, names as names_module
+from sagas.inspection import attention_pages, lists
+from sagas.inspection import names as names_module
 from sagas.inspection.question import Question
 from sagas.server import answers, problems
 from sagas.server.auth import Permission

@@ -17,7 +17,7 @@ from sagas.definition.groups import Groups
 from sagas.engine.plan import certificate_text
 from sagas.inspection import names, picture, timeline, views, what_if
 from sagas.inspection.views import SagaView, StepView
-from sagas.server.dashboard_session import login_redirect, viewer_of, show_page
+from sagas.server.dashboard_session import login_redirect, show_page, viewer_of
 from sagas.server.history_rows import attempt_rows, event_rows
 from sagas.server.operations import Call, Routes
 from sagas.server.routes.pages import address_of

@@ -15,7 +15,9 @@ from starlette.responses import PlainTextResponse, Response
 from sagas.base.errors import DefinitionError, NoSuchSaga
 from sagas.definition import children, tracing
 from sagas.engine.plan import certificate_text
-from sagas.inspection import pages, picture as picture_module, views, what_if as what_if_module
+from sagas.inspection import pages, views
+from sagas.inspection import picture as picture_module
+from sagas.inspection import what_if as what_if_module
 from sagas.inspection.wording import StoredValue
 from sagas.inspection.views import SagaView
 from sagas.server import answers, json_views, renderer, unfolding
@@ -23,8 +25,8 @@ from sagas.server.access import (
     SIZE,
     check_definition,
     check_key,
-    is_unchanged,
     client_key,
+    is_unchanged,
     service_of,
     waiting,
 )
