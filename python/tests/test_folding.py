@@ -92,7 +92,7 @@ def test_failed_steps_come_first() -> None:
         AttemptTimes(name, False, 1, 10.0, 11.0, None, None, None, 0, waits, None),
     ]
     text = timeline.drawn(attempts, 10.0, 71.0)
-    assert text.count('class="row"') == timeline.MOST_ROWS
+    assert text.count('class="row"') == timeline.MAX_ROWS
     assert "bad, compensation, attempt 2: failed after 1 s; queued 1 s, ran 1 s" in text
     assert '<g class="run undo_failed">' in text and 'class="in-waiting person"' in text
     assert (

@@ -85,7 +85,7 @@ def target_of(link: admin.Source, key: str, command: str, value: Any) -> int | N
     if not rows and command == "abort":
         if link.withdraw(key):
             return None
-        start = link.start_of(key)  # its node does what it is asked once it has begun
+        start = link.start_of(key)  # its node executes the request once it has started
         rows = link.ask(SAGA, key) or ([(-start, "open")] if start else [])
     if not rows:
         raise link.missing_saga_error(key)

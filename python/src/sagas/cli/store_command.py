@@ -259,7 +259,7 @@ def add_files(part: argparse.ArgumentParser) -> None:
 
 
 def add_early(part: argparse.ArgumentParser) -> None:
-    """Add the option that rejects reports of steps that have not begun."""
+    """Add the option that rejects reports of steps that have not started."""
     part.add_argument(
         "--no-early",
         dest="early",

@@ -64,7 +64,7 @@ BY_KIND = {
 NOTHING = Filter()
 NUMBERS = re.compile(r"[0-9a-f]{8,}(?:-[0-9a-f]{4,})*|\d+")
 """The parts that differ between errors of one cause: numbers and hexadecimal identifiers."""
-MOST_GROUPED = 20_000
+MAX_GROUPED = 20_000
 
 
 @dataclasses.dataclass(frozen=True, slots=True)
@@ -131,7 +131,7 @@ def entries(
         undo: Whether to return compensations (True) or actions (False) of `step`. Default: both.
         after: The last entry of the previous page.
         newest: Whether the newest sagas come first.
-        most: The maximum number of entries.
+        limit: The maximum number of entries.
     """
     text, step_column = BY_KIND[kind]
     conditions, parameters = _among(sagas)
@@ -141,7 +141,7 @@ def entries(
         parameters += [at, id, *after[1:]]
     down = " DESC" if newest else ""  # few are sorted: a + keeps from the index of all
     order = f"ORDER BY +s.at{down}, s.id{down}{'' if step_column == '-1' else ', ' + step_column}"
-    wanted = limit if step is None else MOST_GROUPED
+    wanted = limit if step is None else MAX_GROUPED
     query = " AND ".join([text, *conditions]) + f" {order} LIMIT ?"
     rows = yield Query(query, (*parameters, wanted))
     names = yield from names_module.of_digests(row[5] for row in rows)
@@ -200,7 +200,7 @@ def count(
 ) -> Question[int]:
     """Count the entries of a kind. With `by_saga`, count each saga once."""
     if step is not None:
-        return len((yield from entries(kind, sagas, step, undo, limit=MOST_GROUPED)))
+        return len((yield from entries(kind, sagas, step, undo, limit=MAX_GROUPED)))
     conditions, parameters = _among(sagas)
     text = " AND ".join([BY_KIND[kind][0], *conditions])
     counted = "DISTINCT c.id" if by_saga else "*"

@@ -73,7 +73,7 @@ UNCLAIMED = """
 OF_KEY = " AND {}.id = (SELECT id FROM sagas WHERE key = ?)"
 PERSON = f"(reason = 'approval' OR {HELD_BADLY})"
 WAITS = "NOT (reason = 'wait' AND until = 0) AND number > 0"
-"""Excludes timers that have expired, whose rows remain, and reports of steps that have not begun
+"""Excludes timers that have expired, whose rows remain, and reports of steps that have not started
 (attempt 0).
 """
 COUNTS = f"""
@@ -94,7 +94,7 @@ refused again.
 """
 OLDEST = "ORDER BY +s.at, s.id"
 """Oldest first, for small results. The + keeps the databases from using the index of all sagas."""
-MOST, ALL = 100, 1 << 60
+DEFAULT_LIMIT, ALL = 100, 1 << 60
 
 
 def summary_of(row: Row) -> Summary:
@@ -222,7 +222,7 @@ def attention_counts(scope: Scope = EVERYTHING) -> Question[dict[str, int]]:
 
 
 def waits(
-    limit: int = MOST,
+    limit: int = DEFAULT_LIMIT,
     *,
     person: bool = True,
     why: str | None = None,
@@ -235,7 +235,7 @@ def waits(
     """Return suspended attempts, the oldest first.
 
     Args:
-        most: The maximum number of attempts.
+        limit: The maximum number of attempts.
         person: Whether to return only attempts that wait for an operator.
         why: Only attempts with this reason.
         key: Only attempts of the saga with this key.
@@ -302,7 +302,7 @@ def _waits(
 
 
 def stuck(
-    limit: int = MOST, scope: Scope = EVERYTHING
+    limit: int = DEFAULT_LIMIT, scope: Scope = EVERYTHING
 ) -> Question[list[tuple[Summary, list[str]]]]:
     """Return the unresolved stuck sagas with their blocking steps, the oldest first."""
     condition, parameters = scope.where()
@@ -387,7 +387,7 @@ REPORTERS = """
 SELECT key, value FROM operator_commands
 WHERE command = 'complete' AND answer = 'true' AND key IN ({}) ORDER BY id
 """
-MOST_KEYS = 500
+MAX_KEYS = 500
 """How many keys one query has."""
 Reporters = dict[tuple[str, str], str]
 """Who first reported a step, by the saga's key and the step's name."""
@@ -405,7 +405,7 @@ def reporters(keys: Iterable[str]) -> Question[Reporters]:
     result: Reporters = {}
     left = sorted(set(keys))
     while left:
-        batch, left = left[:MOST_KEYS], left[MOST_KEYS:]
+        batch, left = left[:MAX_KEYS], left[MAX_KEYS:]
         rows = yield Query(REPORTERS.format(", ".join("?" * len(batch))), (*batch,))
         for key, value in rows:
             report = json.loads(value or "null") or {}
@@ -421,7 +421,7 @@ SELECT s.key, s.saga, coalesce(d.definition, ''), 'damaged', NULL, '', l.audit, 
 
 
 def attention(
-    limit: int = MOST, decode: Callable[[str], str] = unescaped
+    limit: int = DEFAULT_LIMIT, decode: Callable[[str], str] = unescaped
 ) -> Question[list[Attention]]:
     """Return what needs an operator, the oldest first. `decode` reads a stored result."""
     stuck_sagas = f"""
@@ -467,7 +467,7 @@ def _reported(entry: Attention, sent_by: Reporters, decode: Callable[[str], str]
     return dataclasses.replace(entry, detail=detail, by=sent_by.get((entry.key, entry.step)))
 
 
-def undone(limit: int = MOST, scope: Scope = EVERYTHING) -> Question[list[Attention]]:
+def undone(limit: int = DEFAULT_LIMIT, scope: Scope = EVERYTHING) -> Question[list[Attention]]:
     """Return permanently failed compensations of unresolved sagas that have ended, oldest first."""
     rows = yield undone_query(limit, scope)
     return (yield from _entries(rows, limit))

@@ -93,7 +93,7 @@ def _item_parts(spot: StepOrigin, values: ShapeValues) -> Iterator[str]:
         yield f"{prefix}index {number}" + (f", key {keys[number]}" if keys else "")
 
 
-MOST_NAMES, MOST_DEFINITIONS = 256, 256
+MAX_NAMES, MAX_DEFINITIONS = 256, 256
 """How many label names and definitions are searched for a similar name."""
 
 
@@ -130,7 +130,7 @@ def _label_names() -> Question[list[str]]:
     labels.
     """
     names, last = list[str](), ""
-    while len(names) < MOST_NAMES:
+    while len(names) < MAX_NAMES:
         ((name,),) = yield Query("SELECT min(name) FROM labels WHERE name > ?", (last,))
         if name is None:
             break
@@ -148,7 +148,7 @@ def _step_warning(name: str, declared: Iterable[str]) -> Question[str | None]:
     query = "SELECT 1 FROM definitions WHERE instr(text, ?) > 0 OR instr(text, ?) > 0 LIMIT 1"
     if (yield Query(query, parameters)):
         return None
-    rows = yield Query(f"SELECT definition, text FROM definitions LIMIT {MOST_DEFINITIONS}")
+    rows = yield Query(f"SELECT definition, text FROM definitions LIMIT {MAX_DEFINITIONS}")
     texts: dict[str, str] = {digest: text for digest, text in rows}
     names = Names(texts)
     for digest in texts:

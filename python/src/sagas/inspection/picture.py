@@ -131,7 +131,7 @@ def tried(attempts: int, state: str) -> str:
     return f"attempt {attempts}" if attempts > 1 or state == "running" else ""
 
 
-MOST_ITEMS = 12
+MAX_ITEMS = 12
 """How many items of an unfolded group have a box of their own. The others share one box."""
 
 
@@ -211,7 +211,7 @@ def _few(
     boxes: list[Box], name: str, items: list[int], displays: Sequence[StepDisplay]
 ) -> list[Box]:
     """Return the boxes with the less urgent items of a group joined into one box."""
-    rest = sorted(items, key=lambda step: urgency(displays[step]))[MOST_ITEMS:]
+    rest = sorted(items, key=lambda step: urgency(displays[step]))[MAX_ITEMS:]
     if len(rest) < 2:
         return boxes
     display = counted([displays[step] for step in sorted(rest)])
@@ -295,17 +295,17 @@ color-scheme:light dark;
 """
 
 
-def shorten(text: str, most: int) -> str:
-    """Return a text, cut off after `most` characters."""
-    return text if len(text) <= most else text[: most - 1] + "…"
+def shorten(text: str, limit: int) -> str:
+    """Return a text, cut off after `limit` characters."""
+    return text if len(text) <= limit else text[: limit - 1] + "…"
 
 
-def shorten_name(text: str, most: int) -> str:
+def shorten_name(text: str, limit: int) -> str:
     """Return a name, shortened in its middle, because names often differ in their ends."""
     return (
         text
-        if len(text) <= most
-        else f"{text[: most // 2]}…{text[len(text) - (most - most // 2 - 1) :]}"
+        if len(text) <= limit
+        else f"{text[: limit // 2]}…{text[len(text) - (limit - limit // 2 - 1) :]}"
     )
 
 

@@ -37,7 +37,7 @@ from sagas.inspection.views import Note, Noted, Relative, SagaView, StepView
 from sagas.storage import queries
 
 Read = Callable[[str], Any]
-MOST_HELD = 10_000
+MAX_HELD = 10_000
 SAGA = f"""
 SELECT {queries.SAGA}, recovered, undo_failed, {queries.LABELS}, deadline
 FROM sagas s WHERE key = ?
@@ -177,7 +177,7 @@ def _view(
 ) -> Question[SagaView]:
     """Return a saga's view. Raises `NoSuchSaga` if the saga is deleted concurrently."""
     kept = yield from _kept(row, read)
-    held = yield from waits(MOST_HELD, person=False, key=row.key)
+    held = yield from waits(MAX_HELD, person=False, key=row.key)
     done = yield from notes(row.key, read)
     token = yield from _token(row.id)
     history, results = kept.history, results_of(kept.attempts)
@@ -235,7 +235,7 @@ def steps_of(
 ) -> list[StepView]:
     """Return the steps of a saga in their current states.
 
-    `progress` is by step, action and attempt. `early` are reports of steps that have not begun.
+    `progress` is by step, action and attempt. `early` are reports of steps that have not started.
     """
     now = {
         (entry.step, entry.undo): entry.attempt
@@ -274,16 +274,16 @@ SELECT s.key, s.saga, {queries.PHASE} FROM children c JOIN sagas s ON s.id = c.p
 """
 CHILDREN = f"""
 SELECT s.key, s.saga, {queries.PHASE} FROM children c JOIN sagas s ON s.id = c.id
-WHERE c.parent = ? ORDER BY s.at, s.id LIMIT {{most}}
+WHERE c.parent = ? ORDER BY s.at, s.id LIMIT {{limit}}
 """
-MOST_CHILDREN = 1024
+MAX_CHILDREN = 1024
 """How many children of a saga are listed."""
 
 
 def relatives(id: int, key: str) -> Question[tuple[Relative | None, list[Relative]]]:
     """Return the parent of a saga, or None, and its children in the order of their starts."""
     above = yield Query(PARENT, (id,))
-    below = yield Query(CHILDREN.format(most=MOST_CHILDREN), (id,))
+    below = yield Query(CHILDREN.format(limit=MAX_CHILDREN), (id,))
     parent = [
         Relative(relative, saga, phase, key[len(relative + BELOW) :])
         for relative, saga, phase in above

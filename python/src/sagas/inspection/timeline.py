@@ -317,8 +317,8 @@ def decisions(view: SagaView) -> list[dict[str, Any]]:
 
 
 LONG, ROW, TOP = 900, 28, 24
-MOST_NAME = 20
-MOST_ROWS = 20
+MAX_NAME = 20
+MAX_ROWS = 20
 """How many steps are drawn. Failed and active steps are preferred, then the longest."""
 TICKS = (
     *(0.01, 0.02, 0.05, 0.1, 0.2, 0.5, 1, 2, 5, 10, 15, 30),
@@ -347,7 +347,7 @@ def rows_of(attempts: list[AttemptTimes], now: float, titles: Mapping[str, str])
         is_bad, long = weights.get(name, (False, 0.0))
         attempt_is_bad = attempt.outcome not in ("succeeded", "not_called")
         weights[name] = is_bad or attempt_is_bad, long + (attempt.ended or now) - attempt.ready
-    kept = sorted(weights, key=lambda step: weights[step], reverse=True)[:MOST_ROWS]
+    kept = sorted(weights, key=lambda step: weights[step], reverse=True)[:MAX_ROWS]
     return [step for step in weights if step in set(kept)]
 
 
@@ -365,7 +365,7 @@ def drawn(
         return ""
     first = min(started, *(attempt.ready for attempt in shown))
     last = max(first + 0.001, *(attempt.ended or now for attempt in shown))
-    left = 14 + 7.8 * min(MOST_NAME, max(len(step) for step in rows))
+    left = 14 + 7.8 * min(MAX_NAME, max(len(step) for step in rows))
     scale, high = LONG / (last - first), TOP + ROW * len(rows) + 6
     marks = "".join(
         f'<line class="tick" x1="{left + at * scale:.1f}" x2="{left + at * scale:.1f}" '
@@ -375,7 +375,7 @@ def drawn(
     )
     names = "".join(
         f'<text class="row" x="0" y="{TOP + ROW * row + 18}">'
-        f"{escape(shorten_name(name, MOST_NAME))}</text>"
+        f"{escape(shorten_name(name, MAX_NAME))}</text>"
         for name, row in rows.items()
     )
     at = Scale(first, now, left, scale)
@@ -450,12 +450,12 @@ def group_bar(title: str, attempts: list[AttemptTimes], at: Scale, top: float) -
             for span in merged(spans_by_state.get((state, is_person), []), at.now)
         )
         if parts:
-            title_text = escape(f"{title}: {number(len(of_tone), 'attempt')}, {TONE_WORDS[tone]}")
+            title_text = escape(f"{title}: {number(len(of_tone), 'attempt')}, {TONE_TEXTS[tone]}")
             result.append(f'<g class="run {tone}"><title>{title_text}</title>{parts}</g>')
     return "".join(result)
 
 
-TONE_WORDS = {
+TONE_TEXTS = {
     "waiting": "not called",
     "committed": "succeeded",
     "undone": "undone",

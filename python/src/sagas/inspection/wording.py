@@ -164,15 +164,15 @@ class StoredValue:
         """Return the parsed value."""
         return json.loads(self.text)
 
-    def beginning(self, most: int) -> str:
-        """Return at least the first `most` characters.
+    def beginning(self, limit: int) -> str:
+        """Return at least the first `limit` characters.
 
         A string is returned unquoted. Other values are returned as JSON with blanks between
         values.
         """
         if self.text.startswith('"'):
             return str(self.read())
-        return TOKENS.sub(_shown, self.text[: most * LONGEST])
+        return TOKENS.sub(_shown, self.text[: limit * LONGEST])
 
 
 def _shown(token: re.Match[str]) -> str:
@@ -203,14 +203,14 @@ PIECE = 1000
 """How many characters of a long text are processed at once."""
 
 
-def pretty(value: Any, most: int = 20_000) -> str:
+def pretty(value: Any, limit: int = 20_000) -> str:
     """Return a value as indented JSON. Only the shown part of a large value is serialized."""
     chunks, count = list[str](), 0
     for chunk in LINES.iterencode(value):
         chunks.append(chunk)
         count += len(chunk)
-        if count > most:
-            return "".join(chunks)[:most] + "\n… (shortened; see the saga's log)"
+        if count > limit:
+            return "".join(chunks)[:limit] + "\n… (shortened; see the saga's log)"
     return "".join(chunks)
 
 
@@ -222,25 +222,25 @@ def one_line(value: Any) -> str:
     return " ".join(text.split())
 
 
-def short(value: Any, most: int = 90) -> str:
+def short(value: Any, limit: int = 90) -> str:
     """Return the beginning of `one_line`. Only the shown part of a large value is serialized."""
     if isinstance(value, StoredValue):
-        return _beginning([value.beginning(most)], most)[: most - 1] + "…"
+        return _beginning([value.beginning(limit)], limit)[: limit - 1] + "…"
     if isinstance(value, dict) and isinstance(value.get("error"), str):
         value = value["error"]
     if value is None:
         return ""
-    text = _beginning([value] if isinstance(value, str) else LINE.iterencode(value), most)
-    return text if len(text) <= most else text[: most - 1] + "…"
+    text = _beginning([value] if isinstance(value, str) else LINE.iterencode(value), limit)
+    return text if len(text) <= limit else text[: limit - 1] + "…"
 
 
-def _beginning(chunks: Iterable[str], most: int) -> str:
-    """Return a text on one line. A longer text is cut off after more than `most` characters."""
+def _beginning(chunks: Iterable[str], limit: int) -> str:
+    """Return a text on one line. A longer text is cut off after more than `limit` characters."""
     pieces, count = list[str](), 0
     for piece in _pieces(chunks):
         pieces.append(piece)
         count += sum(map(len, piece.split()))
-        if count > most:
+        if count > limit:
             break
     return " ".join("".join(pieces).split())
 
