@@ -9,7 +9,7 @@ import sys
 from sagas.base.option_values import age, integer_from
 from sagas.base.wording import number
 from sagas.cli.formatting import CANNOT, GOOD, show_json
-from sagas.cli.nodes import is_database
+from sagas.cli.nodes import check_database
 from sagas.definition.blobs import LEAST, check
 from sagas.definition.payloads import PLAIN
 from sagas.runtime import retention
@@ -45,7 +45,7 @@ def migrate(path: str, options: argparse.Namespace) -> int:
 
 def create_tables(name: str, role: str | None) -> str:
     """Create the tables, and grant a role what a node and a client need."""
-    is_database(name)
+    check_database(name)
     try:
         from sagas.storage.postgresql import connections, schema
     except ImportError as error:

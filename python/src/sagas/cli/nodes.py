@@ -46,7 +46,7 @@ GROUP BY saga, version, digest, fits, others ORDER BY saga, version, digest
 """
 
 
-def is_database(name: str) -> None:
+def check_database(name: str) -> None:
     """Raise `Trouble` if the store is a file."""
     factory.check_name(name)
     if not factory.is_url(name):
@@ -55,7 +55,7 @@ def is_database(name: str) -> None:
 
 def nodes_report(name: str) -> dict[str, Any]:
     """Return the nodes, and the shards and starts that no node has."""
-    is_database(name)
+    check_database(name)
     link = DatabaseSource(name, "ro")
     try:
         link.begin()
