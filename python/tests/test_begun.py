@@ -18,11 +18,10 @@ from cases import HOUR, Task, run, until
 
 import sagas
 from sagas.cli import store_command
-from sagas.inspection.activity import with_active_attempts
+from sagas.inspection.views import SagaView, Waits, with_active_attempts
 from sagas.core.history import Stretch
 from sagas.inspection import lists, saga as one_saga
 from sagas.inspection.question import StoreReader
-from sagas.inspection.views import SagaView, Waits
 
 BOUNDS: dict[str, dict[str, Any]] = {
     "concurrency": {"concurrency": 1},

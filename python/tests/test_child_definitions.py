@@ -15,7 +15,7 @@ from test_command import Shell
 import sagas
 import sagas.testing
 from sagas.api import worker
-from sagas.cli import backlog
+from sagas.cli import listings as listings_module
 from sagas.definition import definition_text, listed_steps, undo_sagas, undo_text
 from sagas.definition.context import Context
 from sagas.definition.shelf import DefinitionRegistry
@@ -462,7 +462,7 @@ def test_workers_undo_a_child(
     """The worker of the child's step gets its compensation, as of the child, also by another node;
     until a worker claims it, it is listed.
     """
-    monkeypatch.setattr(backlog, "UNCLAIMED", -1.0)
+    monkeypatch.setattr(listings, "UNCLAIMED", -1.0)
     shell, codec = Shell(location, capsys), Backwards()
 
     async def main() -> None:

@@ -22,7 +22,7 @@ import sagas.celery
 import sagas.testing
 from sagas.cli.snapshot import Snapshot
 from sagas.definition.start_options import StartOptions
-from sagas.inspection import families, lists
+from sagas.inspection import lists, views as views_module
 from sagas.runtime import retention
 from sagas.server import json_views
 from sagas.storage.filters import NOTHING, Filter, Scope
@@ -151,11 +151,11 @@ def test_a_completed_child_is_undone(location: str, capsys: pytest.CaptureFixtur
         and answers[1]["parent"]["key"] == "t"
         and answers[1]["children"] == []
     )
-    seen = families.seen_by(views[0], Scope(frozenset({"hotel"})))
+    seen = views_module.seen_by(views[0], Scope(frozenset({"hotel"})))
     assert [one.key for one in seen.children] == ["t/:stay", "t/:stay:undo"]
     assert (
-        families.seen_by(views[0], NOTHING).children == []
-        and families.seen_by(views[1], NOTHING).parent is None
+        views_module.seen_by(views[0], NOTHING).children == []
+        and views_module.seen_by(views[1], NOTHING).parent is None
     )
 
 

@@ -9,9 +9,8 @@ import time
 
 from hypothesis import given, settings, strategies as st
 
-from sagas.inspection import picture, timeline_picture
-from sagas.inspection.folding import FEW, folded
-from sagas.inspection.picture import StepDisplay
+from sagas.inspection import picture, timeline
+from sagas.inspection.picture import FEW, StepDisplay, folded
 from sagas.inspection.timeline import AttemptTimes, Span
 from sagas.server import table_rows
 
@@ -91,11 +90,11 @@ def test_failed_steps_come_first() -> None:
         AttemptTimes("bad", True, 2, 10.0, 11.0, 12.0, "failed", "no", 0, spans, None),
         AttemptTimes(name, False, 1, 10.0, 11.0, None, None, None, 0, waits, None),
     ]
-    text = timeline_picture.drawn(attempts, 10.0, 71.0)
-    assert text.count('class="row"') == timeline_picture.MOST_ROWS
+    text = timeline.drawn(attempts, 10.0, 71.0)
+    assert text.count('class="row"') == timeline.MAX_ROWS
     assert "bad, compensation, attempt 2: failed after 1 s; queued 1 s, ran 1 s" in text
     assert '<g class="run undo_failed">' in text and 'class="in-waiting person"' in text
     assert (
         "&lt;b&gt;late, action, attempt 1: under way after 1 min; queued 1 s, waited 1 min" in text
     )
-    assert timeline_picture.drawn([], 10.0, 71.0) == ""
+    assert timeline.drawn([], 10.0, 71.0) == ""

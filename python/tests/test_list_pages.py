@@ -100,7 +100,7 @@ def test_pages_of_any_filter(
     location: str, few: int, near: int, most_near: int, monkeypatch: pytest.MonkeyPatch
 ) -> None:
     """This holds whether the near ones are enough, or not, or all."""
-    for name, value in (("FEW", few), ("NEAR", near), ("MOST_NEAR", most_near)):
+    for name, value in (("FEW", few), ("NEAR", near), ("MAX_NEAR", most_near)):
         monkeypatch.setattr(pages, name, value)
 
     async def main() -> None:

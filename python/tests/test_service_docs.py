@@ -155,7 +155,7 @@ def test_each_wait_is_described() -> None:
     """The reference has each reason for which an attempt waits, and the page on troubleshooting the
     command's text for it.
     """
-    from sagas.cli.backlog import NEEDS, waits_for
+    from sagas.cli.listings import NEEDS, waits_for
     from sagas.core.states import WAITS_FOR, Suspension
 
     table = PAGE.partition("| `why` |")[2].partition("\n\n")[0]

@@ -27,7 +27,7 @@ import sagas
 from sagas.cli.store_command import main
 from sagas.definition.groups import ALL, Groups
 from sagas.inspection import layout, picture, saga as one_saga
-from sagas.inspection.group_boxes import MOST_ITEMS, StepDisplay, boxes_of
+from sagas.inspection.picture import MAX_ITEMS as MOST_ITEMS, StepDisplay, boxes_of
 from sagas.inspection.question import StoreReader
 from sagas.inspection.views import SagaView
 from sagas.server import declared_steps, json_views
@@ -115,7 +115,7 @@ def test_the_boxes_of_items() -> None:
     items = boxes_of(groups.blocks(len(names), {"ship"}), names, displays)
     titles = [box.title for box in items]
     assert {"ship-7", "ship-49", "ship: 38 more", "label ×50"} <= {*titles}
-    assert len(titles) == MOST_ITEMS + 4
+    assert len(titles) == MAX_ITEMS + 4
 
 
 def test_drawings_for_graphviz(tmp_path: pathlib.Path, capsys: Any) -> None:

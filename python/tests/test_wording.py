@@ -10,7 +10,7 @@ import pytest
 
 from sagas.definition import serialization
 from sagas.inspection import wording
-from sagas.inspection.stored_values import StoredValue, stored
+from sagas.inspection.wording import StoredValue, stored
 
 SIZES = (2, 10, 90, 300, 20_000)
 VALUES: list[Any] = [

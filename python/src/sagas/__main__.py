@@ -7,7 +7,7 @@ import sys
 
 from sagas.base import program
 from sagas.base.errors import EngineError
-from sagas.cli.overview import OVERVIEW
+from sagas.cli import OVERVIEW
 
 HELP = ("-h", "--help", "help")
 

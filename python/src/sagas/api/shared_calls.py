@@ -21,7 +21,7 @@ from sagas.definition import arguments, serialization, timing, validation
 from sagas.definition.labels import Labels, checked, selecting
 from sagas.definition.payloads import Payloads
 from sagas.definition.saga import Saga
-from sagas.inspection import lists, pages, unmatched
+from sagas.inspection import lists, names as names_module, pages
 from sagas.inspection.question import Question
 from sagas.storage import admin
 from sagas.storage.batches import Batch, BatchResult
@@ -258,7 +258,7 @@ class SharedCalls:
         self, filter: Filter, step: str | None = None, names: Iterable[str] = ()
     ) -> builtins.list[str]:
         """Return and log warnings about labels and steps of a filter that do not exist."""
-        warnings = await self._answer(unmatched.of(filter, step, names))
+        warnings = await self._answer(names_module.unmatched_warnings(filter, step, names))
         for warning in warnings:
             logger.warning("%s", warning)
         return warnings

@@ -1,6 +1,4 @@
-"""`abort`, `complete`, `fail`, `retry` and `compensate`: requests to the program that has the
-store.
-"""
+"""Requests to the program that has the store, and `resolve`."""
 
 from __future__ import annotations
 
@@ -11,29 +9,32 @@ from collections.abc import Sequence
 from typing import Any
 
 from sagas.base.errors import CannotDecode, ConflictingReport, InvalidResult, NotAbortable
-from sagas.cli.app_option import payloads_of
-from sagas.cli.batches import WAITS, abort_all, check_keys, filter_of, show_count, warn_of
+from sagas.base.wording import escaped, number
 from sagas.cli.formatting import GOOD, NO, complain, show_json
+from sagas.cli.options import check_keys, filter_of, payloads_of
 from sagas.cli.snapshot import Snapshot
 from sagas.core import child_results, step_reports
 from sagas.core.outcomes import reported_outcome
 from sagas.core.states import Suspension
 from sagas.definition import children
 from sagas.definition.payloads import ENVELOPE
-from sagas.definition.serialization import TOO_DEEP, is_deeper
+from sagas.definition.serialization import TOO_DEEP, clean, is_deeper
 from sagas.definition.validation import meant
 from sagas.inspection import lists
-from sagas.inspection.names import step_names
-from sagas.inspection.views import Waits
+from sagas.inspection.names import step_names, unmatched_warnings
+from sagas.inspection.views import SagaView, Waits
 from sagas.runtime.operator_commands import step_arguments
 from sagas.storage import admin, codec_note, store_name
 from sagas.storage.admin import Trouble
-from sagas.storage.batches import Batch
+from sagas.storage.batches import Batch, resolve_one
+from sagas.storage.filters import Filter
 from sagas.storage.operator_requests import reason
 from sagas.storage.queries import DEFINITION, PHASE
 
 Json = dict[str, Any]
 VERBS = {"complete": "completes", "fail": "fails", "retry": "retries"}
+WAITS = "requested; it takes effect when its program handles it"
+LEFT_OUT = "skipped, because it undoes a child"
 WITHDRAWN = "withdrawn"
 """The answer to an abort of a start that no node had accepted."""
 SAGA = f"SELECT id, {PHASE} FROM sagas s WHERE key = ?"
@@ -84,7 +85,7 @@ def target_of(link: admin.Source, key: str, command: str, value: Any) -> int | N
     if not rows and command == "abort":
         if link.withdraw(key):
             return None
-        start = link.start_of(key)  # its node does what it is asked once it has begun
+        start = link.start_of(key)  # its node executes the request once it has started
         rows = link.ask(SAGA, key) or ([(-start, "open")] if start else [])
     if not rows:
         raise link.missing_saga_error(key)
@@ -335,3 +336,99 @@ def report_of(options: argparse.Namespace) -> Json:
     early = getattr(options, "early", True) and not options.all  # those of --all are under way
     value = step_arguments(options.step, kind_of(options.undo), early)
     return value | ({"note": options.note} if options.note else {})
+
+
+def abort_all(path: str, options: argparse.Namespace) -> int:
+    """Count the sagas of the filter; with --yes, abort them."""
+    with admin.writing(path) as link:
+        batch = Batch(link, sagas := filter_of(options))
+        if not options.yes:
+            count, left_out = batch.abort_count(), batch.undoing_count()
+            warn_of(path, sagas, is_needed=not count + left_out)
+            return show_count(options, count, "--yes aborts", left_out=left_out)
+        result = batch.abort({"note": options.note} if options.note else None, options.timeout)
+    warn_of(path, sagas, is_needed=not (result.done or result.refused or result.waiting))
+    answers: dict[str, object] = dict.fromkeys(result.done, True)
+    answers |= dict.fromkeys(result.waiting) | result.refused
+    answers |= dict.fromkeys(result.undoing, LEFT_OUT)
+    if options.json:
+        show_json(
+            [{"key": key, "asked": "abort", "answer": answer} for key, answer in answers.items()]
+        )
+    else:
+        lines = dict.fromkeys(result.done, "aborted") | dict.fromkeys(result.waiting, WAITS)
+        lines |= result.refused | dict.fromkeys(result.undoing, LEFT_OUT)
+        for key, text in lines.items():
+            print(f"{key}: {escaped(text)}")
+    return NO if result.refused else GOOD
+
+
+def warn_of(path: str, sagas: Filter, is_needed: bool, step: str | None = None) -> None:
+    """Warn about labels and steps that nothing has, if the filter selects nothing."""
+    if is_needed and (sagas.labels or step):
+        with Snapshot(path) as store:
+            for warning in store.ask(unmatched_warnings(sagas, step)):
+                complain(warning)
+
+
+def show_count(
+    options: argparse.Namespace, count: int, remedy: str, noun: str = "saga", left_out: int = 0
+) -> int:
+    """Print how many sagas or steps are selected, and the option that changes them.
+
+    `left_out`: how many sagas are excluded because they undo children.
+    """
+    if options.json:
+        show_json({"count": count} | ({"undoing": left_out} if left_out else {}))
+    else:
+        pronoun = "it" if count == 1 else "them"
+        print(f"{number(count, noun)}" + (f": {remedy} {pronoun}" if count else ""))
+        if left_out:
+            undoes = "it undoes a child" if left_out == 1 else "they undo children"
+            print(f"{number(left_out, 'saga')} skipped, because {undoes}")
+    return GOOD
+
+
+def resolve(path: str, options: argparse.Namespace) -> int:
+    """Mark stuck sagas, failed compensations and unused reports as resolved."""
+    check_keys(options, bool(options.key))
+    if options.key and options.count:
+        raise Trouble("--count requires --all", 2)
+    if not options.note.strip():
+        raise Trouble("--note must not be empty. Describe what was done", 2)
+    with admin.writing(path) as link:
+        if options.all:
+            batch = Batch(link, sagas := filter_of(options))
+            if options.count:
+                count = batch.resolve_count()
+                warn_of(path, sagas, is_needed=not count)
+                return show_count(options, count, "without --count resolves")
+            done = batch.resolve(options.note, None).done
+            warn_of(path, sagas, is_needed=not done)
+        else:
+            with link.transaction():
+                done = [key for key in options.key if resolve_one(link, key, options.note)]
+    if options.json:
+        entries = [{"key": key, "note": options.note} for key in done]
+        show_json(entries[0] if len(options.key) == 1 and entries else entries)
+    else:
+        for key in done:
+            print(f"{key}: resolved")
+    if not options.all and (rest := [key for key in options.key if key not in done]):
+        check_same(path, rest, options.note)
+    return GOOD
+
+
+def check_same(path: str, keys: list[str], note: str) -> None:
+    """Raise `Trouble` for sagas that cannot be resolved, except those resolved with this note."""
+    with Snapshot(path) as store:
+        different = [view for key in keys if (view := store.saga(key)).note != clean(note)]
+    if different:
+        raise Trouble("; ".join(map(why_not, different)))
+
+
+def why_not(view: SagaView) -> str:
+    """Return why a saga cannot be resolved."""
+    if view.note is not None:
+        return f"{view.key} is already resolved; its first note is kept"
+    return f"{view.key} does not need to be resolved: it is {view.phase}"

@@ -34,7 +34,7 @@ WHERE id >= ? AND id < ? ORDER BY id
 ATTEMPTS = "SELECT id, step, action, number, event FROM attempts WHERE id >= ? AND id < ?"
 TRANSACTION = "ok"
 """The event of a row that a step's own transaction wrote, until the shard has the event."""
-MOST_SHOWN = 8
+MAX_SHOWN = 8
 
 
 class Events:
@@ -42,15 +42,15 @@ class Events:
 
     Attributes:
         first: The id of its first saga.
-        places: The index of each saga's definition, by the saga's id.
+        definition_indexes: The index of each saga's definition, by the saga's id.
         attempts: The event that ended each attempt.
-        under_way: The attempts that have begun and have not ended.
+        under_way: The attempts that have started and have not ended.
         standings: The state of each saga according to the engine, by id.
     """
 
     def __init__(self, log: int, text: str) -> None:
         self.first = queries.bounds(log)[0]
-        self.places: dict[int, int] = {}
+        self.definition_indexes: dict[int, int] = {}
         self.attempts: dict[Attempt, str] = {}
         self.standings: dict[int, Standing] = {}
         counts: dict[tuple[int, int, str], int] = {}
@@ -58,7 +58,7 @@ class Events:
         for event in json.loads(f"[{','.join(text.splitlines())}]"):
             name, id = event["event"], self.first + event["saga"]
             if name == "open":
-                self.places[id] = event["def"]
+                self.definition_indexes[id] = event["def"]
             elif name in START_EVENTS:
                 key = id, event["step"], "undo" if START_EVENTS[name] else "run"
                 counts[key] = counts.get(key, 0) + 1
@@ -69,15 +69,17 @@ class Events:
 
     def ask(self, texts: program.TextFiles) -> None:
         """Ask the engine for the state of each saga after these events. Raises `Trouble`."""
-        if not self.places:
+        if not self.definition_indexes:
             return
         log, *definitions = texts.paths
-        requests = "".join(f"{protocol.show_line(id - self.first)}\n" for id in self.places)
+        requests = "".join(
+            f"{protocol.show_line(id - self.first)}\n" for id in self.definition_indexes
+        )
         done = ran(["drive", "--lines", "--from", log, *definitions], texts, requests)
         replies = [line for line in done.stdout.splitlines() if line.startswith(protocol.REPLY)]
-        if done.returncode != GOOD or len(replies) != len(self.places):
+        if done.returncode != GOOD or len(replies) != len(self.definition_indexes):
             raise Trouble(f"sagas drive: {(done.stderr or done.stdout).strip()}", CANNOT)
-        self.standings = dict(zip(self.places, map(standing, replies)))
+        self.standings = dict(zip(self.definition_indexes, map(standing, replies)))
 
 
 def standing(reply: str) -> Standing:
@@ -109,12 +111,12 @@ class ShardAudit:
     """The audit of a shard.
 
     Attributes:
-        said: What `sagas audit` prints about its events.
+        output: What `sagas audit` prints about its events.
         is_allowed: Whether it accepts them.
         differences: Where the rows of the shard differ from its events.
     """
 
-    said: str
+    output: str
     is_allowed: bool
     differences: list[str] = dataclasses.field(default_factory=list)
 
@@ -138,7 +140,7 @@ def audit_shard(store: Snapshot, log: int) -> ShardAudit:
     keys: dict[int, str] = {id: key for id, key, *_ in rows}
     result.differences += compare_sagas(rows, events)
     result.differences += [
-        f"saga {id}: has events but no row" for id in events.places if id not in keys
+        f"saga {id}: has events but no row" for id in events.definition_indexes if id not in keys
     ]
     result.differences += compare_attempts(store, log, events, keys, texts)
     return result
@@ -148,12 +150,12 @@ def compare_sagas(rows: Sequence[Row], events: Events) -> list[str]:
     """Return where rows of sagas differ from the events: definition, phase and outcome."""
     differences = []
     for id, key, index, phase, outcome, recovered, undo_failed in rows:
-        if id not in events.places:
+        if id not in events.definition_indexes:
             differences.append(f"{key}: has a row but no events")
             continue
-        if index != events.places[id]:
+        if index != events.definition_indexes[id]:
             differences.append(
-                f"{key}: the row has definition {index}, the events {events.places[id]}"
+                f"{key}: the row has definition {index}, the events {events.definition_indexes[id]}"
             )
         row = phase, parsed(outcome), bool(recovered), bool(undo_failed)
         standing_of_events = events.standings[id]
@@ -200,7 +202,11 @@ def compare_attempts(
         row, event_of_log = rows.get(attempt), events.attempts.get(attempt)
         if row != event_of_log:
             id, step, action, count = attempt
-            listed = dict(enumerate(names[events.places[id]] if id in events.places else ()))
+            listed = dict(
+                enumerate(
+                    names[events.definition_indexes[id]] if id in events.definition_indexes else ()
+                )
+            )
             location = f"{keys.get(id, f'saga {id}')}: {listed.get(step, step)}, {action} {count}"
             differences.append(
                 f"{location}: the row says {row or 'nothing'}, "
@@ -232,7 +238,7 @@ def audit(path: str, options: argparse.Namespace) -> int:
                     "name": name,
                     "closed": bool(closed),
                     "good": result.is_good,
-                    "audit": result.said,
+                    "audit": result.output,
                     "differences": result.differences,
                 }
             )
@@ -259,7 +265,7 @@ def show(reports: list[dict[str, Any]]) -> None:
     ]
     print(table(heads, rows))
     for report in reports:
-        for line in report["differences"][:MOST_SHOWN]:
+        for line in report["differences"][:MAX_SHOWN]:
             print(escaped(f"shard {report['shard']}: {line}"))
-        if (more := len(report["differences"]) - MOST_SHOWN) > 0:
+        if (more := len(report["differences"]) - MAX_SHOWN) > 0:
             print(f"shard {report['shard']}: {number(more, 'more difference')}; --json lists all")

@@ -27,11 +27,11 @@ def moment(at: float | None) -> str:
     return clock(at)
 
 
-def short(value: Any, most: int = 60) -> str:
+def short(value: Any, limit: int = 60) -> str:
     """Return a value on one line, safe for a terminal. It is shortened only on a terminal."""
     text = escaped(one_line(value))
-    is_whole = len(text) <= most or not sys.stdout.isatty()
-    return text if is_whole else text[: most - 3] + "..."
+    is_whole = len(text) <= limit or not sys.stdout.isatty()
+    return text if is_whole else text[: limit - 3] + "..."
 
 
 def table(heads: Sequence[str], rows: Sequence[Sequence[object]]) -> str:

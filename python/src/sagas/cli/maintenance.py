@@ -1,87 +1,162 @@
-"""`nodes`, `init` and `migrate`."""
+"""`init`, `migrate`, `prune` and `own-blobs`."""
 
 from __future__ import annotations
 
 import argparse
-from typing import Any
+import asyncio
+import sys
 
-from sagas.cli import nodes as nodes_module
-from sagas.cli.formatting import GOOD, moment, show_json, table
-from sagas.storage import store_name
+from sagas.base.option_values import age, integer_from
+from sagas.base.wording import number
+from sagas.cli.formatting import CANNOT, GOOD, show_json
+from sagas.cli.nodes import check_database
+from sagas.definition.blobs import LEAST, check
+from sagas.definition.payloads import PLAIN
+from sagas.runtime import retention
+from sagas.storage import admin, store_name
+from sagas.storage.admin import Trouble
+from sagas.storage.blob_layer import Blobs
+from sagas.storage.folder_blobs import blobs_of
 from sagas.storage.sqlite import storage
 
 
-def nodes(path: str, options: argparse.Namespace) -> int:
-    """List the nodes of a PostgreSQL store, and what no node executes."""
-    report = nodes_module.read(path)
-    if options.json:
-        show_json(report)
-        return GOOD
-    print(
-        table(
-            ["NODE", "RUN", "DEFINITIONS", "SINCE", "LEASE", "SHARDS", "OPEN"],
-            [
-                (
-                    row["name"],
-                    row["run"],
-                    row["definitions"],
-                    moment(row["since"]),
-                    f"{row['lease']:.1f} s" if row["lease"] > 0 else "ended",
-                    row["shards"],
-                    row["open"],
-                )
-                for row in report["nodes"]
-            ],
-        )
+def add_role_option(part: argparse.ArgumentParser) -> None:
+    """Add the option that names the role."""
+    part.add_argument(
+        "--role", metavar="NAME", help="grant this role what a node and a client need, and no more"
     )
-    left = report["shards_without_node"]
-    if left:
-        print("\nNo node executes:")
-        print(
-            table(
-                ["SHARD", "OPEN", "SAGAS"],
-                [(row["name"], row["open"], ", ".join(row["sagas"])) for row in left],
-            )
-        )
-    if report["damaged_shards"]:
-        print("\nNo node can open these shards, because their data is damaged:")
-        heads = ["shard", "name", "open", "reason"]
-        damaged = [[row[head] for head in heads] for row in report["damaged_shards"]]
-        print(table([head.upper() for head in heads], damaged))
-    if report["starts_without_node"]:
-        print("\nNo node has accepted these starts:")
-        rows = [
-            (
-                row["saga"],
-                row["definition"] or "-",
-                row["starts"],
-                f"{row['seconds']:.1f} s",
-                why(row),
-            )
-            for row in report["starts_without_node"]
-        ]
-        print(table(["SAGA", "DEFINITION", "STARTS", "WAITING", "FOR"], rows))
-    return GOOD
-
-
-def why(start: dict[str, Any]) -> str:
-    """Return what a start that no node has accepted waits for."""
-    if start["nodes"]:
-        return f"a node with this definition: {', '.join(start['nodes'])} has another one"
-    return "its turn" if start["fits"] else "a node with this saga"
 
 
 def init(path: str, options: argparse.Namespace) -> int:
     """Create the tables of a PostgreSQL store."""
-    print(nodes_module.init(path, options.role))
+    print(create_tables(path, options.role))
     return GOOD
 
 
 def migrate(path: str, options: argparse.Namespace) -> int:
     """Migrate the tables to the version of this release, as opening the store does."""
     print(
-        nodes_module.init(path, None)
+        create_tables(path, None)
         if path.startswith(store_name.SCHEMES)
         else storage.migrate_file(path)
     )
+    return GOOD
+
+
+def create_tables(name: str, role: str | None) -> str:
+    """Create the tables, and grant a role what a node and a client need."""
+    check_database(name)
+    try:
+        from sagas.storage.postgresql import connections, schema
+    except ImportError as error:
+        raise store_name.missing_client(error) from error
+    database = connections.named(name)
+    with connections.translate_errors(database):
+        link = connections.connect_now(name)
+        try:
+            before = schema.migrate(link, database)
+            if role:
+                schema.allow(link, role)
+        finally:
+            link.close()
+    now = schema.VERSION
+    message = (
+        f"tables of version {now}"
+        if before == now
+        else f"tables of version {now}, {before or 'none'} before"
+    )
+    return f"{database}: {message}{f'; {role} may use them' if role else ''}"
+
+
+def add_prune_options(part: argparse.ArgumentParser) -> None:
+    """Add the options of `prune`."""
+    either = part.add_mutually_exclusive_group(required=True)
+    either.add_argument(
+        "--older-than",
+        type=age,
+        metavar="TIME",
+        help="delete sagas that ended at least this long ago, for example 30d or 12h",
+    )
+    either.add_argument(
+        "--damaged-shard",
+        type=integer_from(0),
+        metavar="NUMBER",
+        help="delete all sagas of a shard that no program can open, or whose audit failed",
+    )
+    part.add_argument(
+        "--export",
+        metavar="DIR",
+        help="first write each shard into its own subfolder of DIR",
+    )
+
+
+def prune(path: str, options: argparse.Namespace) -> int:
+    """Delete sagas that ended before a cutoff, by whole closed shards.
+
+    Their keys can be used again. One run deletes at most 100,000 sagas.
+    """
+    try:
+        if options.damaged_shard is not None:
+            return delete_damaged(path, options)
+        deleted = retention.prune(path, options.older_than, options.export)
+    except OSError as error:
+        raise Trouble(f"cannot write to {options.export}: {error}", CANNOT) from error
+    if deleted.other:
+        raise Trouble("another program is deleting ended sagas of this store. Try again later")
+    if options.json:
+        fields = {"shards": deleted.logs, "sagas": deleted.sagas, "refused_starts": deleted.starts}
+        show_json(fields | {"more": deleted.more})
+        return GOOD
+    starts = f" and {number(deleted.starts, 'refused start')}" if deleted.starts else ""
+    destination = f", exported to {options.export}" if options.export and deleted.logs else ""
+    shards = number(len(deleted.logs), "shard")
+    print(f"deleted {number(deleted.sagas, 'saga')} ({shards}){starts}{destination}")
+    if deleted.more:
+        print("more sagas are due: run the command again", file=sys.stderr)
+    return GOOD
+
+
+def delete_damaged(path: str, options: argparse.Namespace) -> int:
+    """Delete the sagas of a damaged shard."""
+    count = retention.delete_damaged(path, options.damaged_shard, options.export)
+    if options.json:
+        show_json({"shard": options.damaged_shard, "sagas": count})
+        return GOOD
+    destination = f", exported to {options.export}" if options.export else ""
+    print(f"deleted {number(count, 'saga')} of shard {options.damaged_shard}{destination}")
+    return GOOD
+
+
+SECRET = "SELECT value FROM secrets WHERE name = 'leases'"
+
+
+def add_blobs_option(part: argparse.ArgumentParser) -> argparse.ArgumentParser:
+    """Add the option; return the parser."""
+    help_text = "where the values are: a directory, or a blob store of a module"
+    part.add_argument("--blobs", metavar="DIR|MODULE:NAME", required=True, help=help_text)
+    return part
+
+
+def own_blobs(path: str, options: argparse.Namespace) -> int:
+    """Make this store the owner of the values in a blob store.
+
+    Use this for a store that was restored or copied and replaces the original one. First stop
+    the original, or give it another blob store. From then on, this store deletes values that
+    none of its rows refers to.
+    """
+    try:
+        store = blobs_of(options.blobs)
+        check(store, LEAST)
+    except (ValueError, TypeError) as error:
+        raise Trouble(str(error), 2) from error
+    with admin.writing(path) as link:
+        name, rows = link.name, link.ask(SECRET)
+    if not rows:
+        raise Trouble(f"{name}: no program has opened this store with a blob store", CANNOT)
+    blobs = Blobs(store, LEAST, PLAIN, name)
+    asyncio.run(blobs.mark(path, bytes.fromhex(rows[0][0])).take())
+    if options.json:
+        show_json({"store": name, "blobs": options.blobs})
+    else:
+        print(f"{name} owns the values in {options.blobs}")
     return GOOD

@@ -1,4 +1,4 @@
-"""Nodes, tables and grants of a PostgreSQL store."""
+"""`nodes`: the nodes of a PostgreSQL store, and what no node executes."""
 
 from __future__ import annotations
 
@@ -6,7 +6,7 @@ import argparse
 import json
 from typing import Any
 
-
+from sagas.cli.formatting import GOOD, moment, show_json, table
 from sagas.definition.capacity import SHARD_CAPACITY
 from sagas.definition.compiled import name_of, version_of
 from sagas.storage import queries, store_name
@@ -46,16 +46,16 @@ GROUP BY saga, version, digest, fits, others ORDER BY saga, version, digest
 """
 
 
-def is_database(name: str) -> None:
+def check_database(name: str) -> None:
     """Raise `Trouble` if the store is a file."""
     store_name.check_name(name)
     if not store_name.is_url(name):
         raise Trouble(f"{name} is a SQLite file. This command needs a PostgreSQL store", 2)
 
 
-def read(name: str) -> dict[str, Any]:
+def nodes_report(name: str) -> dict[str, Any]:
     """Return the nodes, and the shards and starts that no node has."""
-    is_database(name)
+    check_database(name)
     link = DatabaseSource(name, "ro")
     try:
         link.begin()
@@ -111,33 +111,61 @@ def _starts(link: DatabaseSource) -> list[dict[str, Any]]:
     ]
 
 
-def init(name: str, role: str | None) -> str:
-    """Create the tables, and grant a role what a node and a client need."""
-    is_database(name)
-    try:
-        from sagas.storage.postgresql import connections, schema
-    except ImportError as error:
-        raise store_name.missing_client(error) from error
-    database = connections.named(name)
-    with connections.translate_errors(database):
-        link = connections.connect_now(name)
-        try:
-            before = schema.migrate(link, database)
-            if role:
-                schema.allow(link, role)
-        finally:
-            link.close()
-    now = schema.VERSION
-    message = (
-        f"tables of version {now}"
-        if before == now
-        else f"tables of version {now}, {before or 'none'} before"
+def nodes(path: str, options: argparse.Namespace) -> int:
+    """List the nodes of a PostgreSQL store, and what no node executes."""
+    report = nodes_report(path)
+    if options.json:
+        show_json(report)
+        return GOOD
+    print(
+        table(
+            ["NODE", "RUN", "DEFINITIONS", "SINCE", "LEASE", "SHARDS", "OPEN"],
+            [
+                (
+                    row["name"],
+                    row["run"],
+                    row["definitions"],
+                    moment(row["since"]),
+                    f"{row['lease']:.1f} s" if row["lease"] > 0 else "ended",
+                    row["shards"],
+                    row["open"],
+                )
+                for row in report["nodes"]
+            ],
+        )
     )
-    return f"{database}: {message}{f'; {role} may use them' if role else ''}"
+    left = report["shards_without_node"]
+    if left:
+        print("\nNo node executes:")
+        print(
+            table(
+                ["SHARD", "OPEN", "SAGAS"],
+                [(row["name"], row["open"], ", ".join(row["sagas"])) for row in left],
+            )
+        )
+    if report["damaged_shards"]:
+        print("\nNo node can open these shards, because their data is damaged:")
+        heads = ["shard", "name", "open", "reason"]
+        damaged = [[row[head] for head in heads] for row in report["damaged_shards"]]
+        print(table([head.upper() for head in heads], damaged))
+    if report["starts_without_node"]:
+        print("\nNo node has accepted these starts:")
+        rows = [
+            (
+                row["saga"],
+                row["definition"] or "-",
+                row["starts"],
+                f"{row['seconds']:.1f} s",
+                wait_reason(row),
+            )
+            for row in report["starts_without_node"]
+        ]
+        print(table(["SAGA", "DEFINITION", "STARTS", "WAITING", "FOR"], rows))
+    return GOOD
 
 
-def add_role_option(part: argparse.ArgumentParser) -> None:
-    """Add the option that names the role."""
-    part.add_argument(
-        "--role", metavar="NAME", help="grant this role what a node and a client need, and no more"
-    )
+def wait_reason(start: dict[str, Any]) -> str:
+    """Return what a start that no node has accepted waits for."""
+    if start["nodes"]:
+        return f"a node with this definition: {', '.join(start['nodes'])} has another one"
+    return "its turn" if start["fits"] else "a node with this saga"

@@ -14,7 +14,7 @@ from typing import Any
 from sagas.base import program
 from sagas.base.wording import escaped
 from sagas.cli.formatting import CANNOT, GOOD, NO, Progress, show_json, table
-from sagas.cli.nodes import is_database
+from sagas.cli.nodes import check_database
 from sagas.cli.snapshot import Snapshot
 from sagas.core.fleet_record import Chunk, Loss, ShardRecord, Takeover
 from sagas.core.record_lines import InvalidLine, Records
@@ -186,7 +186,7 @@ def record(path: str, options: argparse.Namespace) -> int:
 
     Without files, only commits and takeovers are verified.
     """
-    is_database(path)
+    check_database(path)
     records = read(options.files)  # before the store is read, which has all of it by then
     with Snapshot(path) as store:
         checked = RecordChecker(store, records, options.sync, options.save).all()

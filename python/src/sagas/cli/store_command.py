@@ -14,20 +14,33 @@ from collections.abc import Callable
 
 from sagas.base.errors import SagasError
 from sagas.base.option_values import not_negative
-from sagas.cli import nodes as nodes_module
-from sagas.cli.actions import abort, compensate, complete, fail, retry
-from sagas.cli.app_option import add_app_option
+from sagas.cli.actions import abort, compensate, complete, fail, resolve, retry
 from sagas.cli.audits import audit
-from sagas.cli.blobs import own_blobs, add_blobs_option
-from sagas.cli.backlog import attention, definitions, pending, stats, stuck
-from sagas.cli.batches import resolve, add_filter_options, add_limit_option
-from sagas.cli.deliveries import deliveries, add_deliveries_options
 from sagas.cli.formatting import CANNOT, INTERRUPTED, complain, drop_output, escape
-from sagas.cli.inspect import draw, export, list_sagas, log, plan, show
-from sagas.cli.maintenance import init, migrate, nodes
+from sagas.cli.listings import (
+    add_deliveries_options,
+    add_schedules_options,
+    attention,
+    definitions,
+    deliveries,
+    pending,
+    schedules,
+    stats,
+    stuck,
+)
+from sagas.cli.maintenance import (
+    add_blobs_option,
+    add_prune_options,
+    add_role_option,
+    init,
+    migrate,
+    own_blobs,
+    prune,
+)
+from sagas.cli.nodes import nodes
+from sagas.cli.options import add_app_option, add_filter_options, add_limit_option
 from sagas.cli.records import record
-from sagas.cli.retention import prune, add_prune_options
-from sagas.cli.schedules import schedules, add_schedules_options
+from sagas.cli.saga_views import draw, export, list_sagas, log, plan, show
 from sagas.storage.admin import Trouble
 from sagas.storage.queries import PHASES
 
@@ -120,7 +133,7 @@ def parser() -> argparse.ArgumentParser:
     add_files(add("record", record))
     add("nodes", nodes)
     add("migrate", migrate)
-    nodes_module.add_role_option(add("init", init))
+    add_role_option(add("init", init))
     add_app_option(add("export", export, key=True))
     add_prune_options(add("prune", prune))
     add_blobs_option(add("own-blobs", own_blobs))
@@ -246,7 +259,7 @@ def add_files(part: argparse.ArgumentParser) -> None:
 
 
 def add_early(part: argparse.ArgumentParser) -> None:
-    """Add the option that rejects reports of steps that have not begun."""
+    """Add the option that rejects reports of steps that have not started."""
     part.add_argument(
         "--no-early",
         dest="early",

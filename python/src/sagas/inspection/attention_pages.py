@@ -10,12 +10,12 @@ from typing import Any, Optional
 
 from sagas.core.attention import AttentionReason
 from sagas.definition.payloads import unescaped
-from sagas.inspection import names as names_module, unused_reports
+from sagas.inspection import lists, names as names_module
 from sagas.inspection.lists import chain_of
-from sagas.inspection.names import OF_SHARD, Names
+from sagas.inspection.names import Names
 from sagas.inspection.question import Query, Question
 from sagas.storage.filters import Filter
-from sagas.storage.queries import DAMAGED, DAMAGED_SINCE, PHASES
+from sagas.storage.queries import DAMAGED, DAMAGED_SINCE, OF_SHARD, PHASES
 
 EntryPosition = Optional[tuple[float, int, int]]
 """The last entry of the previous page: its saga's start and id, and its step's index or -1."""
@@ -43,7 +43,7 @@ WHERE h.reason = """
 UNUSED = f"""
 SELECT s.at AS started, s.id, h.step, s.key, s.saga, d.definition, h.action, NULL, h.detail,
   h.since, NULL
-FROM suspensions h JOIN sagas s ON s.id = h.id {OF_SHARD} WHERE {unused_reports.LEFT}
+FROM suspensions h JOIN sagas s ON s.id = h.id {OF_SHARD} WHERE {lists.UNUSED_REPORT}
 """
 IN_DAMAGED = f"""
 SELECT s.at AS started, s.id, -1 AS place, s.key, s.saga, coalesce(d.definition, ''), '' AS action,
@@ -63,7 +63,7 @@ BY_KIND = {
 NOTHING = Filter()
 NUMBERS = re.compile(r"[0-9a-f]{8,}(?:-[0-9a-f]{4,})*|\d+")
 """The parts that differ between errors of one cause: numbers and hexadecimal identifiers."""
-MOST_GROUPED = 20_000
+MAX_GROUPED = 20_000
 
 
 @dataclasses.dataclass(frozen=True, slots=True)
@@ -130,7 +130,7 @@ def entries(
         undo: Whether to return compensations (True) or actions (False) of `step`. Default: both.
         after: The last entry of the previous page.
         newest: Whether the newest sagas come first.
-        most: The maximum number of entries.
+        limit: The maximum number of entries.
     """
     text, step_column = BY_KIND[kind]
     conditions, parameters = _among(sagas)
@@ -140,7 +140,7 @@ def entries(
         parameters += [at, id, *after[1:]]
     down = " DESC" if newest else ""  # few are sorted: a + keeps from the index of all
     order = f"ORDER BY +s.at{down}, s.id{down}{'' if step_column == '-1' else ', ' + step_column}"
-    wanted = limit if step is None else MOST_GROUPED
+    wanted = limit if step is None else MAX_GROUPED
     query = " AND ".join([text, *conditions]) + f" {order} LIMIT ?"
     rows = yield Query(query, (*parameters, wanted))
     names = yield from names_module.of_digests(row[5] for row in rows)
@@ -150,7 +150,7 @@ def entries(
         listed = [row for row in listed if row[2] >= 0 and names.is_of(step, row[5], row[2])]
     result = [_entry(kind, names, *row) for row in listed]
     if kind == AttentionReason.UNUSED_REPORT:
-        by = yield from unused_reports.reporters(entry.key for entry in result)
+        by = yield from lists.reporters(entry.key for entry in result)
         reported = ((entry, by.get((entry.key, entry.step or ""))) for entry in result)
         result = [dataclasses.replace(entry, by=reporter) for entry, reporter in reported]
     if step is None:
@@ -199,7 +199,7 @@ def count(
 ) -> Question[int]:
     """Count the entries of a kind. With `by_saga`, count each saga once."""
     if step is not None:
-        return len((yield from entries(kind, sagas, step, undo, limit=MOST_GROUPED)))
+        return len((yield from entries(kind, sagas, step, undo, limit=MAX_GROUPED)))
     conditions, parameters = _among(sagas)
     text = " AND ".join([BY_KIND[kind][0], *conditions])
     counted = "DISTINCT c.id" if by_saga else "*"

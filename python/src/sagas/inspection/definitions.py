@@ -8,12 +8,11 @@ from collections import Counter
 
 from sagas.inspection import names as names_module
 from sagas.inspection.lists import PERSON, WAITS
-from sagas.inspection.names import OF_SHARD
 from sagas.inspection.question import Query, Question
 from sagas.storage.filters import Scope
-from sagas.storage.queries import PHASES
+from sagas.storage.queries import OF_SHARD, PHASES
 
-MOST_COSTS, MOST_FAILED = 5000, 2000
+MAX_COSTS, MAX_FAILED = 5000, 2000
 """How many of the latest recovered sagas are used for the costs and for the failures."""
 DAY = 86400.0
 DAYS = 14
@@ -32,7 +31,7 @@ GROUP BY 1, 2, 3
 FAILED = f"""
 SELECT {AT}, r.step, 'failed', count(*) FROM (
   SELECT id, definition_index FROM sagas s
-  WHERE saga = ? AND {{{{scope}}}} AND {{}} ORDER BY id DESC LIMIT {MOST_FAILED}) s
+  WHERE saga = ? AND {{{{scope}}}} AND {{}} ORDER BY id DESC LIMIT {MAX_FAILED}) s
 {OF_SHARD} JOIN attempts r ON r.id = s.id AND r.event IN ('fail', 'undo_fail') GROUP BY 1, 2
 """
 WITH_FAILURES = (
@@ -88,7 +87,7 @@ def costs(name: str, now: float, scope: Scope) -> Question[list[tuple[float, int
     """Return the costs of recoveries of the last 14 days: day, count and total cost of each."""
     first = (now // DAY - DAYS + 1) * DAY
     condition, parameters = scope.where()
-    rows = yield Query(COSTS.format(scope=condition), (name, *parameters, first, MOST_COSTS))
+    rows = yield Query(COSTS.format(scope=condition), (name, *parameters, first, MAX_COSTS))
     counts, sums = Counter[float](), Counter[float]()
     known: dict[str | None, int] = {}  # most ended in one of a few ways
     for ended, outcome in rows:

@@ -58,7 +58,7 @@ def _of(*row: Any) -> Delivery:
     )
 
 
-def one(id: str) -> Question[Delivery | None]:
+def delivery(id: str) -> Question[Delivery | None]:
     """Return the delivery with this id, or None."""
     rows = yield Query(f"SELECT {COLUMNS} FROM webhook_deliveries WHERE id = ?", (id,))
     return _of(*rows[0]) if rows else None

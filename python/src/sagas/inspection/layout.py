@@ -8,7 +8,7 @@ from collections.abc import Sequence
 WIDTH, HEIGHT = 180, 74
 GAP_X, GAP_Y = 56, 18
 THIN = 10  # the height of a line that passes a layer
-MOST_PASSING = 4000
+MAX_PASSING = 4000
 SWEEPS = 6
 
 Point = tuple[float, float]
@@ -74,7 +74,7 @@ class Layout:
         )
         for step, needed in enumerate(needs):
             for index, need in enumerate(needed):
-                self._link(step, index, need, passing <= MOST_PASSING)
+                self._link(step, index, need, passing <= MAX_PASSING)
         self.layers: list[list[int]] = [[] for _ in range(max(self.of) + 1)]
         for number, item in enumerate(self.items):
             self.layers[item.layer].append(number)

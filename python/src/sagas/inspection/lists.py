@@ -4,7 +4,7 @@ from __future__ import annotations
 
 import dataclasses
 import json
-from collections.abc import Callable, Mapping
+from collections.abc import Callable, Iterable, Mapping
 from typing import Any
 
 from sagas.base.errors import CannotDecode
@@ -19,8 +19,8 @@ from sagas.definition.capacity import SHARD_CAPACITY
 from sagas.definition.compiled import CompiledDefinition, version_of
 from sagas.definition.labels import TOKEN
 from sagas.definition.payloads import unescaped
-from sagas.inspection import names as names_module, unused_reports
-from sagas.inspection.names import OF_SHARD, Names
+from sagas.inspection import names as names_module
+from sagas.inspection.names import Names
 from sagas.inspection.question import Query, Question, Row
 from sagas.inspection.views import Waits
 from sagas.storage import schedules as schedules_module
@@ -30,6 +30,7 @@ from sagas.storage.queries import (
     DAMAGED_SINCE,
     HELD,
     LABELS,
+    OF_SHARD,
     PHASES,
     RESULTS,
     SAGA,
@@ -72,7 +73,7 @@ UNCLAIMED = """
 OF_KEY = " AND {}.id = (SELECT id FROM sagas WHERE key = ?)"
 PERSON = f"(reason = 'approval' OR {HELD_BADLY})"
 WAITS = "NOT (reason = 'wait' AND until = 0) AND number > 0"
-"""Excludes timers that have expired, whose rows remain, and reports of steps that have not begun
+"""Excludes timers that have expired, whose rows remain, and reports of steps that have not started
 (attempt 0).
 """
 COUNTS = f"""
@@ -93,7 +94,7 @@ refused again.
 """
 OLDEST = "ORDER BY +s.at, s.id"
 """Oldest first, for small results. The + keeps the databases from using the index of all sagas."""
-MOST, ALL = 100, 1 << 60
+DEFAULT_LIMIT, ALL = 100, 1 << 60
 
 
 def summary_of(row: Row) -> Summary:
@@ -215,13 +216,13 @@ def attention_counts(scope: Scope = EVERYTHING) -> Question[dict[str, int]]:
     stuck = yield from count(Filter("stuck", scope=scope))
     undo_failed = yield from count(Filter("undo_failed", scope=scope))
     damaged = yield Query(f"SELECT count(*) {DAMAGED} AND {condition}", (*parameters,))
-    unused = yield from unused_reports.count(scope)
+    unused = yield from unused_report_count(scope)
     ends = {"stuck": stuck, "undo_failed": undo_failed, "unused_report": unused}
     return {**ends, **held_counts, "damaged": int(damaged[0][0])}
 
 
 def waits(
-    limit: int = MOST,
+    limit: int = DEFAULT_LIMIT,
     *,
     person: bool = True,
     why: str | None = None,
@@ -234,7 +235,7 @@ def waits(
     """Return suspended attempts, the oldest first.
 
     Args:
-        most: The maximum number of attempts.
+        limit: The maximum number of attempts.
         person: Whether to return only attempts that wait for an operator.
         why: Only attempts with this reason.
         key: Only attempts of the saga with this key.
@@ -301,7 +302,7 @@ def _waits(
 
 
 def stuck(
-    limit: int = MOST, scope: Scope = EVERYTHING
+    limit: int = DEFAULT_LIMIT, scope: Scope = EVERYTHING
 ) -> Question[list[tuple[Summary, list[str]]]]:
     """Return the unresolved stuck sagas with their blocking steps, the oldest first."""
     condition, parameters = scope.where()
@@ -370,6 +371,49 @@ def unknown(limit: int) -> Question[list[UnknownAttempt]]:
     return result
 
 
+UNUSED_REPORT = (
+    "h.number = 0 AND h.reason = 'early_result' AND s.phase IS NOT NULL AND s.note IS NULL"
+)
+"""Selects the unresolved reports `h` of sagas `s`."""
+UNUSED_REPORTS = f"""
+SELECT s.key, s.saga, d.definition, 'unused_report', h.step, h.action, h.detail, h.since
+FROM suspensions h JOIN sagas s ON s.id = h.id {OF_SHARD}
+WHERE {UNUSED_REPORT} ORDER BY h.since LIMIT ?
+"""
+UNUSED_COUNT = (
+    f"SELECT count(*) FROM suspensions h JOIN sagas s ON s.id = h.id WHERE {UNUSED_REPORT} AND "
+)
+REPORTERS = """
+SELECT key, value FROM operator_commands
+WHERE command = 'complete' AND answer = 'true' AND key IN ({}) ORDER BY id
+"""
+MAX_KEYS = 500
+"""How many keys one query has."""
+Reporters = dict[tuple[str, str], str]
+"""Who first reported a step, by the saga's key and the step's name."""
+
+
+def unused_report_count(scope: Scope = EVERYTHING) -> Question[int]:
+    """Count the unused reports that wait for an operator."""
+    condition, parameters = scope.where()
+    rows = yield Query(f"{UNUSED_COUNT}{condition}", (*parameters,))
+    return int(rows[0][0])
+
+
+def reporters(keys: Iterable[str]) -> Question[Reporters]:
+    """Return who reported steps of sagas, if the store has a name."""
+    result: Reporters = {}
+    left = sorted(set(keys))
+    while left:
+        batch, left = left[:MAX_KEYS], left[MAX_KEYS:]
+        rows = yield Query(REPORTERS.format(", ".join("?" * len(batch))), (*batch,))
+        for key, value in rows:
+            report = json.loads(value or "null") or {}
+            if report.get("by") and report.get("kind", "run") == "run":
+                result.setdefault((key, str(report.get("step"))), str(report["by"]))
+    return result
+
+
 IN_DAMAGED = f"""
 SELECT s.key, s.saga, coalesce(d.definition, ''), 'damaged', NULL, '', l.audit, {DAMAGED_SINCE}
 {DAMAGED} ORDER BY s.id LIMIT ?
@@ -377,7 +421,7 @@ SELECT s.key, s.saga, coalesce(d.definition, ''), 'damaged', NULL, '', l.audit, 
 
 
 def attention(
-    limit: int = MOST, decode: Callable[[str], str] = unescaped
+    limit: int = DEFAULT_LIMIT, decode: Callable[[str], str] = unescaped
 ) -> Question[list[Attention]]:
     """Return what needs an operator, the oldest first. `decode` reads a stored result."""
     stuck_sagas = f"""
@@ -406,26 +450,24 @@ def attention(
     rows = rows + (yield undone_query(limit))
     rows = rows + (yield Query(attempts, (limit,)))
     rows = rows + (yield Query(IN_DAMAGED, (limit,)))
-    unused = yield Query(unused_reports.ROWS, (limit,))
-    reporters = yield from unused_reports.reporters(row[0] for row in unused)
+    unused = yield Query(UNUSED_REPORTS, (limit,))
+    sent_by = yield from reporters(row[0] for row in unused)
     entries = yield from _entries(rows + unused, limit, errors)
-    return [_reported(entry, reporters, decode) for entry in entries]
+    return [_reported(entry, sent_by, decode) for entry in entries]
 
 
-def _reported(
-    entry: Attention, reporters: unused_reports.Reporters, decode: Callable[[str], str]
-) -> Attention:
-    """Return an entry for an unused report with its result and the reporter's name."""
+def _reported(entry: Attention, sent_by: Reporters, decode: Callable[[str], str]) -> Attention:
+    """Return an entry for an unused report with its result and the sender's name."""
     if entry.why is not AttentionReason.UNUSED_REPORT or entry.step is None:
         return entry
     try:
         detail = decode(entry.detail or "null")
     except CannotDecode:
         detail = None
-    return dataclasses.replace(entry, detail=detail, by=reporters.get((entry.key, entry.step)))
+    return dataclasses.replace(entry, detail=detail, by=sent_by.get((entry.key, entry.step)))
 
 
-def undone(limit: int = MOST, scope: Scope = EVERYTHING) -> Question[list[Attention]]:
+def undone(limit: int = DEFAULT_LIMIT, scope: Scope = EVERYTHING) -> Question[list[Attention]]:
     """Return permanently failed compensations of unresolved sagas that have ended, oldest first."""
     rows = yield undone_query(limit, scope)
     return (yield from _entries(rows, limit))

@@ -1,13 +1,18 @@
-"""Names of steps in lists: each definition is fetched and parsed once, and not once a row."""
+"""Names of steps: in the rows of lists, of items, and those of a filter that nothing has."""
 
 from __future__ import annotations
 
-from collections.abc import Iterable
+from collections.abc import Iterable, Iterator, Sequence
 
 from sagas.definition import listed_steps
 from sagas.definition.groups import Groups
+from sagas.definition.labels import TOKEN
+from sagas.definition.layout import StepOrigin
+from sagas.definition.shape_text import OF
+from sagas.definition.shape_values import ShapeValues
+from sagas.definition.validation import meant
 from sagas.inspection.question import Query, Question
-from sagas.storage.queries import OF_SHARD as OF_SHARD
+from sagas.storage.filters import EVERYTHING, Filter
 
 MANY = 500
 """How many definitions one query fetches."""
@@ -64,3 +69,88 @@ def of_digests(digests: Iterable[str]) -> Question[Names]:
         rows = yield Query(text, (*batch,))
         texts |= dict(rows)  # type: ignore[arg-type]
     return Names(texts)
+
+
+def item_texts(
+    spots: Sequence[StepOrigin], names: Sequence[str], shape: str | None
+) -> dict[str, str]:
+    """Describe, by step name, the index of the step's item, and its key if it came from a dict.
+
+    `shape` is the stored shape. If it is encoded, the keys are unknown.
+    """
+    values = ShapeValues() if shape is None else ShapeValues.read(shape)
+    described = ((name, [*_item_parts(spot, values)]) for name, spot in zip(names, spots))
+    return {name: "; ".join(parts) for name, parts in described if parts}
+
+
+def _item_parts(spot: StepOrigin, values: ShapeValues) -> Iterator[str]:
+    """Yield the item of each enclosing inclusion, and then that of the step."""
+    for depth, (name, number) in enumerate((*spot.scope, (spot.name, spot.number))):
+        if number is None:
+            continue
+        keys = values.keys_of(spot.scope[:depth], name)
+        prefix = f"{name} " if depth < len(spot.scope) else ""
+        yield f"{prefix}index {number}" + (f", key {keys[number]}" if keys else "")
+
+
+MAX_NAMES, MAX_DEFINITIONS = 256, 256
+"""How many label names and definitions are searched for a similar name."""
+
+
+def unmatched_warnings(
+    filter: Filter, step: str | None = None, declared: Iterable[str] = ()
+) -> Question[list[str]]:
+    """Return warnings about a filter that selects nothing.
+
+    They name labels that no saga of the filter's scope has, and the step if no definition has
+    it. In a restricted scope, names that others may use are not revealed.
+
+    Args:
+        filter: The filter.
+        step: The name or declared name of a step that was also requested.
+        declared: Names of steps of the program's definitions, in addition to those of the store.
+    """
+    warnings, is_whole = list[str](), filter.scope == EVERYTHING
+    if step is not None and is_whole and (why := (yield from _step_warning(step, declared))):
+        warnings.append(why)
+    for name, value in filter.labels.items():
+        condition, parameters = Filter(labels={name: value}, scope=filter.scope).where()
+        if (yield Query(f"SELECT 1 FROM sagas s WHERE {condition} LIMIT 1", (*parameters,))):
+            continue
+        names = (yield from _label_names()) if is_whole else [name]
+        if name in names:
+            warnings.append(f"no saga has the label {name}={value!r}")
+        else:
+            warnings.append(f"no saga has a label {name!r}{meant(name, names)}")
+    return warnings
+
+
+def _label_names() -> Question[list[str]]:
+    """Return the names of labels. Uses the index for each, because there may be millions of
+    labels.
+    """
+    names, last = list[str](), ""
+    while len(names) < MAX_NAMES:
+        ((name,),) = yield Query("SELECT min(name) FROM labels WHERE name > ?", (last,))
+        if name is None:
+            break
+        last = str(name)
+        names.append(last)
+    return [name for name in names if name != TOKEN]
+
+
+def _step_warning(name: str, declared: Iterable[str]) -> Question[str | None]:
+    """Return a warning if no definition has a step, else None."""
+    known = {*declared}
+    if name in known:
+        return None
+    parameters = f'"{name}"', f"{OF}{name}"
+    query = "SELECT 1 FROM definitions WHERE instr(text, ?) > 0 OR instr(text, ?) > 0 LIMIT 1"
+    if (yield Query(query, parameters)):
+        return None
+    rows = yield Query(f"SELECT definition, text FROM definitions LIMIT {MAX_DEFINITIONS}")
+    texts: dict[str, str] = {digest: text for digest, text in rows}
+    names = Names(texts)
+    for digest in texts:
+        known |= {*names.of(digest), *names.declared(digest)}
+    return f"no definition has a step {name!r}{meant(name, sorted(known))}" if known else None

@@ -27,7 +27,7 @@ INDEXED = {
     "open": f"SELECT 1 FROM sagas s WHERE {PHASES['open']}",
     "recovered": f"SELECT 1 FROM sagas s WHERE {PLANNED}",
 }
-NEAR, MOST_NEAR = 100, 20_000
+NEAR, MAX_NEAR = 100, 20_000
 """How many neighboring sagas are scanned for each one that is wanted, and at most. If these do not
 suffice, all sagas of the filter are sorted.
 """
@@ -90,7 +90,7 @@ def page(
         before: Return only sagas before this position.
         after: Return only sagas after this position.
         newest: Whether the newest come first. Default: no if `after` is given, else yes.
-        most: The maximum number of sagas. None: no maximum.
+        limit: The maximum number of sagas. None: no maximum.
         of: A filter, instead of `phase`, `saga`, `labels` and `search`.
 
     A database cannot know which is cheaper: to scan sagas in their order, or to sort all sagas of
@@ -104,7 +104,7 @@ def page(
         return (yield from _rows(of, bounds, is_newest, limit, "s.at"))
     are_many = yield from _are_many(of)
     if limit is not None and are_many:
-        near, is_all = yield from _near(bounds, is_newest, min(NEAR * limit, MOST_NEAR))
+        near, is_all = yield from _near(bounds, is_newest, min(NEAR * limit, MAX_NEAR))
         result = yield from _rows(of, near, is_newest, limit, "s.at")
         if len(result) == limit or is_all:
             return result

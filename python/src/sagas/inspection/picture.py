@@ -1,67 +1,59 @@
-"""The graph of a saga as SVG: steps with their states, and a plan with its costs."""
+"""The graph of a saga as SVG: boxes of its steps with their states, and a plan with its costs."""
 
 from __future__ import annotations
 
 import dataclasses
-from collections.abc import Collection
+from collections import Counter
+from collections.abc import Callable, Collection, Hashable, Sequence
 from html import escape
+from typing import NamedTuple, Optional
 
 from sagas.core.outcomes import CANNOT_DECODE
 from sagas.core.states import WAITS_FOR
-from sagas.definition.groups import Groups
+from sagas.definition.groups import ALL, Block, Group, Groups
 from sagas.engine.plan import Choice
 from sagas.inspection import wording
-from sagas.inspection.activity import state_of
-from sagas.inspection.folding import folded
-from sagas.inspection.group_boxes import Box, Link, StepDisplay, blocks_of, boxes_of, urgency
 from sagas.inspection.layout import GAP_X, HEIGHT, WIDTH, Placed, Point, lay_out
-from sagas.inspection.views import SagaView, Waits
+from sagas.inspection.views import SagaView, Waits, state_of
 
-MARGIN = 6
-ICONS = {
-    "waiting": '<circle r="5"/>',
-    "running": '<circle r="5"/><circle class="full" r="2.4"/>',
-    "committed": '<path d="M-5 0.5 L-1.6 4 L5 -4"/>',
-    "failed": '<path d="M-4 -4 L4 4 M4 -4 L-4 4"/>',
-    "undoing": '<path d="M-4.5 -1 A4.8 4.8 0 1 1 -2.5 4 M-5 -5 L-4.6 -0.8 L-0.6 -1.6"/>',
-    "undone": (
-        '<path d="M4.5 4 L4.5 1 A2.6 2.6 0 0 0 2 -1.8 L-4.5 -1.8 M-1.4 -5 L-4.8 -1.8 L-1.4 1.4"/>'
-    ),
-    "undo_failed": (
-        '<rect x="-4" y="-0.5" width="8" height="5.5" rx="1"/>'
-        '<path d="M-2.4 -0.5 V-2.4 A2.4 2.4 0 0 1 2.4 -2.4 V-0.5"/>'
-    ),
+EARLY = {"complete": "its success is reported", "fail": "its failure is reported"}
+QUESTION_STATES = {
+    "approval": "to approve",
+    "unknown": "unknown",
+    "exhausted": "exhausted",
+    "cannot_decode": "unreadable",
 }
-STYLE = """
-svg{font:13px system-ui,-apple-system,"Segoe UI",Roboto,"Helvetica Neue",Arial,sans-serif;
-color-scheme:light dark;
---card:#fff;--line:#9aa4b2;--text:#16202c;--soft:#55606e;--grey:#6b7685;--blue:#1f5fbf;
---green:#157347;--red:#b42318;--amber:#8a5300;--violet:#6541b0}
-@media (prefers-color-scheme:dark){svg{--card:#1b222b;--line:#5d6876;--text:#e8edf3;--soft:#a9b4c1;
---grey:#98a3b1;--blue:#7fb2ff;--green:#5fce94;--red:#ff8f84;--amber:#f0b95a;--violet:#b99cf5}}
-.box{fill:var(--card);stroke:var(--tone);stroke-width:1.5}.bar{fill:var(--tone)}
-.name{fill:var(--text);font-weight:600}.long{font-size:11.5px}
-.state{fill:var(--tone);font-weight:600;font-size:12px}
-.why{fill:var(--soft);font-size:11px}.need{fill:none;stroke:var(--line);stroke-width:1.5}
-.icon{fill:none;stroke:var(--tone);stroke-width:2;stroke-linecap:round;stroke-linejoin:round}
-.icon .full{fill:var(--tone);stroke:none}.left .box{stroke-dasharray:5 4}.arrow{fill:var(--line)}
-.waiting{--tone:var(--grey)}.running,.undoing{--tone:var(--blue)}.committed{--tone:var(--green)}
-.failed{--tone:var(--red)}.undone{--tone:var(--violet)}.undo_failed{--tone:var(--amber)}
-.person{--tone:var(--amber)}
-"""
+"""The state of a step that waits for an operator."""
+TURNS = {
+    "ordered": "in its queue",
+    "unknown": "unknown; retried soon",
+    "approval": "waits for a decision",
+    "exhausted": "attempts used up",
+    CANNOT_DECODE: "stored value unreadable",
+}
+"""What some attempts wait for, in a few words."""
+SLOTS = ("concurrency", "fleet_concurrency", "rate_limit", "slot")
+"""Reasons that are described by `WAITS_FOR`."""
 
 
-def shorten(text: str, most: int) -> str:
-    """Return a text, cut off after `most` characters."""
-    return text if len(text) <= most else text[: most - 1] + "…"
+class StepDisplay(NamedTuple):
+    """How a step is shown: its state in words, a remark, its color and its icon. `left` is true if
+    the step will not run.
+    """
+
+    state: str
+    why: str
+    left: bool
+    tone: str
+    icon: str
 
 
-def shorten_name(text: str, most: int) -> str:
-    """Return a name, shortened in its middle, because names often differ in their ends."""
-    return (
-        text
-        if len(text) <= most
-        else f"{text[: most // 2]}…{text[len(text) - (most - most // 2 - 1) :]}"
+def urgency(display: StepDisplay) -> int:
+    """Return the rank of a state: failures first, then questions to an operator, then active
+    steps.
+    """
+    return {"failed": 0, "undo_failed": 0, "person": 1, "running": 2, "undoing": 2}.get(
+        display.tone, 3 if display.tone != "waiting" else 4
     )
 
 
@@ -112,26 +104,6 @@ def displays_of(view: SagaView) -> list[StepDisplay]:
     return result
 
 
-EARLY = {"complete": "its success is reported", "fail": "its failure is reported"}
-QUESTION_STATES = {
-    "approval": "to approve",
-    "unknown": "unknown",
-    "exhausted": "exhausted",
-    "cannot_decode": "unreadable",
-}
-"""The state of a step that waits for an operator."""
-TURNS = {
-    "ordered": "in its queue",
-    "unknown": "unknown; retried soon",
-    "approval": "waits for a decision",
-    "exhausted": "attempts used up",
-    CANNOT_DECODE: "stored value unreadable",
-}
-"""What some attempts wait for, in a few words."""
-SLOTS = ("concurrency", "fleet_concurrency", "rate_limit", "slot")
-"""Reasons that are described by `WAITS_FOR`."""
-
-
 def waiting(held: Waits) -> str:
     """Describe in a few words what a suspended attempt waits for."""
     if held.why == "external":
@@ -157,6 +129,184 @@ def decided(choice: Choice) -> str:
 def tried(attempts: int, state: str) -> str:
     """Describe the number of an attempt, if it is worth mentioning."""
     return f"attempt {attempts}" if attempts > 1 or state == "running" else ""
+
+
+MAX_ITEMS = 12
+"""How many items of an unfolded group have a box of their own. The others share one box."""
+
+
+class Box(NamedTuple):
+    """A box of a picture.
+
+    Attributes:
+        title: Its title.
+        display: The state that it shows.
+        steps: The numbers of its steps.
+        href: The target of a click on it.
+        alone: Whether it is never folded with equal boxes.
+    """
+
+    title: str
+    display: StepDisplay
+    steps: list[int]
+    href: Optional[str] = None
+    alone: bool = False
+
+
+Link = Callable[[Group], Optional[str]]
+"""Returns the target of a click on a group."""
+
+
+def counted(displays: Sequence[StepDisplay]) -> StepDisplay:
+    """Return the state of several steps: how many are in each state, the most urgent first."""
+    counts = Counter(display.state for display in displays)
+    first = {display.state: display for display in reversed(displays)}
+    states = sorted(counts, key=lambda state: urgency(first[state]))
+    state, *others = [f"{counts[state]:,} {state}" for state in states]
+    display = first[states[0]]
+    return StepDisplay(
+        state,
+        ", ".join(others),
+        all(display.left for display in displays),
+        display.tone,
+        display.icon,
+    )
+
+
+def blocks_of(groups: Groups, count: int, unfold: Collection[str]) -> list[Block]:
+    """Return the blocks of a picture: groups, or each step if all is unfolded."""
+    if ALL in unfold:
+        return [Block([step]) for step in range(count)]
+    return groups.blocks(count, unfold)
+
+
+def boxes_of(
+    blocks: list[Block],
+    names: Sequence[str],
+    displays: Sequence[StepDisplay],
+    link: Link | None = None,
+) -> list[Box]:
+    """Return the boxes of a picture.
+
+    An unfolded group has a box for each of its most urgent items, and one box for the others.
+    """
+    boxes, items = list[Box](), dict[str, list[int]]()
+    for block in blocks:
+        group, (first, *_) = block.group, block.steps
+        if group is not None:
+            display = counted([displays[step] for step in group.steps])
+            href = link(group) if link else None
+            boxes.append(Box(group.title, display, block.steps, href, True))
+        elif block.item_of is not None:
+            items.setdefault(block.item_of, []).append(first)
+            boxes.append(Box(names[first], displays[first], block.steps, None, True))
+        else:
+            boxes.append(Box(names[first], displays[first], block.steps))
+    for name, steps in items.items():
+        boxes = _few(boxes, name, steps, displays)
+    return boxes
+
+
+def _few(
+    boxes: list[Box], name: str, items: list[int], displays: Sequence[StepDisplay]
+) -> list[Box]:
+    """Return the boxes with the less urgent items of a group joined into one box."""
+    rest = sorted(items, key=lambda step: urgency(displays[step]))[MAX_ITEMS:]
+    if len(rest) < 2:
+        return boxes
+    display = counted([displays[step] for step in sorted(rest)])
+    kept = [box for box in boxes if box.steps[0] not in set(rest)]
+    return [*kept, Box(f"{name}: {len(rest):,} more", display, sorted(rest), None, True)]
+
+
+FEW = 6
+"""From this number on, equal steps are drawn as one box."""
+
+
+@dataclasses.dataclass(frozen=True, slots=True)
+class Folded:
+    """A box: the numbers of its steps in the order of the definition, and the indexes of the boxes
+    that it needs.
+    """
+
+    steps: list[int]
+    needs: list[int]
+
+
+def folded(needs: Sequence[Sequence[int]], looks: Sequence[Hashable]) -> list[Folded]:
+    """Return the boxes of steps.
+
+    Steps are equal if they have the same needs, are needed by the same steps, and look the
+    same.
+    """
+    needed_by: list[list[int]] = [[] for _ in needs]
+    for step, needed in enumerate(needs):
+        for need in needed:
+            needed_by[need].append(step)
+    groups: dict[Hashable, list[int]] = {}
+    for step, needed in enumerate(needs):
+        at = (frozenset(needed), frozenset(needed_by[step]), looks[step])
+        groups.setdefault(at, []).append(step)
+    boxes: dict[int, list[int]] = {}
+    for steps in groups.values():
+        if len(steps) >= FEW:
+            boxes[steps[0]] = steps
+        else:
+            boxes |= {step: [step] for step in steps}
+    in_order = [boxes[first] for first in sorted(boxes)]
+    box_of = {step: number for number, steps in enumerate(in_order) for step in steps}
+    return [
+        Folded(steps, list(dict.fromkeys(box_of[need] for need in needs[steps[0]])))
+        for steps in in_order
+    ]
+
+
+MARGIN = 6
+ICONS = {
+    "waiting": '<circle r="5"/>',
+    "running": '<circle r="5"/><circle class="full" r="2.4"/>',
+    "committed": '<path d="M-5 0.5 L-1.6 4 L5 -4"/>',
+    "failed": '<path d="M-4 -4 L4 4 M4 -4 L-4 4"/>',
+    "undoing": '<path d="M-4.5 -1 A4.8 4.8 0 1 1 -2.5 4 M-5 -5 L-4.6 -0.8 L-0.6 -1.6"/>',
+    "undone": (
+        '<path d="M4.5 4 L4.5 1 A2.6 2.6 0 0 0 2 -1.8 L-4.5 -1.8 M-1.4 -5 L-4.8 -1.8 L-1.4 1.4"/>'
+    ),
+    "undo_failed": (
+        '<rect x="-4" y="-0.5" width="8" height="5.5" rx="1"/>'
+        '<path d="M-2.4 -0.5 V-2.4 A2.4 2.4 0 0 1 2.4 -2.4 V-0.5"/>'
+    ),
+}
+STYLE = """
+svg{font:13px system-ui,-apple-system,"Segoe UI",Roboto,"Helvetica Neue",Arial,sans-serif;
+color-scheme:light dark;
+--card:#fff;--line:#9aa4b2;--text:#16202c;--soft:#55606e;--grey:#6b7685;--blue:#1f5fbf;
+--green:#157347;--red:#b42318;--amber:#8a5300;--violet:#6541b0}
+@media (prefers-color-scheme:dark){svg{--card:#1b222b;--line:#5d6876;--text:#e8edf3;--soft:#a9b4c1;
+--grey:#98a3b1;--blue:#7fb2ff;--green:#5fce94;--red:#ff8f84;--amber:#f0b95a;--violet:#b99cf5}}
+.box{fill:var(--card);stroke:var(--tone);stroke-width:1.5}.bar{fill:var(--tone)}
+.name{fill:var(--text);font-weight:600}.long{font-size:11.5px}
+.state{fill:var(--tone);font-weight:600;font-size:12px}
+.why{fill:var(--soft);font-size:11px}.need{fill:none;stroke:var(--line);stroke-width:1.5}
+.icon{fill:none;stroke:var(--tone);stroke-width:2;stroke-linecap:round;stroke-linejoin:round}
+.icon .full{fill:var(--tone);stroke:none}.left .box{stroke-dasharray:5 4}.arrow{fill:var(--line)}
+.waiting{--tone:var(--grey)}.running,.undoing{--tone:var(--blue)}.committed{--tone:var(--green)}
+.failed{--tone:var(--red)}.undone{--tone:var(--violet)}.undo_failed{--tone:var(--amber)}
+.person{--tone:var(--amber)}
+"""
+
+
+def shorten(text: str, limit: int) -> str:
+    """Return a text, cut off after `limit` characters."""
+    return text if len(text) <= limit else text[: limit - 1] + "…"
+
+
+def shorten_name(text: str, limit: int) -> str:
+    """Return a name, shortened in its middle, because names often differ in their ends."""
+    return (
+        text
+        if len(text) <= limit
+        else f"{text[: limit // 2]}…{text[len(text) - (limit - limit // 2 - 1) :]}"
+    )
 
 
 def line(points: list[Point]) -> str:

@@ -1,4 +1,4 @@
-"""Questions about one saga."""
+"""Questions about one saga, its parent and its children."""
 
 from __future__ import annotations
 
@@ -11,33 +11,33 @@ from sagas.base.errors import NoSuchSaga
 from sagas.core import states as states_module
 from sagas.core.batch import SagaRow
 from sagas.core.history import (
-    FAILED_STATES,
     EFFECT_STATES,
+    FAILED_STATES,
     AttemptEnd,
     Projection,
     attempts_of,
     errors_of,
     events_of,
     last_values,
-    saga_events,
     results_of,
+    saga_events,
     was_called,
 )
 from sagas.core.results import HistoryEvent, Summary
 from sagas.core.states import EarlyReason, StepState
 from sagas.definition import listed_steps, tokens
+from sagas.definition.arguments import BELOW
 from sagas.definition.capacity import SHARD_CAPACITY
 from sagas.definition.control import Progress
 from sagas.engine.plan import Plan
-from sagas.inspection import families
 from sagas.inspection.lists import waits
 from sagas.inspection.names import step_names
 from sagas.inspection.question import Query, Question
-from sagas.inspection.views import Note, Noted, SagaView, StepView
+from sagas.inspection.views import Note, Noted, Relative, SagaView, StepView
 from sagas.storage import queries
 
 Read = Callable[[str], Any]
-MOST_HELD = 10_000
+MAX_HELD = 10_000
 SAGA = f"""
 SELECT {queries.SAGA}, recovered, undo_failed, {queries.LABELS}, deadline
 FROM sagas s WHERE key = ?
@@ -177,7 +177,7 @@ def _view(
 ) -> Question[SagaView]:
     """Return a saga's view. Raises `NoSuchSaga` if the saga is deleted concurrently."""
     kept = yield from _kept(row, read)
-    held = yield from waits(MOST_HELD, person=False, key=row.key)
+    held = yield from waits(MAX_HELD, person=False, key=row.key)
     done = yield from notes(row.key, read)
     token = yield from _token(row.id)
     history, results = kept.history, results_of(kept.attempts)
@@ -190,7 +190,7 @@ def _view(
     }
     left = sorted(step for step, why in early_rows if row.phase and why == EarlyReason.RESULT)
     states = zip(kept.names, history.states)
-    parent, children = yield from families.of(row.id, row.key)
+    parent, children = yield from relatives(row.id, row.key)
     return SagaView(
         summary=Summary(
             row.id,
@@ -235,7 +235,7 @@ def steps_of(
 ) -> list[StepView]:
     """Return the steps of a saga in their current states.
 
-    `progress` is by step, action and attempt. `early` are reports of steps that have not begun.
+    `progress` is by step, action and attempt. `early` are reports of steps that have not started.
     """
     now = {
         (entry.step, entry.undo): entry.attempt
@@ -267,3 +267,29 @@ def steps_of(
             )
         )
     return steps
+
+
+PARENT = f"""
+SELECT s.key, s.saga, {queries.PHASE} FROM children c JOIN sagas s ON s.id = c.parent WHERE c.id = ?
+"""
+CHILDREN = f"""
+SELECT s.key, s.saga, {queries.PHASE} FROM children c JOIN sagas s ON s.id = c.id
+WHERE c.parent = ? ORDER BY s.at, s.id LIMIT {{limit}}
+"""
+MAX_CHILDREN = 1024
+"""How many children of a saga are listed."""
+
+
+def relatives(id: int, key: str) -> Question[tuple[Relative | None, list[Relative]]]:
+    """Return the parent of a saga, or None, and its children in the order of their starts."""
+    above = yield Query(PARENT, (id,))
+    below = yield Query(CHILDREN.format(limit=MAX_CHILDREN), (id,))
+    parent = [
+        Relative(relative, saga, phase, key[len(relative + BELOW) :])
+        for relative, saga, phase in above
+    ]
+    children = [
+        Relative(relative, saga, phase, relative[len(key + BELOW) :])
+        for relative, saga, phase in below
+    ]
+    return parent[0] if parent else None, children

@@ -1,18 +1,20 @@
-"""Answers to questions about a saga."""
+"""The view of one saga: its parts, and the active attempts that its node reports."""
 
 from __future__ import annotations
 
 import dataclasses
 from collections import deque
-from collections.abc import Sequence
+from collections.abc import Iterable, Sequence
 from typing import Any, NamedTuple
 
 from sagas.core.attention import AttentionReason
 from sagas.core.history import AttemptEnd, EventLine, Stretch
-from sagas.core.results import HistoryEvent, Summary
+from sagas.core.results import ActiveAttempt, HistoryEvent, Summary
+from sagas.core.states import known_state
 from sagas.definition import tokens
 from sagas.definition.control import Progress
 from sagas.engine.plan import Plan
+from sagas.storage.filters import Scope
 
 Json = dict[str, Any]
 
@@ -205,3 +207,84 @@ class SagaView:
     def idempotency_key(self, step: str, undo: bool) -> str:
         """Return the key that a step's action, or its compensation, passes to other services."""
         return tokens.idempotency_key(self.token, step, "undo" if undo else "run")
+
+
+BEGUN = ("running", "undoing")
+"""The states of a step that has an active attempt."""
+
+
+def with_active_attempts(view: SagaView, active: Iterable[ActiveAttempt], now: float) -> SagaView:
+    """Return a saga's view with the active attempts that its node reports.
+
+    A worker whose lease has expired no longer has the task.
+    """
+    begun = {(entry.step, entry.undo): entry for entry in view.stretches if entry.ended is None}
+    waiting: dict[tuple[str, bool], Waits] = {
+        (entry.step, entry.undo): entry
+        for entry in view.held
+        if entry.why != "external" or (entry.until or 0.0) > now
+    }
+    gone: dict[tuple[str, bool], Waits] = {
+        (entry.step, entry.undo): entry
+        for entry in view.held
+        if (entry.step, entry.undo) not in waiting
+    }
+    running = {at for at, entry in waiting.items() if entry.why == "external"}
+    for entry in active:
+        at = entry.step, entry.undo
+        stretch = begun.get(at)
+        if stretch is None or stretch.attempt != entry.attempt:  # it has changed since
+            continue
+        if not entry.waits:
+            running.add(at)
+            waiting.pop(at, None)  # its previous wait
+        elif (
+            at in waiting
+            and waiting[at].why == "external"
+            and entry.waits in ("external", "worker")
+        ):
+            pass  # another node offered it
+        elif entry.waits != "external" and (at not in waiting or waiting[at].why != entry.waits):
+            waiting[at] = _waits_without_row(view, entry, stretch.began, gone.pop(at, None))
+    for at, lease in gone.items():
+        waiting[at] = dataclasses.replace(lease, why="worker", until=None, said=_lease_of(lease))
+    held = sorted(waiting.values(), key=lambda entry: float(entry.since))
+    return dataclasses.replace(view, held=held, running=frozenset(running))
+
+
+def _waits_without_row(
+    view: SagaView, attempt: ActiveAttempt, since: float, lease: Waits | None
+) -> Waits:
+    """Return a waiting attempt for which the store has no row, or only an expired lease."""
+    detail, count = (_lease_of(lease), lease.count) if lease else (None, 0)
+    return Waits(
+        view.id,
+        view.key,
+        view.saga,
+        attempt.step,
+        attempt.undo,
+        attempt.attempt,
+        attempt.waits,
+        count,
+        since,
+        attempt.until,
+        detail,
+    )
+
+
+def _lease_of(held: Waits) -> str:
+    return f"the lease of {held.said} expired"
+
+
+def state_of(view: SagaView, step: StepView) -> str:
+    """Return a step's state: `running` if its attempt is known to run, else `begun`."""
+    return step.state if (step.name, False) in view.running else known_state(step.state)
+
+
+def seen_by(view: SagaView, scope: Scope) -> SagaView:
+    """Return a saga's view with only the relatives that are in a scope."""
+    children = [child for child in view.children if scope.has_saga(child.saga, child.key)]
+    parent = view.parent
+    if parent and not scope.has_saga(parent.saga, parent.key):
+        parent = None
+    return dataclasses.replace(view, parent=parent, children=children)

@@ -11,7 +11,7 @@ from sagas.engine import library
 from sagas.engine.plan import Plan
 from sagas.inspection.views import SagaView, StepView
 
-MOST_LISTED = 8
+MAX_LISTED = 8
 ENDS = {"running": "committed", "undoing": "undone"}
 """The states in which active steps are assumed to end."""
 CALLED = ("external", "ordered", "unknown", "cannot_decode")
@@ -146,6 +146,6 @@ def begins_with(waiting: StepView, done: set[str], step: str) -> bool:
 
 def listed(names: list[str]) -> str:
     """Return names as part of a sentence; of many names only the first."""
-    if len(names) > MOST_LISTED:
-        return f"{', '.join(names[:MOST_LISTED])} and {len(names) - MOST_LISTED} more"
+    if len(names) > MAX_LISTED:
+        return f"{', '.join(names[:MAX_LISTED])} and {len(names) - MAX_LISTED} more"
     return " and ".join([", ".join(names[:-1]), names[-1]] if len(names) > 1 else names)

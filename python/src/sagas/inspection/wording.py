@@ -1,13 +1,14 @@
-"""Phases, states and times in words."""
+"""Phases, states, times and values in words."""
 
 from __future__ import annotations
 
 import datetime
 import json
+import re
 from collections.abc import Iterable, Iterator
 from typing import Any
 
-from sagas.inspection.stored_values import StoredValue, whole
+from sagas.definition.payloads import unescaped
 
 STATES = {
     "waiting": "waiting",
@@ -134,20 +135,82 @@ def ago(seconds: float) -> str:
     return form.format(int(max(0.0, long)), "s")
 
 
+LARGE = 10_000
+"""Characters from which a value is not parsed at once: 1 MiB takes about 20 ms."""
+TOKENS = re.compile(r'("(?:[^"\\]|\\u[0-9a-f]{4}|\\[^u])*)("?)|[,:]')
+"""The parts of compact JSON that look different when shown: strings, which may be cut off, and
+separators.
+"""
+LONGEST = len("\\ud83d\\ude00")
+"""The maximum number of characters that encode one character."""
+
+
+class StoredValue:
+    """A result or an input that is parsed only on demand.
+
+    Attributes:
+        text: Its JSON.
+    """
+
+    __slots__ = ("text",)
+
+    def __init__(self, text: str) -> None:
+        self.text = text
+
+    def __str__(self) -> str:
+        return self.text
+
+    def read(self) -> Any:
+        """Return the parsed value."""
+        return json.loads(self.text)
+
+    def beginning(self, limit: int) -> str:
+        """Return at least the first `limit` characters.
+
+        A string is returned unquoted. Other values are returned as JSON with blanks between
+        values.
+        """
+        if self.text.startswith('"'):
+            return str(self.read())
+        return TOKENS.sub(_shown, self.text[: limit * LONGEST])
+
+
+def _shown(token: re.Match[str]) -> str:
+    if token[1] is None:
+        return f"{token[0]} "
+    text = json.dumps(json.loads(f'{token[1]}"'), ensure_ascii=False)
+    return text if token[2] else text[:-1]
+
+
+def stored(text: str) -> Any:
+    """Return a parsed value, or a `StoredValue` if it is large. Unescapes encoded values."""
+    text = unescaped(text)
+    return json.loads(text) if len(text) < LARGE else StoredValue(text)
+
+
+def whole(value: Any) -> Any:
+    """Return a serializable form of a value, for the JSON encoder. Raises `TypeError` if there is
+    none.
+    """
+    if isinstance(value, StoredValue):
+        return value.read()
+    raise TypeError(f"{type(value).__name__} is not JSON")
+
+
 LINES = json.JSONEncoder(indent=2, ensure_ascii=False, default=whole)
 LINE = json.JSONEncoder(ensure_ascii=False, default=whole)
 PIECE = 1000
 """How many characters of a long text are processed at once."""
 
 
-def pretty(value: Any, most: int = 20_000) -> str:
+def pretty(value: Any, limit: int = 20_000) -> str:
     """Return a value as indented JSON. Only the shown part of a large value is serialized."""
     chunks, count = list[str](), 0
     for chunk in LINES.iterencode(value):
         chunks.append(chunk)
         count += len(chunk)
-        if count > most:
-            return "".join(chunks)[:most] + "\n… (shortened; see the saga's log)"
+        if count > limit:
+            return "".join(chunks)[:limit] + "\n… (shortened; see the saga's log)"
     return "".join(chunks)
 
 
@@ -159,25 +222,25 @@ def one_line(value: Any) -> str:
     return " ".join(text.split())
 
 
-def short(value: Any, most: int = 90) -> str:
+def short(value: Any, limit: int = 90) -> str:
     """Return the beginning of `one_line`. Only the shown part of a large value is serialized."""
     if isinstance(value, StoredValue):
-        return _beginning([value.beginning(most)], most)[: most - 1] + "…"
+        return _beginning([value.beginning(limit)], limit)[: limit - 1] + "…"
     if isinstance(value, dict) and isinstance(value.get("error"), str):
         value = value["error"]
     if value is None:
         return ""
-    text = _beginning([value] if isinstance(value, str) else LINE.iterencode(value), most)
-    return text if len(text) <= most else text[: most - 1] + "…"
+    text = _beginning([value] if isinstance(value, str) else LINE.iterencode(value), limit)
+    return text if len(text) <= limit else text[: limit - 1] + "…"
 
 
-def _beginning(chunks: Iterable[str], most: int) -> str:
-    """Return a text on one line. A longer text is cut off after more than `most` characters."""
+def _beginning(chunks: Iterable[str], limit: int) -> str:
+    """Return a text on one line. A longer text is cut off after more than `limit` characters."""
     pieces, count = list[str](), 0
     for piece in _pieces(chunks):
         pieces.append(piece)
         count += sum(map(len, piece.split()))
-        if count > most:
+        if count > limit:
             break
     return " ".join("".join(pieces).split())
 

@@ -8,10 +8,9 @@ from sagas.core.results import Summary
 from sagas.definition import serialization
 from sagas.engine.plan import Plan
 from sagas.inspection import timeline as timeline_module
-from sagas.inspection.activity import state_of
+from sagas.inspection.views import Relative, SagaView, Waits, state_of
 from sagas.inspection.attention_pages import Entry
 from sagas.inspection.timeline import AttemptTimes
-from sagas.inspection.views import Relative, SagaView, Waits
 from sagas.inspection.what_if import WhatIf
 from sagas.runtime.leased_tasks import LeasedTask, Queue
 from sagas.server.responses import times

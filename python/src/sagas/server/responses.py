@@ -11,7 +11,7 @@ from typing import Any
 from starlette.requests import Request
 from starlette.responses import Response
 
-from sagas.inspection.stored_values import whole
+from sagas.inspection.wording import whole
 
 _encoder = json.JSONEncoder(allow_nan=False, separators=(",", ":"), default=whole)
 

@@ -28,13 +28,13 @@ from sagas.definition import tokens
 from sagas.definition.compiled import version_of
 from sagas.definition.labels import Labels
 from sagas.definition.saga import Saga
-from sagas.inspection import activity, saga as one_saga
+from sagas.inspection import saga as one_saga, views
 from sagas.inspection.question import Question
-from sagas.inspection.stored_values import stored
+from sagas.inspection.wording import stored
 from sagas.inspection.views import SagaView
 from sagas.runtime.leased_tasks import Queue
 from sagas.server import declared_steps, private_files, webhook_file
-from sagas.server.auth import Rates, Sessions, Tokens, Principal
+from sagas.server.auth import Principal, Rates, Sessions, Tokens
 from sagas.server.event_stream import Hub
 from sagas.server.figures import Figures
 from sagas.server.metrics import Metrics
@@ -223,9 +223,9 @@ class Service:
     async def saga(self, key: str, *, is_page: bool = False) -> SagaView | None:
         """Return the view of a saga with the active attempts that its node reports."""
         view = await self.kept(key, is_page=is_page)
-        if view is None or not any(step.state in activity.BEGUN for step in view.steps):
+        if view is None or not any(step.state in views.BEGUN for step in view.steps):
             return view
-        return activity.with_active_attempts(
+        return views.with_active_attempts(
             view, self.store.active_attempts(key) or await self._begun_there(view), self.store.now()
         )
 

@@ -10,7 +10,7 @@ from typing import Union
 from sagas.definition.groups import Block, Group
 from sagas.engine.plan import Choice
 from sagas.inspection import wording
-from sagas.inspection.group_boxes import StepDisplay, counted, urgency
+from sagas.inspection.picture import StepDisplay, counted, urgency
 from sagas.inspection.views import StepView
 from sagas.server.table_rows import FEW, Rows, folded
 from sagas.server.unfolding import Unfolding

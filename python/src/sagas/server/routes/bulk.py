@@ -9,7 +9,7 @@ from typing import Any
 from starlette.responses import Response
 
 from sagas.base.errors import SagasError, StepNotWaiting
-from sagas.inspection import attention_pages, lists, unmatched
+from sagas.inspection import attention_pages, lists, names as names_module
 from sagas.inspection.question import Question
 from sagas.server import answers, problems
 from sagas.server.auth import Permission
@@ -96,7 +96,7 @@ async def warnings_of(call: Call, sagas: Filter) -> list[str]:
     """Return what may be misspelled in a filter that selects nothing."""
     names = [name for saga in call.service.store.sagas for name, _ in saga.declared_steps]
     step = call.body["filter"].get("step")
-    return await call.service.look(unmatched.of(sagas, step, names))
+    return await call.service.look(names_module.unmatched_warnings(sagas, step, names))
 
 
 async def count_and_act(

@@ -13,11 +13,11 @@ from sagas.definition.groups import Block, Groups
 from sagas.definition.saga import Saga
 from sagas.inspection import definitions, picture
 from sagas.inspection.definitions import AtStep
-from sagas.inspection.group_boxes import Box, StepDisplay
+from sagas.inspection.picture import Box, StepDisplay
 from sagas.inspection.lists import COUNTED
 from sagas.inspection.question import Question
 from sagas.server import declared_steps
-from sagas.server.dashboard_session import login_redirect, viewer_of, show_page
+from sagas.server.dashboard_session import login_redirect, show_page, viewer_of
 from sagas.server.declared_steps import DeclaredStep
 from sagas.server.operations import Call, Routes
 from sagas.server.table_rows import folded

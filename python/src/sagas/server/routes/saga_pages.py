@@ -15,9 +15,9 @@ from sagas.base.errors import DefinitionError, NoSuchSaga
 from sagas.definition import children
 from sagas.definition.groups import Groups
 from sagas.engine.plan import certificate_text
-from sagas.inspection import families, picture, step_items, timeline, timeline_picture, what_if
+from sagas.inspection import names, picture, timeline, views, what_if
 from sagas.inspection.views import SagaView, StepView
-from sagas.server.dashboard_session import login_redirect, viewer_of, show_page
+from sagas.server.dashboard_session import login_redirect, show_page, viewer_of
 from sagas.server.history_rows import attempt_rows, event_rows
 from sagas.server.operations import Call, Routes
 from sagas.server.routes.pages import address_of
@@ -44,7 +44,7 @@ async def saga(call: Call) -> Response:
     with contextlib.suppress(NoSuchSaga):
         await service.check_sees(viewer_of(request), key)
         view = await service.saga(key, is_page=True)
-        view = view and families.seen_by(view, viewer_of(request).scope)
+        view = view and views.seen_by(view, viewer_of(request).scope)
     if view is None:
         values: dict[str, Any] = {"title": "Unknown saga", "back": "/ui/sagas"}
         return show_page(request, "fault.html", 404, text=f"No saga has the key {key}.", **values)
@@ -72,7 +72,7 @@ def template_values(
     groups, base = Groups.read(view.definition), address_of(view.key)
     unfolding = Unfolding(groups, unfold, base)
     choices = {choice.step: choice for choice in view.plan.choices} if view.plan else {}
-    items = step_items.of(groups.origins, [step.name for step in view.steps], view.shape)
+    items = names.item_texts(groups.origins, [step.name for step in view.steps], view.shape)
     table = StepTable(unfolding, view.steps, displays, choices, items)
     titles = table.titles()
     svg = functools.partial(
@@ -103,7 +103,7 @@ def template_values(
         "failures": failures_of(view),
         "rows": table.rows(),
         "picture": svg() if drawn else "",
-        "timeline": timeline_picture.drawn(attempts, view.started, now, titles),
+        "timeline": timeline.drawn(attempts, view.started, now, titles),
         "attempts": folded(attempt_rows(attempts, titles, now), lambda row: (row.urgency,)),
         "unused": unused_of(view),
         "undo_failed": [step for step in view.steps if step.state == "undo_failed"],

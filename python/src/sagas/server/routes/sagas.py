@@ -15,16 +15,21 @@ from starlette.responses import PlainTextResponse, Response
 from sagas.base.errors import DefinitionError, NoSuchSaga
 from sagas.definition import children, tracing
 from sagas.engine.plan import certificate_text
-from sagas.inspection import families, pages, picture as picture_module, what_if as what_if_module
-from sagas.inspection.stored_values import StoredValue
+from sagas.inspection import (
+    pages,
+    picture as picture_module,
+    saga as saga_module,
+    what_if as what_if_module,
+)
+from sagas.inspection.wording import StoredValue
 from sagas.inspection.views import SagaView
 from sagas.server import answers, json_views, renderer, unfolding
 from sagas.server.access import (
     SIZE,
     check_definition,
     check_key,
-    is_unchanged,
     client_key,
+    is_unchanged,
     service_of,
     waiting,
 )
@@ -124,7 +129,7 @@ async def view_of(call: Call, key: str | None = None) -> SagaView:
     """Return the view of a saga, with its active attempts. Raises `NoSuchSaga`."""
     await call.service.check_sees(call.principal, key or call.key)
     view = there(await call.service.saga(key or call.key), key or call.key)
-    return families.seen_by(view, call.principal.scope)
+    return views.seen_by(view, call.principal.scope)
 
 
 async def kept_of(service: Any, principal: Principal, key: str) -> SagaView:

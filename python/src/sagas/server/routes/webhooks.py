@@ -50,7 +50,7 @@ async def again(service: Service, principal: Principal, id: str) -> Delivery:
     """Post a delivery again. Raises `Problem`."""
     check_all(principal)
     done = await service.store.deliveries.redeliver(id)
-    delivery = await service.look(deliveries.one(id)) if done else None
+    delivery = await service.look(deliveries.delivery(id)) if done else None
     if delivery is None:
         raise Problem("NoSuchDelivery", f"no delivery has the id {id[:64]!r}")
     logger.info("%s has the delivery %s posted again", principal.name, delivery.id)

@@ -11,10 +11,9 @@ from typing import Any
 
 from sagas.base import program
 from sagas.base.wording import escaped
-from sagas.cli.app_option import read_by
-from sagas.cli.backlog import held_json, show_held
-from sagas.cli.batches import filter_of
 from sagas.cli.formatting import GOOD, lines, moment, short, show_json, table
+from sagas.cli.listings import held_json, show_held
+from sagas.cli.options import filter_of, read_by
 from sagas.cli.snapshot import Snapshot
 from sagas.core.history import FAILURE_EVENTS, was_called
 from sagas.core.results import HistoryEvent, Summary

@@ -1,23 +1,32 @@
-"""`stats`, `definitions`, `stuck`, `attention` and `pending`."""
+"""`stats`, `definitions`, `stuck`, `attention`, `pending`, `schedules` and `deliveries`."""
 
 from __future__ import annotations
 
 import argparse
+import contextlib
 import dataclasses
 import time
-from collections.abc import Sequence
+from collections.abc import Callable, Sequence
 from typing import Any
 
+from sagas.base.errors import NoSuchSchedule
 from sagas.base.wording import number
-from sagas.cli.formatting import GOOD, moment, short, show_json, table
+from sagas.cli.formatting import GOOD, complain, moment, short, show_json, table
+from sagas.cli.options import add_app_option, add_limit_option, read_by
 from sagas.cli.snapshot import Snapshot
 from sagas.core.attention import Attention, AttentionReason
 from sagas.core.states import WAITS_FOR
-from sagas.inspection import lists
+from sagas.definition.serialization import write as written
+from sagas.inspection import deliveries as delivery_questions, lists
+from sagas.inspection.deliveries import Delivery
 from sagas.inspection.lists import COUNTED
 from sagas.inspection.views import Waits
 from sagas.inspection.wording import span
+from sagas.storage import admin
+from sagas.storage.admin import Trouble
+from sagas.storage.deliveries import REDELIVER, DeliveryState
 from sagas.storage.filters import Filter
+from sagas.storage.schedules import Schedule, Schedules
 
 Json = dict[str, Any]
 UNCLAIMED = 60.0
@@ -183,7 +192,7 @@ def attention(path: str, options: argparse.Namespace) -> int:
             entry.key,
             entry.saga,
             NEEDS[entry.why],
-            _meant(entry),
+            _step_text(entry),
             moment(entry.since),
             short(_detail(entry)),
         )
@@ -200,7 +209,7 @@ def _detail(entry: Attention) -> str | None:
     return f"{entry.detail} by {entry.by}" if entry.by else entry.detail
 
 
-def _meant(entry: Attention) -> str:
+def _step_text(entry: Attention) -> str:
     """Return the step's name, with `(undo)` for its compensation."""
     return "" if entry.step is None else f"{entry.step} (undo)" if entry.undo else entry.step
 
@@ -220,3 +229,121 @@ def pending(path: str, options: argparse.Namespace) -> int:
     else:
         show_held(held)
     return GOOD
+
+
+CHANGES: dict[str, tuple[str, Callable[[Schedules, str], str | None]]] = {
+    "pause": ("paused", Schedules.pause),
+    "resume": ("resumed", lambda store, name: store.resume(name, time.time())),
+    "remove": ("removed", Schedules.remove),
+}
+
+
+def add_schedules_options(part: argparse.ArgumentParser) -> None:
+    """Add the options of `schedules`."""
+    part.add_argument("change", nargs="?", choices=[*CHANGES], help="what to do with NAME")
+    part.add_argument("name", metavar="NAME", nargs="?", help="the schedule's name")
+    add_app_option(part)
+
+
+def schedules(path: str, options: argparse.Namespace) -> int:
+    """List the schedules, or pause, resume or remove one."""
+    if (options.change is None) != (options.name is None):
+        raise Trouble(f"schedules {options.change}: pass the name of the schedule", 2)
+    if options.change:
+        done, change = CHANGES[options.change]
+        with contextlib.closing(admin.connect(path, "rw")) as link:
+            try:
+                warning = change(Schedules(link), options.name)
+            except NoSuchSchedule as error:
+                raise Trouble(str(error)) from error
+        if warning is not None:
+            complain(f"{options.name}: {warning}")
+        change_made = {"name": options.name, "done": done}
+        show_json(change_made) if options.json else print(f"{options.name}: {done}")
+        return GOOD
+    with Snapshot(path) as store:
+        listed = store.ask(lists.schedules())
+    if options.json:
+        read = read_by(options)
+        listed = [
+            dataclasses.replace(schedule, input=read(written(schedule.input)))
+            for schedule in listed
+        ]
+        show_json([dataclasses.asdict(schedule) for schedule in listed])
+    else:
+        rows = [
+            (
+                schedule.name,
+                schedule.saga,
+                times_of(schedule),
+                *last_and_next(schedule),
+                schedule.error or "",
+            )
+            for schedule in listed
+        ]
+        print(table(["NAME", "SAGA", "TIMES", "LAST", "NEXT", "ERROR"], rows))
+    return GOOD
+
+
+def times_of(schedule: Schedule) -> str:
+    """Return the times of a schedule in words."""
+    return (
+        f"{schedule.cron} {schedule.timezone}" if schedule.cron else f"every {schedule.every:g} s"
+    )
+
+
+def last_and_next(schedule: Schedule) -> tuple[str, str]:
+    """Return the last and the next time of a schedule."""
+    return moment(schedule.last_at), "paused" if schedule.paused else moment(schedule.next_at)
+
+
+def add_deliveries_options(part: argparse.ArgumentParser) -> None:
+    """Add the options of `deliveries`."""
+    part.add_argument("change", nargs="?", choices=["redeliver"], help="what to do with ID")
+    part.add_argument("id", metavar="ID", nargs="?", help="the delivery's id")
+    states = [state.value for state in DeliveryState]
+    part.add_argument("--state", choices=states, help="only deliveries in this state")
+    part.add_argument("--webhook", metavar="NAME", help="only deliveries to this webhook")
+    add_limit_option(part, "deliveries, the newest first")
+
+
+def deliveries(path: str, options: argparse.Namespace) -> int:
+    """List the deliveries of webhooks, or post one again.
+
+    A service with this webhook posts it within seconds, with all its attempts.
+    """
+    if (options.change is None) != (options.id is None):
+        raise Trouble("deliveries redeliver: pass the id of the delivery", 2)
+    if options.change:
+        with contextlib.closing(admin.connect(path, "rw")) as link:
+            if not link.ask(REDELIVER.replace(":id", "?"), options.id):
+                raise Trouble(f"no delivery has the id {options.id!r}")
+        change = {"id": options.id, "state": DeliveryState.PENDING.value}
+        show_json(change) if options.json else print(f"{options.id}: {change['state']}")
+        return GOOD
+    with Snapshot(path) as store:
+        listed = store.ask(
+            delivery_questions.listed(options.state, options.webhook, options.limit or lists.ALL)
+        )
+    if options.json:
+        show_json([dataclasses.asdict(delivery) for delivery in listed])
+        return GOOD
+    rows = [delivery_row(delivery) for delivery in listed]
+    print(table(["ID", "WEBHOOK", "TYPE", "KEY", "AT", "STATE", "ATTEMPTS", "ANSWER"], rows))
+    return GOOD
+
+
+def delivery_row(delivery: Delivery) -> tuple[object, ...]:
+    """Return the table row of a delivery."""
+    answer = short(delivery.error) if delivery.error else delivery.status or ""
+    at = moment(delivery.at)
+    return (
+        delivery.id,
+        delivery.webhook,
+        delivery.type,
+        delivery.key,
+        at,
+        delivery.state,
+        delivery.attempts,
+        str(answer),
+    )
