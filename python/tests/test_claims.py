@@ -18,11 +18,11 @@ from serving import served, start, take
 import sagas
 from sagas.base.errors import Closed, StoreUnavailable
 from sagas.server.middleware import FOLLOWED, GONE, SERVICE
-from sagas.server.places import ConcurrencyLimits
+from sagas.server.limits import ConcurrencyLimits
 from sagas.server.problems import Problem
 from sagas.server.routes import task_claims
 from sagas.server.settings import ConcurrencySettings
-from sagas.server.waiting_claims import WaitingClaims
+from sagas.server.service import WaitingClaims
 from sagas.storage.lots import Batcher
 
 WORD = [("far", "a", "run")]

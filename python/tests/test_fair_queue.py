@@ -6,11 +6,17 @@ import asyncio
 import threading
 import time
 
-from hypothesis import given
-from hypothesis import strategies as st
+from hypothesis import given, strategies as st
 
-from sagas.server.fair_queue import LONG, CURRENT_CLIENT, MAX_REST, REST, ComputingTime, FairQueue
-from sagas.server.threads import Pool
+from sagas.server.threads import (
+    CURRENT_CLIENT,
+    ComputingTime,
+    FairQueue,
+    LONG,
+    MAX_REST,
+    Pool,
+    REST,
+)
 
 
 def done(queue: FairQueue[str], name: str, seconds: float, computed: float = 0.0) -> None:

@@ -13,9 +13,9 @@ from collections.abc import Iterator
 from starlette.requests import Request
 
 from sagas.server.auth import LOCAL_PRINCIPAL, ROLES, Permission, Principal
-from sagas.server.fair_queue import CURRENT_CLIENT
+from sagas.server.threads import CURRENT_CLIENT
 from sagas.server.middleware import CROWDING, LEAVE, LOGIN, SERVICE, SLASH
-from sagas.server.places import Kind
+from sagas.server.limits import RequestKind
 from sagas.server.problems import Problem
 from sagas.server.service import Service
 
@@ -86,13 +86,15 @@ def occupy(request: Request, principal: Principal) -> None:
     """Take one of the token's slots until the request ends. Raises `Problem`."""
     CURRENT_CLIENT.set(client_key(request, principal))
     if HAS_SLOT not in request.scope:
-        leave = service_of(request).places.take(client_key(request, principal), Kind.CONNECTION)
+        leave = service_of(request).places.take(
+            client_key(request, principal), RequestKind.CONNECTION
+        )
         request.scope[HAS_SLOT] = True
         request.scope[LEAVE].append(leave)
 
 
 @contextlib.contextmanager
-def waiting(request: Request, principal: Principal, kind: Kind) -> Iterator[None]:
+def waiting(request: Request, principal: Principal, kind: RequestKind) -> Iterator[None]:
     """Count the request as waiting. Raises `Problem` if too many of the token wait."""
     leave = service_of(request).places.take(client_key(request, principal), kind)
     try:

@@ -14,7 +14,7 @@ from sagas.inspection.timeline import AttemptTimes
 from sagas.inspection.views import Relative, SagaView, Waits
 from sagas.inspection.what_if import WhatIf
 from sagas.runtime.leased_tasks import LeasedTask, Queue
-from sagas.server.responses import times
+from sagas.server.json_bodies import times
 from sagas.storage.schedules import Schedule
 
 

@@ -15,7 +15,7 @@ from starlette.routing import Route
 
 from sagas.base.errors import SagasError
 from sagas.definition.validation import meant
-from sagas.server import json_texts, problems
+from sagas.server import json_bodies, problems
 from sagas.server.access import authorize, body_of, check_capacity, service_of, unslashed
 from sagas.server.auth import ANONYMOUS, Permission, Principal
 from sagas.server.dashboard_session import current_session
@@ -173,7 +173,7 @@ async def read_body(shape: Record, request: Request) -> dict[str, Any]:
     text = await body_of(request)
     if is_empty and not text:
         return read_fields(shape.fields, {}, "")
-    read = functools.partial(json_texts.of_bytes, text)
+    read = functools.partial(json_bodies.read_bytes, text)
     try:
         value = read() if len(text) < LARGE else await service_of(request).threads.answers.do(read)
     except json.JSONDecodeError as error:

@@ -15,7 +15,7 @@ from sagas.server import answers, problems
 from sagas.server.auth import Permission
 from sagas.server.operations import Answer, Call, Handler, Routes
 from sagas.server.problems import Problem
-from sagas.server.responses import Json
+from sagas.server.json_bodies import Json
 from sagas.server.routes import filters
 from sagas.server.routes.attention import KINDS
 from sagas.server.routes.operators import NOTE as NEEDED_NOTE

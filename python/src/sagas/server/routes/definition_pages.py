@@ -20,8 +20,7 @@ from sagas.server import declared_steps
 from sagas.server.dashboard_session import login_redirect, viewer_of, show_page
 from sagas.server.declared_steps import DeclaredStep
 from sagas.server.operations import Call, Routes
-from sagas.server.table_rows import folded
-from sagas.server.unfolding import FIELD, Unfolding
+from sagas.server.table_rows import UNFOLD, Unfolding, folded
 
 routes = Routes("pages", is_page=True)
 
@@ -48,7 +47,7 @@ async def listed(call: Call) -> Response:
     )
 
 
-@routes.get("/ui/definitions/{name}", query={"unfold": FIELD})
+@routes.get("/ui/definitions/{name}", query={"unfold": UNFOLD})
 async def saga(call: Call) -> Response:
     """Show a definition: its steps with their attempts, durations, and the costs of recoveries.
 

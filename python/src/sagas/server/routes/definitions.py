@@ -12,7 +12,7 @@ from sagas.server import answers, declared_steps
 from sagas.server.auth import Permission
 from sagas.server.declared_steps import COMPUTED, DeclaredStep
 from sagas.server.operations import Answer, Call, Routes
-from sagas.server.responses import Json
+from sagas.server.json_bodies import Json
 
 routes = Routes("definitions", "/v1")
 KINDS = {"approval": "approval", "wait": "wait", "child": "child"}

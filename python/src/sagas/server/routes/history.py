@@ -7,9 +7,9 @@ from starlette.responses import Response
 from sagas.server import answers, json_views
 from sagas.server.auth import Permission
 from sagas.server.operations import Answer, Call, Routes
-from sagas.server.responses import Json, parted
+from sagas.server.json_bodies import Json, parted
 from sagas.server.routes.sagas import kept_of, view_of
-from sagas.server.timeline_answers import TIMELINE
+from sagas.server.answers import TIMELINE
 
 routes = Routes("sagas", "/v1")
 

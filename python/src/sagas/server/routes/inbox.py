@@ -13,7 +13,7 @@ from starlette.responses import Response
 from sagas.inspection import attention_pages
 from sagas.inspection.attention_pages import KINDS, Entry
 from sagas.inspection.question import Question
-from sagas.server import json_texts
+from sagas.server import json_bodies
 from sagas.server.access import service_of
 from sagas.server.dashboard_session import login_redirect, viewer_of, session_and_fields, show_page
 from sagas.server.operations import Call, Routes
@@ -198,7 +198,7 @@ async def act(call: Call) -> Response:
     if fault := fault_of(form):
         return confirmation_page(request, form, selection, fault)
     options = {"by": session.principal.name, "note": form.get("note", "").strip()[:2000] or None}
-    result = json_texts.read(form.get("result") or "null")
+    result = json_bodies.read_text(form.get("result") or "null")
     error = form.get("failed", "").strip()[:2000]
     work = bulk.action_of(service_of(request), verb, options, result, error)
     targets = selection.targets(verb)
@@ -232,7 +232,7 @@ def fault_of(form: dict[str, str]) -> str | None:
     if form["verb"] == "failed" and not form.get("failed", "").strip():
         return "Enter a reason."
     try:
-        json_texts.read(form.get("result") or "null")
+        json_bodies.read_text(form.get("result") or "null")
     except ValueError:
         return "The result is not valid JSON. Write a text in quotation marks."
     return None

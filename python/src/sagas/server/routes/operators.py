@@ -10,7 +10,7 @@ from sagas.server.auth import Permission
 from sagas.server.metrics import TYPE
 from sagas.server.operations import Answer, Call, Routes
 from sagas.server.problems import Problem
-from sagas.server.responses import Json
+from sagas.server.json_bodies import Json
 from sagas.server.shapes import Field, Nullable, Record, Text
 
 routes = Routes("operators")

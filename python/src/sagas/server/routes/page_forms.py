@@ -14,7 +14,7 @@ from starlette.responses import RedirectResponse, Response
 from sagas.base.errors import DefinitionError, NoSuchSaga, NoSuchSchedule, SagasError
 from sagas.definition import children
 from sagas.inspection.views import SagaView
-from sagas.server import json_texts, problems, step_waits
+from sagas.server import json_bodies, problems, step_waits
 from sagas.server.access import service_of
 from sagas.server.auth import Principal
 from sagas.server.dashboard_session import login_redirect, viewer_of, session_and_form, show_page
@@ -301,13 +301,13 @@ def result_of(form: dict[str, str]) -> Any:
     if kind == "text":
         return text
     if kind == "number":
-        value = json_texts.read(text)
+        value = json_bodies.read_text(text)
         if isinstance(value, bool) or not isinstance(value, (int, float)):
             raise ValueError(text)
         return value
     if kind == "yes":
         return {"yes": True, "true": True, "no": False, "false": False}[text.strip().lower()]
-    return json_texts.read(text or "null")
+    return json_bodies.read_text(text or "null")
 
 
 @routes.post("/ui/sagas/{key}/steps/{step}/{outcome}", parts={"outcome": OUTCOME}, query=UNDO)

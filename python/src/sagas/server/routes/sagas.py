@@ -15,12 +15,10 @@ from starlette.responses import PlainTextResponse, Response
 from sagas.base.errors import DefinitionError, NoSuchSaga
 from sagas.definition import children, tracing
 from sagas.engine.plan import certificate_text
-from sagas.inspection import families, pages
-from sagas.inspection import picture as picture_module
-from sagas.inspection import what_if as what_if_module
+from sagas.inspection import families, pages, picture as picture_module, what_if as what_if_module
 from sagas.inspection.stored_values import StoredValue
 from sagas.inspection.views import SagaView
-from sagas.server import answers, json_views, renderer, unfolding
+from sagas.server import answers, json_views, renderer, table_rows
 from sagas.server.access import (
     SIZE,
     check_definition,
@@ -32,12 +30,12 @@ from sagas.server.access import (
 )
 from sagas.server.auth import Permission, Principal
 from sagas.server.client_waits import first
-from sagas.server.event_stream import Listener
+from sagas.server.event_stream import Listener, Stream
 from sagas.server.operations import Answer, Call, Routes
 from sagas.server.middleware import GONE
-from sagas.server.places import Kind
+from sagas.server.limits import RequestKind
 from sagas.server.problems import Problem
-from sagas.server.responses import Json, parted, tagged
+from sagas.server.json_bodies import Json, parted, tagged
 from sagas.server.routes import filters
 from sagas.server.routes.filters import CURSOR, LIMIT
 from sagas.server.shapes import (
@@ -51,7 +49,6 @@ from sagas.server.shapes import (
     Record,
     Text,
 )
-from sagas.server.stream_limits import Stream
 
 routes = Routes("sagas", "/v1")
 LONGEST = 60.0  # seconds that a wait may take
@@ -268,7 +265,7 @@ async def wait(call: Call) -> Response:
     which. Any further data from the client ends the wait.
     """
     await call.service.check_sees(call.principal, call.key)
-    with waiting(call.request, call.principal, Kind.WAIT):
+    with waiting(call.request, call.principal, RequestKind.WAIT):
         ending = asyncio.ensure_future(call.service.store.over(call.key))
         if await first(call.request, call.principal, ending, call.query["seconds"]):
             ending.result()  # raises if the saga does not exist
@@ -335,7 +332,7 @@ async def what_if(call: Call) -> Response:
     "getPicture",
     permission=Permission.LOOK,
     problems=("NoSuchSaga",),
-    query={"unfold": unfolding.FIELD},
+    query={"unfold": table_rows.UNFOLD},
     answers={200: Answer("An SVG picture.", media_type="image/svg+xml")},
 )
 async def picture(call: Call) -> Response:
@@ -344,7 +341,7 @@ async def picture(call: Call) -> Response:
     It shows the steps with their states, and what the plan keeps and why. The items of a step,
     and the steps of an included saga, are one box.
     """
-    view, unfold = await view_of(call), unfolding.names_in(call.query["unfold"])
+    view, unfold = await view_of(call), table_rows.names_in(call.query["unfold"])
     return Response(
         await call.service.threads.answers.do(
             lambda: renderer.encoded(picture_module.document(view, unfold))

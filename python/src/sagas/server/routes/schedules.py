@@ -15,7 +15,7 @@ from sagas.inspection import lists
 from sagas.server import answers, json_views
 from sagas.server.auth import Permission, Principal
 from sagas.server.operations import Answer, Call, Handler, Routes
-from sagas.server.responses import Json
+from sagas.server.json_bodies import Json
 from sagas.server.service import Service
 from sagas.server.shapes import Text
 from sagas.storage.schedules import Schedule

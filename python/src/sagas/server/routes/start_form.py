@@ -7,7 +7,7 @@ from starlette.requests import Request
 from starlette.responses import RedirectResponse, Response
 
 from sagas.base.errors import SagasError
-from sagas.server import json_texts, problems
+from sagas.server import json_bodies, problems
 from sagas.server.access import check_definition, service_of
 from sagas.server.dashboard_session import login_redirect, viewer_of, session_and_form, show_page
 from sagas.server.operations import Call, Routes
@@ -49,7 +49,7 @@ async def start(call: Call) -> Response:
         )
     try:
         size = len(form.get("input", ""))
-        input = json_texts.read(form.get("input") or "null")
+        input = json_bodies.read_text(form.get("input") or "null")
     except ValueError as error:
         return form_page(
             request,

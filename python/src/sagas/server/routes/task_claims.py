@@ -20,9 +20,9 @@ from sagas.server.access import waiting
 from sagas.server.client_waits import first
 from sagas.server.middleware import GONE
 from sagas.server.operations import Call
-from sagas.server.places import Kind
+from sagas.server.limits import RequestKind
 from sagas.server.problems import Problem
-from sagas.server.responses import Json, parted
+from sagas.server.json_bodies import Json, parted
 from sagas.server.threads import LARGE
 
 NAME = "[a-z][a-z0-9_-]{0,31}"
@@ -185,7 +185,7 @@ class NextClaim:
             with contextlib.ExitStack() as stack:
                 wait = body["wait"]
                 try:
-                    stack.enter_context(waiting(call.request, call.principal, Kind.CLAIM))
+                    stack.enter_context(waiting(call.request, call.principal, RequestKind.CLAIM))
                 except Problem:  # the report is stored: it is answered now
                     wait = 0.0
                 self._tasks = await _claimed(call, body, body["limit"], wait)

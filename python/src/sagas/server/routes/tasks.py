@@ -10,9 +10,9 @@ from sagas.server import answers, problems
 from sagas.server.access import check_steps, waiting
 from sagas.server.auth import Permission
 from sagas.server.operations import Answer, Call, Routes
-from sagas.server.places import Kind
+from sagas.server.limits import RequestKind
 from sagas.server.problems import Problem
-from sagas.server.responses import Json, times
+from sagas.server.json_bodies import Json, times
 from sagas.server.routes.task_claims import NextClaim, answered, claimed, parse_steps, worker_of
 from sagas.server.shapes import Anything, Field, Flag, Nullable, Number, Record, Several, Text
 
@@ -115,7 +115,7 @@ async def claim(call: Call) -> Response:
     check_steps(call.principal, call.body["steps"])
     if call.service.is_stopping:
         raise Problem("Stopping", "the service is stopping: retry later")
-    with waiting(call.request, call.principal, Kind.CLAIM):
+    with waiting(call.request, call.principal, RequestKind.CLAIM):
         tasks = await claimed(call, call.body)
     return await answered(call, lambda claimed_tasks: claimed_tasks, tasks)
 

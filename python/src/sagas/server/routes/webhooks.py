@@ -13,7 +13,7 @@ from sagas.server import answers
 from sagas.server.auth import Permission, Principal
 from sagas.server.operations import Answer, Call, Routes
 from sagas.server.problems import Problem
-from sagas.server.responses import Json, times
+from sagas.server.json_bodies import Json, times
 from sagas.server.routes.filters import LIMIT
 from sagas.server.service import Service
 from sagas.server.shapes import Choice, Field, Record, Text
