@@ -8,7 +8,7 @@ from starlette.routing import Route, Router
 
 from sagas.server import openapi, problems
 from sagas.server.connections import Connections
-from sagas.server.dashboard_session import refused
+from sagas.server.dashboard import refused
 from sagas.server.middleware import DASHBOARD, LOGIN, App, Guard, Receive, Scope, Send
 from sagas.server.operations import Operation, path_not_found, resources
 from sagas.server.problems import Problem

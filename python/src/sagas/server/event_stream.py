@@ -20,7 +20,7 @@ from sagas.server.middleware import FOLLOWED, Receive, Scope, Send
 KEPT = 2000
 MOST_WAITING = 1000
 KEEPALIVE = 15.0  # seconds after which a comment shows that the stream is open
-CHECK = 2.0  # seconds between two looks whether its token still counts
+CHECK_INTERVAL = 2.0  # seconds between two looks whether its token still counts
 MISSED = "event: missed\ndata: {}\n\n"
 
 
@@ -150,7 +150,7 @@ class Hub:
                     return
                 listener.awake.clear()
                 with contextlib.suppress(TimeoutError):
-                    async with asyncio.timeout(CHECK):
+                    async with asyncio.timeout(CHECK_INTERVAL):
                         await listener.awake.wait()
                 if not still():
                     return

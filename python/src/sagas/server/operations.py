@@ -16,9 +16,15 @@ from starlette.routing import Route
 from sagas.base.errors import SagasError
 from sagas.definition.validation import meant
 from sagas.server import json_bodies, problems
-from sagas.server.access import authorize, body_of, check_capacity, service_of, unslashed
+from sagas.server.access import (
+    authorize,
+    body_of,
+    check_capacity,
+    current_session,
+    service_of,
+    unslashed,
+)
 from sagas.server.auth import ANONYMOUS, Permission, Principal
-from sagas.server.dashboard_session import current_session
 from sagas.server.middleware import Receive, Scope, Send
 from sagas.server.problems import Problem
 from sagas.server.service import Service

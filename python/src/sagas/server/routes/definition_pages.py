@@ -17,7 +17,8 @@ from sagas.inspection.group_boxes import Box, StepDisplay
 from sagas.inspection.lists import COUNTED
 from sagas.inspection.question import Question
 from sagas.server import declared_steps
-from sagas.server.dashboard_session import login_redirect, viewer_of, show_page
+from sagas.server.access import viewer_of
+from sagas.server.dashboard import login_redirect, show_page
 from sagas.server.declared_steps import DeclaredStep
 from sagas.server.operations import Call, Routes
 from sagas.server.table_rows import UNFOLD, Unfolding, folded

@@ -4,6 +4,7 @@ from __future__ import annotations
 
 import dataclasses
 import functools
+import time
 from typing import Any
 from urllib.parse import urlencode
 
@@ -14,8 +15,8 @@ from sagas.inspection import attention_pages
 from sagas.inspection.attention_pages import KINDS, Entry
 from sagas.inspection.question import Question
 from sagas.server import json_bodies
-from sagas.server.access import service_of
-from sagas.server.dashboard_session import login_redirect, viewer_of, session_and_fields, show_page
+from sagas.server.access import service_of, viewer_of
+from sagas.server.dashboard import login_redirect, session_and_fields, show_page
 from sagas.server.operations import Call, Routes
 from sagas.server.routes import bulk
 from sagas.server.routes.inbox_selection import (
@@ -26,7 +27,7 @@ from sagas.server.routes.inbox_selection import (
     selected,
 )
 from sagas.server.routes.inbox_words import EXPLANATIONS, TITLES, VERBS, question_of
-from sagas.server.routes.pages import work_of
+from sagas.runtime.leased_tasks import Queue
 from sagas.server.shapes import Choice, Field, Number, Text
 from sagas.storage.filters import Filter
 
@@ -80,6 +81,14 @@ def counts_of(sagas: Filter) -> Question[dict[str, int]]:
     for kind in KINDS:
         counts[kind] = yield from attention_pages.count(kind, sagas)
     return counts
+
+
+def work_of(queues: list[Queue]) -> dict[str, Any]:
+    """Return totals of the tasks that wait for workers."""
+    now, ready = time.time(), [queue for queue in queues if queue.ready]
+    oldest = max((now - queue.oldest for queue in ready if queue.oldest), default=0.0)
+    claimed = sum(queue.claimed for queue in queues)
+    return {"ready": sum(queue.ready for queue in ready), "claimed": claimed, "oldest": oldest}
 
 
 def address(parameters: dict[str, Any], **change: Any) -> str:

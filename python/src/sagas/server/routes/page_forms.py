@@ -15,12 +15,11 @@ from sagas.base.errors import DefinitionError, NoSuchSaga, NoSuchSchedule, Sagas
 from sagas.definition import children
 from sagas.inspection.views import SagaView
 from sagas.server import json_bodies, problems, step_waits
-from sagas.server.access import service_of
+from sagas.server.access import service_of, viewer_of
 from sagas.server.auth import Principal
-from sagas.server.dashboard_session import login_redirect, viewer_of, session_and_form, show_page
+from sagas.server.dashboard import address_of, login_redirect, session_and_form, show_page
 from sagas.server.operations import Call, Routes
 from sagas.server.routes import saga_pages, schedules
-from sagas.server.routes.pages import address_of
 from sagas.server.routes.sagas import kept_of
 from sagas.server.shapes import Choice, Field, Flag
 

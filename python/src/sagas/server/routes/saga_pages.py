@@ -17,7 +17,8 @@ from sagas.definition.groups import Groups
 from sagas.engine.plan import certificate_text
 from sagas.inspection import families, picture, step_items, timeline, timeline_picture, what_if
 from sagas.inspection.views import SagaView, StepView
-from sagas.server.dashboard_session import login_redirect, viewer_of, show_page
+from sagas.server.access import viewer_of
+from sagas.server.dashboard import address_of, login_redirect, show_page
 from sagas.server.table_rows import (
     FEW,
     StepTable,
@@ -28,7 +29,6 @@ from sagas.server.table_rows import (
     folded,
 )
 from sagas.server.operations import Call, Routes
-from sagas.server.routes.pages import address_of
 from sagas.server.routes.sagas import kept_of
 
 routes = Routes("pages", is_page=True)

@@ -23,13 +23,13 @@ from sagas.server.access import (
     SIZE,
     check_definition,
     check_key,
-    is_unchanged,
     client_key,
+    is_unchanged,
     service_of,
+    wait_for,
     waiting,
 )
 from sagas.server.auth import Permission, Principal
-from sagas.server.client_waits import first
 from sagas.server.event_stream import Listener, Stream
 from sagas.server.operations import Answer, Call, Routes
 from sagas.server.middleware import GONE
@@ -267,7 +267,7 @@ async def wait(call: Call) -> Response:
     await call.service.check_sees(call.principal, call.key)
     with waiting(call.request, call.principal, RequestKind.WAIT):
         ending = asyncio.ensure_future(call.service.store.over(call.key))
-        if await first(call.request, call.principal, ending, call.query["seconds"]):
+        if await wait_for(call.request, call.principal, ending, call.query["seconds"]):
             ending.result()  # raises if the saga does not exist
     if call.request.scope[GONE].done():
         return Response()  # the client is gone

@@ -8,10 +8,9 @@ from starlette.responses import RedirectResponse, Response
 
 from sagas.base.errors import SagasError
 from sagas.server import json_bodies, problems
-from sagas.server.access import check_definition, service_of
-from sagas.server.dashboard_session import login_redirect, viewer_of, session_and_form, show_page
+from sagas.server.access import check_definition, service_of, viewer_of
+from sagas.server.dashboard import address_of, login_redirect, session_and_form, show_page
 from sagas.server.operations import Call, Routes
-from sagas.server.routes.pages import address_of
 from sagas.server.shapes import Field, Text
 
 routes = Routes("pages", is_page=True)

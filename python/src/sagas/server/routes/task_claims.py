@@ -16,8 +16,7 @@ from sagas.base.errors import CannotDecode, SagasError
 from sagas.definition.serialization import is_deeper
 from sagas.runtime.leased_tasks import LeasedTask, Word
 from sagas.server import json_views, problems
-from sagas.server.access import waiting
-from sagas.server.client_waits import first
+from sagas.server.access import wait_for, waiting
 from sagas.server.middleware import GONE
 from sagas.server.operations import Call
 from sagas.server.limits import RequestKind
@@ -242,7 +241,7 @@ async def _is_over(
 
     Otherwise, it is cancelled.
     """
-    return claiming.done() or await first(
+    return claiming.done() or await wait_for(
         call.request, call.principal, claiming, wait + PATIENCE, *ends
     )
 

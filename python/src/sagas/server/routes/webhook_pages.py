@@ -8,8 +8,8 @@ from urllib.parse import urlencode
 from starlette.responses import RedirectResponse, Response
 
 from sagas.inspection import deliveries
-from sagas.server.access import service_of
-from sagas.server.dashboard_session import login_redirect, viewer_of, session_and_form, show_page
+from sagas.server.access import service_of, viewer_of
+from sagas.server.dashboard import login_redirect, session_and_form, show_page
 from sagas.server.operations import Call, Routes
 from sagas.server.routes import webhooks
 from sagas.server.shapes import Choice, Field, Text
