@@ -463,6 +463,9 @@ HEALTH = Record("Health", {"alive": Field(Flag())})
 READY = Record("Ready", {"ready": Field(Flag()), "reason": Field(MAYBE)})
 
 
+# -- the timeline of a saga
+
+
 SPAN = Record(
     "Span",
     {

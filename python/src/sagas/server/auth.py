@@ -46,6 +46,9 @@ def mode_warning(path: pathlib.Path) -> str | None:
     )
 
 
+# -- tokens, roles and sessions
+
+
 MOST_SESSIONS = 1000
 RELOAD_INTERVAL = 1.0  # seconds between two looks at the token file
 KEYS = (

@@ -585,6 +585,9 @@ def token(argv: list[str]) -> int:
     return GOOD
 
 
+# -- the value that --app names
+
+
 NOT_TAKEN_OVER = ("path", "sagas", "accept_new", "clock")
 """Arguments of `sagas.open` that the service does not take over, because it has its own."""
 REFUSED = ("accept_new", "clock")

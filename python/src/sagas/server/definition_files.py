@@ -334,6 +334,9 @@ def _plain(document: Json) -> list[Any]:
     return result
 
 
+# -- line numbers, for messages
+
+
 KeyPath = tuple[Union[str, int], ...]
 """Keys from the outside in. A table of an array is given by its index, from 0."""
 BLANK = re.compile(r"(?:[ \t\r\n]|#[^\n]*)*")

@@ -51,6 +51,9 @@ _decoder = json.JSONDecoder(parse_constant=_no_constant, object_pairs_hook=_once
 """One decoder for all texts. `json.loads` would create one for each."""
 
 
+# -- responses
+
+
 _encoder = json.JSONEncoder(allow_nan=False, separators=(",", ":"), default=whole)
 
 

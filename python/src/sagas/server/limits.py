@@ -116,6 +116,9 @@ class StreamLimits:
         return leave
 
 
+# -- quotas
+
+
 MAX_COUNT_AGE = 10.0
 """Seconds after which a new count starts in the background."""
 COUNT_SHARE = 10

@@ -43,6 +43,9 @@ def folded(rows: Sequence[Any], urgency: Callable[[Any], tuple[int, ...]]) -> Ro
     )
 
 
+# -- groups of steps
+
+
 UNFOLD = Field(
     Text(most=8192),
     "comma-separated declared names of the groups whose parts are drawn; *: all groups",
@@ -95,6 +98,9 @@ class Unfolding:
         joined = ",".join(sorted(names))
         query = f"?{urlencode({'unfold': joined}, safe=',/')}" if joined else ""
         return f"{self._base}{query}#{ANCHOR}"
+
+
+# -- steps
 
 
 @dataclasses.dataclass(frozen=True, slots=True)
@@ -270,6 +276,9 @@ def error_summary(steps: Sequence[StepView]) -> str:
 
 def _is_bad(step: StepView) -> bool:
     return step.state in ("failed", "undo_failed")
+
+
+# -- attempts and events
 
 
 Titles = Mapping[str, str]

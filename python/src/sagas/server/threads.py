@@ -174,6 +174,9 @@ class FairQueue(Generic[J]):
                 del self._known[name]
 
 
+# -- the threads
+
+
 T = TypeVar("T")
 READERS = ANSWERERS = 2
 LARGE = 1 << 18

@@ -172,6 +172,9 @@ def _secret(value: Any) -> bytes:
     return secret
 
 
+# -- one post
+
+
 MOST_ANSWER = 1 << 16
 """Maximum bytes of an answer's head. The body is not read."""
 STATUS = re.compile(rb"HTTP/1\.[01] ([1-5][0-9]{2})(?: |\r?\n)")
@@ -301,6 +304,9 @@ async def _resolved(host: str, port: int) -> list[str]:
 
     threading.Thread(target=ask, name="sagas-resolve", daemon=True).start()
     return await answer
+
+
+# -- deliveries
 
 
 AT_ONCE, PATIENCE = 4, 10.0

@@ -29,13 +29,14 @@ from sagas.server.access import (
     wait_for,
     waiting,
 )
+from sagas.server.answers import TIMELINE
 from sagas.server.auth import Permission, Principal
 from sagas.server.event_stream import Listener, Stream
-from sagas.server.operations import Answer, Call, Routes
-from sagas.server.middleware import GONE
-from sagas.server.limits import RequestKind
-from sagas.server.problems import Problem
 from sagas.server.json_bodies import Json, parted, tagged
+from sagas.server.limits import RequestKind
+from sagas.server.middleware import GONE
+from sagas.server.operations import Answer, Call, Routes
+from sagas.server.problems import Problem
 from sagas.server.routes import filters
 from sagas.server.routes.filters import CURSOR, LIMIT
 from sagas.server.shapes import (
@@ -518,3 +519,40 @@ def stream(
         raise Problem("TooManyStreams", full)
     last = request.headers.get("last-event-id") or since
     return Stream(service.hub.stream(listener, last, still), service.streams.take(name, dashboard))
+
+
+# -- history
+
+
+@routes.get(
+    "/sagas/{key}/log",
+    "getHistory",
+    permission=Permission.LOOK,
+    problems=("NoSuchSaga",),
+    answers={200: Answer("The events of the saga, in order.", answers.HISTORY)},
+)
+async def log(call: Call) -> Response:
+    """Get the history of a saga.
+
+    Returns each event with its time and result, and the commands of operators.
+    """
+    view = await kept_of(call.service, call.principal, call.key)
+    return await call.service.threads.answers.do(
+        lambda: parted({"events": json_views.log(view)}, "events")
+    )
+
+
+@routes.get(
+    "/sagas/{key}/timeline",
+    "getTimeline",
+    permission=Permission.LOOK,
+    problems=("NoSuchSaga",),
+    answers={200: Answer("The attempts of the saga, in the order of their starts.", TIMELINE)},
+)
+async def timeline(call: Call) -> Response:
+    """Get when each attempt of a saga was queued, ran, waited and backed off.
+
+    Returns also the workers that had it, and the decisions of operators with their reasons.
+    """
+    view, now = await view_of(call), call.service.store.now()
+    return await call.service.threads.answers.do(lambda: Json(json_views.timeline(view, now)))
