@@ -1,4 +1,4 @@
-"""Tokens with roles, and sessions of the dashboard."""
+"""Tokens with roles, sessions, and permissions of files that grant access."""
 
 from __future__ import annotations
 

@@ -36,7 +36,6 @@ from sagas.server.shapes import (
     Record,
     Several,
     Shape,
-    Text,
     read_fields,
 )
 from sagas.server.threads import LARGE
@@ -126,9 +125,6 @@ class Operation:
         query = read_query(self.query, request, is_open)
         body = None if self.body is None else await read_body(self.body, request)
         return Call(request, principal, path, query, body)
-
-
-KEY = Text(most=512, least=1)
 
 
 def path_not_found() -> Problem:

@@ -30,16 +30,7 @@ NEEDED_NOTE = Field(
     Text(most=2000, least=1, strip=True),
     "what was done; stored with the name of the token and the time",
 )
-WHY = Record(
-    "CompensateRequest",
-    {
-        "note": Field(
-            Nullable(Text(most=2000)),
-            "the reason; stored with the name of the token and the time",
-            default=None,
-        )
-    },
-)
+COMPENSATE = Record("CompensateRequest", {"note": NOTE})
 RESOLVE = Record("ResolveRequest", {"note": NEEDED_NOTE}, example={"note": "bought one by hand"})
 
 
@@ -116,7 +107,7 @@ async def resolve(call: Call) -> Response:
     "/v1/sagas/{key}/steps/{step}/compensate",
     "compensateStep",
     permission=Permission.OPERATE,
-    body=WHY,
+    body=COMPENSATE,
     answers={200: Answer("Another saga compensates the step.", answers.COMPENSATED)},
     problems=("NoSuchSaga", "StepNotWaiting"),
 )
