@@ -17,12 +17,12 @@ from serving import served, start, take
 
 import sagas
 from sagas.base.errors import Closed, StoreUnavailable
-from sagas.server.middleware import FOLLOWED, GONE, SERVICE
 from sagas.server.limits import ConcurrencyLimits
+from sagas.server.middleware import FOLLOWED, GONE, SERVICE
 from sagas.server.problems import Problem
 from sagas.server.routes import tasks as tasks_module
-from sagas.server.settings import ConcurrencySettings
 from sagas.server.service import WaitingClaims
+from sagas.server.settings import ConcurrencySettings
 from sagas.storage.lots import Batcher
 
 WORD = [("far", "a", "run")]

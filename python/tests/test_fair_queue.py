@@ -6,16 +6,17 @@ import asyncio
 import threading
 import time
 
-from hypothesis import given, strategies as st
+from hypothesis import given
+from hypothesis import strategies as st
 
 from sagas.server.threads import (
     CURRENT_CLIENT,
-    ComputingTime,
-    FairQueue,
     LONG,
     MAX_REST,
-    Pool,
     REST,
+    ComputingTime,
+    FairQueue,
+    Pool,
 )
 
 

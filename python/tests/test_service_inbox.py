@@ -18,8 +18,8 @@ from serving import DEFINITIONS, LONG, Served, all_done, report, served, start, 
 from test_service_page import Browser
 
 import sagas
-from sagas.server.routes.operators import Target
 from sagas.server.routes.inbox import confirmation_of
+from sagas.server.routes.operators import Target
 
 STUCK, APPROVALS = 40, 25
 PANEL = [f"ask-{number}" for number in range(APPROVALS)]

@@ -15,7 +15,7 @@ from typing import Any
 from starlette.requests import Request
 from starlette.responses import Response
 
-from sagas.server.auth import LOCAL_PRINCIPAL, Permission, Principal, ROLES, Session
+from sagas.server.auth import LOCAL_PRINCIPAL, ROLES, Permission, Principal, Session
 from sagas.server.event_stream import CHECK_INTERVAL
 from sagas.server.limits import RequestKind
 from sagas.server.middleware import CROWDING, FOLLOWED, GONE, LEAVE, LOGIN, SERVICE, SLASH

@@ -29,12 +29,13 @@ from sagas.base import module_values
 from sagas.base.errors import DefinitionError, InvalidStore, SagasError
 from sagas.base.option_values import age, integer_from, positive
 from sagas.definition import arguments, payloads
-from sagas.definition.blobs import LEAST, check as check_blobs
+from sagas.definition.blobs import LEAST
+from sagas.definition.blobs import check as check_blobs
 from sagas.definition.saga import Saga
 from sagas.server import auth, definition_files, log_format
 from sagas.server.settings import (
-    ConcurrencySettings,
     LOOPBACK,
+    ConcurrencySettings,
     Network,
     Quota,
     Settings,

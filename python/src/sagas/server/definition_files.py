@@ -28,7 +28,7 @@ from typing import Any, Union
 from sagas.base.errors import DefinitionError
 from sagas.definition.compiled import version_of
 from sagas.definition.saga import Saga
-from sagas.definition.step import Backoff, Cost, NEVER, Step, nothing
+from sagas.definition.step import NEVER, Backoff, Cost, Step, nothing
 from sagas.definition.waits import MOST_WITHIN
 
 SERVICE = ".service.toml"

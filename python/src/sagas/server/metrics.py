@@ -7,7 +7,7 @@ import math
 import time
 from collections import OrderedDict, deque
 from collections.abc import Callable, Iterator
-from typing import Optional, TYPE_CHECKING, Union
+from typing import TYPE_CHECKING, Optional, Union
 
 from prometheus_client import CollectorRegistry, Counter, Gauge, Histogram
 from prometheus_client.core import CounterMetricFamily, GaugeMetricFamily, Metric

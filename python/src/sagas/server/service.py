@@ -11,7 +11,7 @@ import re
 import time
 from collections import OrderedDict
 from collections.abc import Awaitable, Iterator
-from typing import Any, TYPE_CHECKING, TypeVar
+from typing import TYPE_CHECKING, Any, TypeVar
 
 from sagas.api import opening
 from sagas.api.run import Run
@@ -30,16 +30,17 @@ from sagas.definition import tokens
 from sagas.definition.compiled import version_of
 from sagas.definition.labels import Labels
 from sagas.definition.saga import Saga
-from sagas.inspection import activity, saga as one_saga
+from sagas.inspection import activity
+from sagas.inspection import saga as one_saga
 from sagas.inspection.question import Question
 from sagas.inspection.stored_values import stored
 from sagas.inspection.views import SagaView
 from sagas.runtime.leased_tasks import Queue
 from sagas.server import auth, declared_steps, webhooks
 from sagas.server.auth import Principal, Sessions, Tokens
-from sagas.server.limits import ConcurrencyLimits, Quotas, Rates, StreamLimits
 from sagas.server.event_stream import Hub
 from sagas.server.figures import Figures
+from sagas.server.limits import ConcurrencyLimits, Quotas, Rates, StreamLimits
 from sagas.server.metrics import Metrics
 from sagas.server.middleware import SLASH, parted
 from sagas.server.settings import Settings

@@ -14,7 +14,7 @@ from starlette.requests import Request
 from starlette.responses import Response
 
 from sagas.inspection import attention_pages
-from sagas.inspection.attention_pages import Entry, Group, KINDS
+from sagas.inspection.attention_pages import KINDS, Entry, Group
 from sagas.inspection.question import Question
 from sagas.runtime.leased_tasks import Queue
 from sagas.server import json_bodies

@@ -13,7 +13,8 @@ from starlette.responses import RedirectResponse, Response
 
 from sagas.base.errors import SagasError
 from sagas.definition.labels import checked
-from sagas.inspection import lists, pages as pages_module, wording
+from sagas.inspection import lists, wording
+from sagas.inspection import pages as pages_module
 from sagas.inspection.lists import COUNTED
 from sagas.server import renderer
 from sagas.server.access import (

@@ -19,17 +19,17 @@ from sagas.inspection import families, picture, step_items, timeline, timeline_p
 from sagas.inspection.views import SagaView, StepView
 from sagas.server.access import viewer_of
 from sagas.server.dashboard import address_of, login_redirect, show_page
+from sagas.server.operations import Call, Routes
+from sagas.server.routes.sagas import kept_of
 from sagas.server.table_rows import (
     FEW,
-    StepTable,
     UNFOLD,
+    StepTable,
     Unfolding,
     attempt_rows,
     event_rows,
     folded,
 )
-from sagas.server.operations import Call, Routes
-from sagas.server.routes.sagas import kept_of
 
 routes = Routes("pages", is_page=True)
 MOST_EVENTS = 500
