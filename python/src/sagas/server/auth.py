@@ -22,33 +22,6 @@ from typing import Any
 from sagas.base.events import Event
 from sagas.storage.filters import EVERYTHING, Scope
 
-OTHERS_WRITE, OTHERS_READ, GROUP_WRITES = stat.S_IWOTH, stat.S_IROTH, stat.S_IWGRP
-
-
-def check_mode(path: pathlib.Path) -> None:
-    """Raise `PermissionError` if every user of the machine can write a file."""
-    mode = os.stat(path).st_mode
-    if mode & OTHERS_WRITE:
-        raise PermissionError(f"every user may write it (mode {mode & 0o777:04o}): run chmod o-w")
-
-
-def mode_warning(path: pathlib.Path) -> str | None:
-    """Return a warning about the mode of a file that is still usable, or None."""
-    try:
-        mode = os.stat(path).st_mode
-    except OSError:
-        return None
-    if not mode & (OTHERS_READ | GROUP_WRITES):
-        return None
-    problem = "every user may read it" if mode & OTHERS_READ else "its group may write it"
-    return (
-        f"{path}: {problem} (mode {mode & 0o777:04o}). Run chmod 600, or 640 for a group that reads"
-    )
-
-
-# -- tokens, roles and sessions
-
-
 MOST_SESSIONS = 1000
 RELOAD_INTERVAL = 1.0  # seconds between two looks at the token file
 KEYS = (
@@ -440,3 +413,30 @@ class Sessions:
 
     def end(self, name: str) -> None:
         self._sessions.pop(digest_of(name), None)
+
+
+# -- files that grant access
+
+
+OTHERS_WRITE, OTHERS_READ, GROUP_WRITES = stat.S_IWOTH, stat.S_IROTH, stat.S_IWGRP
+
+
+def check_mode(path: pathlib.Path) -> None:
+    """Raise `PermissionError` if every user of the machine can write a file."""
+    mode = os.stat(path).st_mode
+    if mode & OTHERS_WRITE:
+        raise PermissionError(f"every user may write it (mode {mode & 0o777:04o}): run chmod o-w")
+
+
+def mode_warning(path: pathlib.Path) -> str | None:
+    """Return a warning about the mode of a file that is still usable, or None."""
+    try:
+        mode = os.stat(path).st_mode
+    except OSError:
+        return None
+    if not mode & (OTHERS_READ | GROUP_WRITES):
+        return None
+    problem = "every user may read it" if mode & OTHERS_READ else "its group may write it"
+    return (
+        f"{path}: {problem} (mode {mode & 0o777:04o}). Run chmod 600, or 640 for a group that reads"
+    )
