@@ -1,4 +1,4 @@
-"""Pages and forms of the dashboard. Each needs a session, if the service has tokens."""
+"""Pages and forms of the dashboard: templates, login redirects and fields."""
 
 from __future__ import annotations
 

@@ -1,4 +1,4 @@
-"""Pages of the dashboard."""
+"""Pages of the dashboard: login, list of sagas, workers, static files and events."""
 
 from __future__ import annotations
 

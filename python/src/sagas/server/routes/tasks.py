@@ -278,7 +278,7 @@ def _answer(call: Call, body: dict[str, Any], tasks: list[LeasedTask]) -> Claime
     return Claimed(tasks, more, call.service.store.now())
 
 
-# -- the requests about one task
+# -- claims, heartbeats and reports of one task
 
 
 LONGEST_LEASE = 3600.0
