@@ -42,8 +42,7 @@ from world import chance, is_unexpected
 import sagas
 import sagas.definition.shelf
 from sagas.core.announcements import TYPES
-from sagas.server.webhook_file import Webhook
-from sagas.server.webhooks import Webhooks
+from sagas.server.webhooks import Webhook, Webhooks
 
 THRESHOLD = 300
 EVERY = datetime.timedelta(seconds=1)

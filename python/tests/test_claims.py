@@ -17,12 +17,12 @@ from serving import served, start, take
 
 import sagas
 from sagas.base.errors import Closed, StoreUnavailable
+from sagas.server.limits import ConcurrencyLimits
 from sagas.server.middleware import FOLLOWED, GONE, SERVICE
-from sagas.server.places import ConcurrencyLimits
 from sagas.server.problems import Problem
-from sagas.server.routes import task_claims
+from sagas.server.routes import tasks as tasks_module
+from sagas.server.service import WaitingClaims
 from sagas.server.settings import ConcurrencySettings
-from sagas.server.waiting_claims import WaitingClaims
 from sagas.storage.external import Batcher
 
 WORD = [("far", "a", "run")]
@@ -361,7 +361,7 @@ def test_a_claim_without_a_response_is_released(
     monkeypatch: pytest.MonkeyPatch,
 ) -> None:
     """It is released, whether the report or the later claim raises."""
-    monkeypatch.setattr(task_claims.json_views, "task", lambda one, now: one)
+    monkeypatch.setattr(tasks_module.json_views, "task", lambda one, now: one)
 
     async def main() -> None:
         service = Claims(["t1"], second)
@@ -373,7 +373,7 @@ def test_a_claim_without_a_response_is_released(
         body = {"steps": ["far/a"], "limit": 3, "wait": 0.0, "lease": 9.0, "worker": ""}
         reply: Any = None
         with contextlib.suppress(Problem, ValueError, asyncio.CancelledError):
-            async with task_claims.NextClaim(call, body) as claim:
+            async with tasks_module.NextClaim(call, body) as claim:
                 claim.stored()
                 await asyncio.sleep(0.01)
                 if of_report:

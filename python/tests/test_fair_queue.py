@@ -8,8 +8,15 @@ import time
 
 from hypothesis import given, strategies as st
 
-from sagas.server.fair_queue import LONG, CURRENT_CLIENT, MAX_REST, REST, ComputingTime, FairQueue
-from sagas.server.threads import Pool
+from sagas.server.threads import (
+    CURRENT_CLIENT,
+    LONG,
+    MAX_REST,
+    REST,
+    ComputingTime,
+    FairQueue,
+    Pool,
+)
 
 
 def done(queue: FairQueue[str], name: str, seconds: float, computed: float = 0.0) -> None:

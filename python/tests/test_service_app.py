@@ -18,7 +18,7 @@ from serving import FEW, command, served
 import sagas
 from sagas.api.service_replies import ServiceValues
 from sagas.server import command as command_module
-from sagas.server.app_store import AppStore
+from sagas.server.command import AppStore
 from sagas.storage.admin import connect
 
 BIG = "big " * 200

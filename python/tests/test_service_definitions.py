@@ -8,7 +8,7 @@ import pytest
 
 import sagas
 from sagas.server import definition_files
-from sagas.server.toml_lines import Lines
+from sagas.server.definition_files import LineNumbers
 
 GOOD = """# a trip
 format = 2
@@ -272,4 +272,4 @@ def test_lines_of_odd_texts(path: tuple[str | int, ...], line: int) -> None:
     """Brackets and headers within strings and comments do not count; an item without its own line
     has that of its parent.
     """
-    assert Lines(ODD).of(*path) == line
+    assert LineNumbers(ODD).of(*path) == line

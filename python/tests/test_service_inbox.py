@@ -18,8 +18,8 @@ from serving import DEFINITIONS, LONG, Served, all_done, report, served, start, 
 from test_service_page import Browser
 
 import sagas
-from sagas.server.routes.bulk import Target
-from sagas.server.routes.inbox_words import question_of
+from sagas.server.routes.inbox import confirmation_of
+from sagas.server.routes.operators import Target
 
 STUCK, APPROVALS = 40, 25
 PANEL = [f"ask-{number}" for number in range(APPROVALS)]
@@ -263,7 +263,7 @@ QUESTIONS: list[tuple[str, list[Target], str, str]] = [
 def test_questions_about_steps_and_compensations() -> None:
     """An operator who reports on a compensation is asked about that, and not about its step."""
     for verb, targets, title, text in QUESTIONS:
-        dialog = question_of("unknown", verb, targets).of(targets, verb)
+        dialog = confirmation_of("unknown", verb, targets).of(targets, verb)
         assert dialog["title"] == title and dialog["text"].startswith(text), dialog
 
 

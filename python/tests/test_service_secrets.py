@@ -14,7 +14,7 @@ from server import Server
 from serving import DEFINITIONS, LONG, Served, command, served, start, stuck, token
 
 import sagas
-from sagas.server import auth, private_files
+from sagas.server import auth
 from sagas.storage.folder_blobs import FolderBlobStore
 from sagas.storage.record_file import RecordFile
 
@@ -211,7 +211,7 @@ def test_files_of_rights(tmp_path: pathlib.Path) -> None:
     """
     token(tmp_path, "a", "caller")
     path = tmp_path / "tokens.toml"
-    assert path.stat().st_mode & 0o777 == 0o600 and private_files.warning(path) is None
+    assert path.stat().st_mode & 0o777 == 0o600 and auth.mode_warning(path) is None
     os.umask(before := os.umask(0))
     os.umask(0)
     try:
@@ -228,7 +228,7 @@ def test_files_of_rights(tmp_path: pathlib.Path) -> None:
         path.chmod(mode)
         token(tmp_path, f"b{mode}", "caller")
         assert path.stat().st_mode & 0o777 == mode and len(auth.read(path)) > 1
-        message = private_files.warning(path)
+        message = auth.mode_warning(path)
         assert message is says is None or (message and says and says in message)
     path.chmod(0o666)
     with pytest.raises(auth.TokenFault, match="every user may write it .mode 0666.: run chmod o-w"):

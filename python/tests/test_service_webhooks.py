@@ -24,9 +24,8 @@ import sagas
 from sagas.cli.snapshot import Snapshot
 from sagas.core.announcements import TYPES
 from sagas.inspection import deliveries
-from sagas.server import webhook_file, webhook_post, webhooks
-from sagas.server.webhook_file import Webhook, WebhookFault
-from sagas.server.webhooks import Webhooks
+from sagas.server import webhooks
+from sagas.server.webhooks import Webhook, WebhookFault, Webhooks
 from sagas.storage.deliveries import Claimed
 
 SECRET = base64.b64encode(b"k" * 32).decode()
@@ -294,13 +293,13 @@ def test_an_invalid_file(tmp_path: pathlib.Path, text: str, says: str) -> None:
     """The error has the location and the rule, and no secret."""
     (tmp_path / "w.toml").write_text(text)
     with pytest.raises(WebhookFault, match=says) as error:
-        webhook_file.read(tmp_path / "w.toml")
+        webhooks.read_file(tmp_path / "w.toml")
     assert SECRET not in str(error.value) and "?secret" not in str(error.value)
 
 
 def test_a_host_beyond_ascii(tmp_path: pathlib.Path) -> None:
     """Its name is sent in its ASCII form."""
-    (one,) = webhook_file.read(
+    (one,) = webhooks.read_file(
         pathlib.Path(written(tmp_path, table("https://zürich.example:8443/a%20b?c=%C3%BC")))
     )
     assert one.url == "https://zürich.example:8443/a%20b?c=%C3%BC"
@@ -353,9 +352,9 @@ ANSWERS: list[tuple[bytes, bytes, Any]] = [
     (b"", b"", TimeoutError),
     (b"HTTP/1.1 100 Continue\r\n", b"X: y\r\n", TimeoutError),
     (b"HTTP/1.1 100 Continue\r\n\r\n", b"HTTP/1.1 200 OK\r\n", 200),
-    (b"HTTP/1.1 100 Continue\r\n", b"X: y\r\n" * 1000, webhook_post.InvalidAnswer),
-    (b"", b"x" * 10_000, webhook_post.InvalidAnswer),
-    (b"SSH-2.0-secret-banner\r\n", b"", webhook_post.InvalidAnswer),
+    (b"HTTP/1.1 100 Continue\r\n", b"X: y\r\n" * 1000, webhooks.InvalidAnswer),
+    (b"", b"x" * 10_000, webhooks.InvalidAnswer),
+    (b"SSH-2.0-secret-banner\r\n", b"", webhooks.InvalidAnswer),
 ]
 
 
@@ -376,10 +375,10 @@ def test_a_receiver_that_trickles(first: bytes, part: bytes, wanted: Any) -> Non
         hook = Webhook("one", f"http://{name}:{port}/", b"k" * 32, frozenset(TYPES), None)
         seconds = 1.0 if wanted is TimeoutError else LONG
         if isinstance(wanted, int):
-            assert await webhook_post.post(hook, claimed, seconds, allow_local=True) == wanted
+            assert await webhooks.post(hook, claimed, seconds, allow_local=True) == wanted
         else:
             with pytest.raises(wanted) as error:
-                await webhook_post.post(hook, claimed, seconds, allow_local=True)
+                await webhooks.post(hook, claimed, seconds, allow_local=True)
             assert "banner" not in str(error.value)
         server.close()
 
@@ -434,10 +433,10 @@ def test_a_local_receiver(tmp_path: pathlib.Path, address: str) -> None:
     """It is refused unless the file allows it, wherever a name leads."""
     path = pathlib.Path(written(tmp_path, table(f"http://{address}:9/")))
     with pytest.raises(WebhookFault, match="webhook 1: url must not be .* --local-webhooks"):
-        webhook_file.read(path)
-    (hook,) = webhook_file.read(path, allow_local=True)
+        webhooks.read_file(path)
+    (hook,) = webhooks.read_file(path, allow_local=True)
     claimed = Claimed("msg_1", "saga.completed", "k", "{}", 1, 1)
     if "fe80" in address:
         return
-    with pytest.raises(webhook_post.LocalReceiver, match="is local: start the service with"):
-        asyncio.run(webhook_post.post(hook, claimed, LONG, allow_local=False))
+    with pytest.raises(webhooks.LocalReceiver, match="is local: start the service with"):
+        asyncio.run(webhooks.post(hook, claimed, LONG, allow_local=False))

@@ -1,23 +1,27 @@
-"""Authentication, roles and rates of each request.
+"""Who a request is from, and what it may: tokens, sessions, roles and rates.
 
 `Resource` checks the headers first: a request without permission is answered before a byte of
-its body is read.
+its body is read. A request that waits ends with its client, its token or the service.
 """
 
 from __future__ import annotations
 
+import asyncio
 import contextlib
 import functools
 from collections.abc import Iterator
+from typing import Any
 
 from starlette.requests import Request
+from starlette.responses import Response
 
-from sagas.server.auth import LOCAL_PRINCIPAL, ROLES, Permission, Principal
-from sagas.server.fair_queue import CURRENT_CLIENT
-from sagas.server.middleware import CROWDING, LEAVE, LOGIN, SERVICE, SLASH
-from sagas.server.places import Kind
+from sagas.server.auth import LOCAL_PRINCIPAL, ROLES, Permission, Principal, Session
+from sagas.server.event_stream import CHECK_INTERVAL
+from sagas.server.limits import RequestKind
+from sagas.server.middleware import CROWDING, FOLLOWED, GONE, LEAVE, LOGIN, SERVICE, SLASH
 from sagas.server.problems import Problem
 from sagas.server.service import Service
+from sagas.server.threads import CURRENT_CLIENT
 
 PRINCIPAL_NAME = "sagas.who"
 """In a scope: the name of the principal, for the log."""
@@ -31,8 +35,10 @@ ANY_TIME = ("/health/", "/ui/static/", LOGIN)
 """Paths that are answered regardless of the number of connections: they are fast and need no
 token.
 """
-CHECK = "sagas.check"
+RIGHTS_CHECK = "sagas.check"
 """In a scope: a function that raises `Problem` if the principal has lost the permission."""
+COOKIE = "sagas_session"
+"""The name of the session's cookie, before the port."""
 
 
 def service_of(request: Request) -> Service:
@@ -86,13 +92,15 @@ def occupy(request: Request, principal: Principal) -> None:
     """Take one of the token's slots until the request ends. Raises `Problem`."""
     CURRENT_CLIENT.set(client_key(request, principal))
     if HAS_SLOT not in request.scope:
-        leave = service_of(request).places.take(client_key(request, principal), Kind.CONNECTION)
+        leave = service_of(request).places.take(
+            client_key(request, principal), RequestKind.CONNECTION
+        )
         request.scope[HAS_SLOT] = True
         request.scope[LEAVE].append(leave)
 
 
 @contextlib.contextmanager
-def waiting(request: Request, principal: Principal, kind: Kind) -> Iterator[None]:
+def waiting(request: Request, principal: Principal, kind: RequestKind) -> Iterator[None]:
     """Count the request as waiting. Raises `Problem` if too many of the token wait."""
     leave = service_of(request).places.take(client_key(request, principal), kind)
     try:
@@ -125,7 +133,7 @@ def authorize(request: Request, permission: Permission) -> Principal:
     count_request(request, principal)
     occupy(request, principal)
     request.scope[PRINCIPAL] = principal
-    request.scope[CHECK] = functools.partial(check_unchanged, request, principal)
+    request.scope[RIGHTS_CHECK] = functools.partial(check_unchanged, request, principal)
     return principal
 
 
@@ -137,8 +145,8 @@ async def body_of(request: Request) -> bytes:
     """
     body = b"".join([part async for part in request.stream()])  # the request would keep it
     request.scope[SIZE] = len(body)
-    if CHECK in request.scope:
-        request.scope[CHECK]()
+    if RIGHTS_CHECK in request.scope:
+        request.scope[RIGHTS_CHECK]()
     return body
 
 
@@ -191,3 +199,132 @@ def check_steps(principal: Principal, steps: list[str]) -> None:
 def unslashed(text: str) -> str:
     """Return a part of a path with its own slashes."""
     return text.replace(SLASH, "/")
+
+
+# -- waits that end with their client
+
+
+async def wait_for(
+    request: Request,
+    principal: Principal,
+    work: "asyncio.Future[Any]",
+    seconds: float,
+    *ends: "asyncio.Future[None]",
+) -> bool:
+    """Wait for work until the client, its token or the service ends.
+
+    The wait also ends when one of the `ends` is done, or the client sends something else.
+    Returns whether the work is done. Otherwise, it is cancelled and awaited. Raises `Problem`
+    if the token has expired or changed.
+    """
+    service, loop = service_of(request), asyncio.get_running_loop()
+    futures = {work, request.scope[GONE], request.scope[FOLLOWED], service.stopping, *ends}
+    slice = seconds if service.tokens is None else min(seconds, CHECK_INTERVAL)
+    until = loop.time() + seconds
+    try:
+        while not await _any_done(futures, min(slice, until - loop.time())):
+            check_unchanged(request, principal)
+            if loop.time() >= until:
+                return False
+        return work.done()
+    finally:
+        if not work.done():
+            work.cancel()
+            with contextlib.suppress(asyncio.CancelledError, Exception):
+                await work
+
+
+async def _any_done(futures: "set[asyncio.Future[Any]]", seconds: float) -> bool:
+    """Return whether one of the futures is done within a time."""
+    done, _ = await asyncio.wait(
+        futures, timeout=max(0.0, seconds), return_when=asyncio.FIRST_COMPLETED
+    )
+    return bool(done)
+
+
+# -- sessions of the dashboard
+
+
+def cookie_of(request: Request) -> str:
+    """Return the cookie's name, with the port that the browser uses.
+
+    Browsers send the cookies of a host to all of its ports, and another service may use one of
+    them.
+    """
+    port = request.headers.get("host", "").rpartition("]")[2].partition(":")[2]
+    return f"{COOKIE}_{port}" if port.isascii() and port.isdigit() and len(port) < 6 else COOKIE
+
+
+def session_of(request: Request) -> Session | None:
+    """Return the session of an operator with the current rights of its token, or None."""
+    session = current_session(request)
+    if session is not None:
+        request.scope[PRINCIPAL_NAME], request.scope[PRINCIPAL] = (
+            session.principal.name,
+            session.principal,
+        )
+        request.scope[RIGHTS_CHECK] = functools.partial(
+            check_session_unchanged, request, session.principal
+        )
+        count_request(request, session.principal)
+        occupy(request, session.principal)
+    return session
+
+
+def current_session(request: Request) -> Session | None:
+    """Return the same as `session_of`, without counting the request."""
+    service = service_of(request)
+    session = service.sessions.find(request.cookies.get(cookie_of(request), ""))
+    if session is None:
+        return None
+    principal = (
+        LOCAL_PRINCIPAL if service.tokens is None else service.tokens.of(session.principal.digest)
+    )
+    if principal is None or not principal.has_permission(Permission.OPERATE):
+        return None  # its token is not in the file any more, or has expired
+    session.principal = principal
+    return session
+
+
+def check_session_unchanged(request: Request, principal: Principal) -> None:
+    """Raise `Problem` if the session has ended since the request was authorized, or its token
+    changed.
+    """
+    session = current_session(request)
+    if session is None:
+        raise expired_form()
+    if session.principal != principal:
+        raise rights_changed()
+
+
+def expired_form() -> Problem:
+    """Return the problem for a form that does not belong to the session."""
+    return Problem(
+        "ExpiredForm",
+        "this form does not belong to your session: go back, reload the page, and send it again",
+    )
+
+
+def viewer_of(request: Request) -> Principal:
+    """Return the principal that views a page, after `login_redirect` has let the request pass."""
+    principal: Principal = (
+        request.scope.get(PRINCIPAL, LOCAL_PRINCIPAL)
+        if service_of(request).tokens is None
+        else request.scope[PRINCIPAL]
+    )
+    return principal
+
+
+def begin_session(request: Request, response: Response, principal: Principal) -> Session:
+    """Start a session and set its cookie."""
+    name, session = service_of(request).sessions.begin(principal)
+    response.set_cookie(
+        cookie_of(request),
+        name,
+        path="/ui",
+        httponly=True,
+        samesite="lax",
+        secure=request.url.scheme == "https",
+        max_age=int(service_of(request).settings.session_time),
+    )
+    return session

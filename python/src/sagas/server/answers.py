@@ -5,7 +5,6 @@ from __future__ import annotations
 from sagas.definition.declaration import COSTS
 from sagas.server import problems
 from sagas.server.auth import DEFINITION
-from sagas.server.shape_answers import SHAPE
 from sagas.server.shapes import (
     Anything,
     Choice,
@@ -19,6 +18,23 @@ from sagas.server.shapes import (
     Shape,
     Text,
 )
+
+TASK_SHAPE = Record(
+    "TaskShape",
+    {
+        "saga": Field(Text(), "the saga in which the step is declared, also if it is included"),
+        "counts": Field(
+            Mapped(Number(least=0, whole=True)),
+            "how many items there are of each step, and of each inclusion: `ship`, `hotel[1]/room`",
+        ),
+        "keys": Field(
+            Mapped(Several(Text())),
+            "the keys of items that are those of an object, by the same names",
+        ),
+    },
+    "Describes how results of items form the result of a declared step.",
+)
+
 
 PHASES = "open", "completed", "recovered", "stuck", "resolved"
 STATES = (
@@ -258,7 +274,7 @@ TASK = Record(
         ),
         "item_key": Field(MAYBE, "the key of the item, if the items are those of an object"),
         "item": Field(Anything(), "the step's item; null: the step has no items"),
-        "shape": Field(Nullable(SHAPE), "null: the saga's steps do not depend on its input"),
+        "shape": Field(Nullable(TASK_SHAPE), "null: the saga's steps do not depend on its input"),
         "undo": Field(Flag(), "whether it is the compensation"),
         "attempt": Field(COUNT, "1 for the first"),
         "idempotency_key": Field(Text(), "to pass to other services: the same for all attempts"),
@@ -445,3 +461,70 @@ DELIVERY = Record(
 DELIVERIES = Record("Deliveries", {"deliveries": Field(Several(DELIVERY))})
 HEALTH = Record("Health", {"alive": Field(Flag())})
 READY = Record("Ready", {"ready": Field(Flag()), "reason": Field(MAYBE)})
+
+
+# -- the timeline of a saga
+
+
+SPAN = Record(
+    "Span",
+    {
+        "state": Field(Choice(("queued", "running", "waiting", "backoff"))),
+        "why": Field(
+            MAYBE,
+            "why it was queued (`slot`, `concurrency`, `fleet_limit`) or waited (`approval`, "
+            "`wait`, `child`, `worker`, `unknown`, `person`, `exhausted`, `cannot_decode`); "
+            "`worker` if it ran at a worker",
+        ),
+        **time("began", "since when"),
+        **time("ended", "until when; null: it has not ended", nullable=True),
+        "worker": Field(MAYBE, "the worker that had it"),
+        "lease": Field(Nullable(COUNT), "the number of that worker's lease"),
+        "detail": Field(MAYBE, "the error before this span"),
+    },
+    "A part of an attempt. Spans follow one another without gaps.",
+)
+DECISION = Record(
+    "Decision",
+    {
+        "command": Field(Choice(("complete", "fail", "retry"))),
+        **time("at", "when"),
+        "by": Field(MAYBE, "the name of the operator's token"),
+        "note": Field(MAYBE, "the reason"),
+    },
+)
+ATTEMPT_TIMES = Record(
+    "AttemptTimes",
+    {
+        "step": Field(NAME),
+        "undo": Field(Flag(), "whether it is the compensation"),
+        "attempt": Field(COUNT, "1 for the first"),
+        **time("ready", "since when it could begin"),
+        **time("began", "when it began"),
+        **time("ended", "when it ended", nullable=True),
+        "outcome": Field(
+            Nullable(Choice(("succeeded", "failed", "retried", "not_called"))),
+            "`retried`: another attempt follows; `not_called`: it was given up; null: it has not "
+            "ended",
+        ),
+        "error": Field(MAYBE, "the error"),
+        "unknown_outcomes": Field(COUNT, "how often its outcome was unknown"),
+        "spans": Field(Several(SPAN)),
+        "decision": Field(Nullable(DECISION), "the decision of an operator"),
+    },
+)
+DEED = Record(
+    "PersonsCommand",
+    {
+        "command": Field(Text(), "`abort`, `complete`, `fail`, `retry`, `compensate` or `resolve`"),
+        **time("at", "when"),
+        "step": Field(Nullable(NAME)),
+        "undo": Field(Flag(), "whether it is about the compensation"),
+        "by": Field(MAYBE, "the name of the operator's token"),
+        "note": Field(MAYBE, "the reason"),
+        "accepted": Field(Nullable(Flag()), "null: not answered yet"),
+    },
+)
+TIMELINE = Record(
+    "Timeline", {"attempts": Field(Several(ATTEMPT_TIMES)), "decisions": Field(Several(DEED))}
+)

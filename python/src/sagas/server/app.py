@@ -8,16 +8,14 @@ from starlette.routing import Route, Router
 
 from sagas.server import openapi, problems
 from sagas.server.connections import Connections
-from sagas.server.dashboard_session import refused
+from sagas.server.dashboard import refused
 from sagas.server.middleware import DASHBOARD, LOGIN, App, Guard, Receive, Scope, Send
 from sagas.server.operations import Operation, path_not_found, resources
 from sagas.server.problems import Problem
 from sagas.server.routes import (
     attention,
-    bulk,
-    definition_pages,
     definitions,
-    history,
+    deliveries,
     inbox,
     operators,
     page_forms,
@@ -25,36 +23,29 @@ from sagas.server.routes import (
     saga_pages,
     sagas,
     schedules,
-    start_form,
-    task_reports,
     tasks,
-    webhook_pages,
-    webhooks,
 )
 from sagas.server.service import Service
 from sagas.server.settings import Settings
 
 API = [
     tasks.routes,
-    task_reports.routes,
     sagas.routes,
-    history.routes,
     attention.routes,
-    bulk.routes,
     definitions.routes,
     schedules.routes,
     operators.routes,
-    webhooks.routes,
+    deliveries.routes,
     openapi.routes,
 ]
 PAGES = [
     inbox.routes,
-    definition_pages.routes,
-    start_form.routes,
+    definitions.page_routes,
     pages.routes,
     saga_pages.routes,
     page_forms.routes,
-    webhook_pages.routes,
+    schedules.page_routes,
+    deliveries.page_routes,
 ]
 
 

@@ -1,4 +1,4 @@
-"""Tokens with roles, and sessions of the dashboard."""
+"""Tokens with roles, sessions, and permissions of files that grant access."""
 
 from __future__ import annotations
 
@@ -12,15 +12,14 @@ import os
 import pathlib
 import re
 import secrets
+import stat
 import time
+import tomllib
 from collections import OrderedDict
 from collections.abc import Callable, Collection, Iterable, Mapping
 from typing import Any
 
-import tomllib
-
 from sagas.base.events import Event
-from sagas.server import private_files
 from sagas.storage.filters import EVERYTHING, Scope
 
 MOST_SESSIONS = 1000
@@ -164,7 +163,7 @@ def read(path: pathlib.Path) -> dict[str, Principal]:
 def _text_of(path: pathlib.Path) -> str:
     """Return the file's text. Raises `TokenFault`."""
     try:
-        private_files.check(path)
+        check_mode(path)
         return path.read_text(encoding="utf-8")
     except (OSError, UnicodeDecodeError) as error:
         raise TokenFault(f"{path}: cannot be read: {error}") from error
@@ -416,19 +415,28 @@ class Sessions:
         self._sessions.pop(digest_of(name), None)
 
 
-class Rates:
-    """Token buckets of clients: each fills at a rate, up to two seconds' worth and at least 1."""
+# -- files that grant access
 
-    def __init__(self, rate: float, most: int = 10_000) -> None:
-        self.rate, self.most, self._size = rate, most, max(1.0, 2 * rate)
-        self._buckets: OrderedDict[str, tuple[float, float]] = OrderedDict()
 
-    def take(self, name: str) -> bool:
-        """Return whether one more request is within the rate."""
-        now = time.monotonic()
-        available, at = self._buckets.pop(name, (self._size, now))
-        available = min(self._size, available + (now - at) * self.rate)
-        self._buckets[name] = (available - 1 if available >= 1 else available), now
-        if len(self._buckets) > self.most:
-            self._buckets.popitem(last=False)
-        return available >= 1
+OTHERS_WRITE, OTHERS_READ, GROUP_WRITES = stat.S_IWOTH, stat.S_IROTH, stat.S_IWGRP
+
+
+def check_mode(path: pathlib.Path) -> None:
+    """Raise `PermissionError` if every user of the machine can write a file."""
+    mode = os.stat(path).st_mode
+    if mode & OTHERS_WRITE:
+        raise PermissionError(f"every user may write it (mode {mode & 0o777:04o}): run chmod o-w")
+
+
+def mode_warning(path: pathlib.Path) -> str | None:
+    """Return a warning about the mode of a file that is still usable, or None."""
+    try:
+        mode = os.stat(path).st_mode
+    except OSError:
+        return None
+    if not mode & (OTHERS_READ | GROUP_WRITES):
+        return None
+    problem = "every user may read it" if mode & OTHERS_READ else "its group may write it"
+    return (
+        f"{path}: {problem} (mode {mode & 0o777:04o}). Run chmod 600, or 640 for a group that reads"
+    )

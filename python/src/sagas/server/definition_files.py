@@ -21,17 +21,15 @@ from __future__ import annotations
 import datetime
 import pathlib
 import re
-from collections.abc import Callable
-from typing import Any
-
 import tomllib
+from collections.abc import Callable, Iterator
+from typing import Any, Union
 
 from sagas.base.errors import DefinitionError
 from sagas.definition.compiled import version_of
 from sagas.definition.saga import Saga
 from sagas.definition.step import NEVER, Backoff, Cost, Step, nothing
 from sagas.definition.waits import MOST_WITHIN
-from sagas.server.toml_lines import Lines
 
 SERVICE = ".service.toml"
 Json = dict[str, Any]
@@ -74,7 +72,7 @@ class File:
         except (OSError, UnicodeDecodeError) as error:
             raise DefinitionError(f"{path}: cannot be read: {error}") from error
         self.document = self._parsed()
-        self._lines = Lines(self.text)
+        self._lines = LineNumbers(self.text)
 
     def _parsed(self) -> Json:
         try:
@@ -334,3 +332,95 @@ def _plain(document: Json) -> list[Any]:
             ]
         )
     return result
+
+
+# -- line numbers, for messages
+
+
+KeyPath = tuple[Union[str, int], ...]
+"""Keys from the outside in. A table of an array is given by its index, from 0."""
+BLANK = re.compile(r"(?:[ \t\r\n]|#[^\n]*)*")
+COMMENT = re.compile(r"#[^\n]*")
+HEADER = re.compile(r"(\[\[?)((?:\"[^\"\n]*\"|'[^'\n]*'|[^\]\"'])*)\]\]?")
+KEY_TEXT = re.compile(r"(?:\"(?:\\.|[^\"\n])*\"|'[^'\n]*'|[^=\"'])+")
+STRING = re.compile(
+    r'"""(?:\\.|[^\\])*?"{3,5}|\'\'\'.*?\'{3,5}|"(?:\\.|[^"\\\n])*"|\'[^\'\n]*\'', re.DOTALL
+)
+
+
+class LineNumbers:
+    """The line numbers of a TOML text."""
+
+    def __init__(self, text: str) -> None:
+        self._lines: dict[KeyPath, int] = {}
+        for path, line in _key_paths(text):
+            self._lines.setdefault(path, line)
+
+    def of(self, *path: Union[str, int]) -> int:
+        """Return the line, from 1, of the part with this path, or of an enclosing part."""
+        while path and path not in self._lines:
+            path = path[:-1]
+        return self._lines.get(path, 1)
+
+
+def _key_paths(text: str) -> Iterator[tuple[KeyPath, int]]:
+    """Yield the path and the line of each table and key."""
+    table: KeyPath = ()
+    at, before, line, counts = 0, 0, 1, dict[KeyPath, int]()
+    while (at := _end_of_match(BLANK, text, at)) < len(text):
+        line, before = line + text.count("\n", before, at), at
+        header = HEADER.match(text, at)
+        if header:
+            names = _key_parts(header[2])
+            if header[1] == "[[":
+                counts[names] = counts.get(names, -1) + 1
+            table, at = _table_path(names, counts), header.end()
+            yield table, line
+            continue
+        end = _end_of_match(KEY_TEXT, text, at)
+        names = _key_parts(text[at:end])
+        for length in range(1, len(names) + 1):
+            yield table + names[:length], line
+        at = _end_of_value(text, end + 1)
+
+
+def _end_of_match(form: re.Pattern[str], text: str, at: int) -> int:
+    found = form.match(text, at)
+    return max(found.end(), at + (form is not BLANK)) if found else at + 1
+
+
+def _key_parts(text: str) -> KeyPath:
+    """Return the parts of a dotted key."""
+    value: Any = tomllib.loads(f"{text.strip()} = 0")
+    names: list[str] = []
+    while isinstance(value, dict):
+        ((name, value),) = value.items()
+        names.append(name)
+    return tuple(names)
+
+
+def _table_path(names: KeyPath, counts: dict[KeyPath, int]) -> KeyPath:
+    """Return a table's path, with the current index of each array in it."""
+    path: KeyPath = ()
+    for length, name in enumerate(names, 1):
+        path += (name,)
+        if names[:length] in counts:
+            path += (counts[names[:length]],)
+    return path
+
+
+def _end_of_value(text: str, at: int) -> int:
+    """Return where a value ends: at the end of a line, outside of brackets and strings."""
+    depth = 0
+    while at < len(text):
+        char = text[at]
+        if char in "\"'":
+            at = _end_of_match(STRING, text, at)
+        elif char == "#":
+            at = _end_of_match(COMMENT, text, at)
+        elif char == "\n" and depth == 0:
+            return at
+        else:
+            depth += (char in "[{") - (char in "]}")
+            at += 1
+    return at

@@ -10,13 +10,17 @@ import secrets
 import time
 from collections import deque
 from collections.abc import AsyncIterator, Callable
+from typing import Any
+
+from starlette.responses import StreamingResponse
 
 from sagas.base.events import Event
+from sagas.server.middleware import FOLLOWED, Receive, Scope, Send
 
 KEPT = 2000
 MOST_WAITING = 1000
 KEEPALIVE = 15.0  # seconds after which a comment shows that the stream is open
-CHECK = 2.0  # seconds between two looks whether its token still counts
+CHECK_INTERVAL = 2.0  # seconds between two looks whether its token still counts
 MISSED = "event: missed\ndata: {}\n\n"
 
 
@@ -146,7 +150,7 @@ class Hub:
                     return
                 listener.awake.clear()
                 with contextlib.suppress(TimeoutError):
-                    async with asyncio.timeout(CHECK):
+                    async with asyncio.timeout(CHECK_INTERVAL):
                         await listener.awake.wait()
                 if not still():
                     return
@@ -161,3 +165,25 @@ def written(event: Event) -> str:
     """Return an event as a stream sends it, without its id."""
     fields = {name: value for name, value in dataclasses.asdict(event).items() if value is not None}
     return f"event: {event.name}\ndata: {json.dumps(fields)}\n\n"
+
+
+class Stream(StreamingResponse):
+    """A streaming response that frees its slot when it ends."""
+
+    def __init__(self, content: Any, leave: Callable[[], None]) -> None:
+        super().__init__(
+            content, media_type="text/event-stream", headers={"X-Accel-Buffering": "no"}
+        )
+        self._leave = leave
+
+    async def __call__(self, scope: Scope, receive: Receive, send: Send) -> None:
+        """Send the stream until the client sends something after its request."""
+        sending = asyncio.ensure_future(super().__call__(scope, receive, send))
+        try:
+            await asyncio.wait({sending, scope[FOLLOWED]}, return_when=asyncio.FIRST_COMPLETED)
+        finally:
+            if not sending.done():
+                sending.cancel()
+            with contextlib.suppress(asyncio.CancelledError):
+                await sending
+            self._leave()

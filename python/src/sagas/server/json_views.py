@@ -13,7 +13,7 @@ from sagas.inspection.attention_pages import Entry
 from sagas.inspection.timeline import AttemptTimes
 from sagas.inspection.what_if import WhatIf
 from sagas.runtime.leased_tasks import LeasedTask, Queue
-from sagas.server.responses import times
+from sagas.server.json_bodies import times
 from sagas.storage.schedules import Schedule
 
 

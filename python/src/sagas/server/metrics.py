@@ -1,10 +1,11 @@
-"""Prometheus metrics."""
+"""Prometheus metrics, and durations of the latest attempts."""
 
 from __future__ import annotations
 
 import functools
+import math
 import time
-from collections import OrderedDict
+from collections import OrderedDict, deque
 from collections.abc import Callable, Iterator
 from typing import TYPE_CHECKING, Optional, Union
 
@@ -14,11 +15,39 @@ from prometheus_client.exposition import CONTENT_TYPE_LATEST, generate_latest
 
 from sagas.base.events import Event
 from sagas.runtime.leased_tasks import Queue
-from sagas.server.durations import Durations
 from sagas.storage.filters import EVERYTHING
 
 if TYPE_CHECKING:
     from sagas.server.service import Service
+
+KEPT_DURATIONS, MOST_STEPS = 500, 5000
+MeasuredStep = tuple[str, str, bool]
+"""A saga's name, a step's name, and whether it is the compensation."""
+
+
+class Durations:
+    """The latest durations of each step."""
+
+    def __init__(self) -> None:
+        self._durations: OrderedDict[MeasuredStep, deque[float]] = OrderedDict()
+
+    def add(self, step: MeasuredStep, seconds: float) -> None:
+        """Record the duration of an attempt."""
+        if step not in self._durations and len(self._durations) >= MOST_STEPS:
+            self._durations.popitem(last=False)
+        self._durations.setdefault(step, deque(maxlen=KEPT_DURATIONS)).append(seconds)
+
+    def of(self, step: MeasuredStep) -> tuple[int, float, float] | None:
+        """Return the number of durations, their median and their 95th percentile, or None."""
+        durations = sorted(self._durations.get(step, ()))
+        if not durations:
+            return None
+        return (
+            len(durations),
+            durations[(len(durations) - 1) // 2],
+            durations[math.ceil(0.95 * len(durations)) - 1],
+        )
+
 
 SECONDS = (0.01, 0.03, 0.1, 0.3, 1, 3, 10, 30, 100, 300, 1000, 3600, 86400)
 OUTCOMES = {

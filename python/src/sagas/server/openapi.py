@@ -18,9 +18,9 @@ from starlette.responses import Response
 
 from sagas.server import answers
 from sagas.server.auth import ROLES
+from sagas.server.json_bodies import has_tag
 from sagas.server.operations import Answer, Call, Operation, Routes
 from sagas.server.problems import MEDIA_TYPE, PREFIX, PROBLEMS
-from sagas.server.responses import has_tag
 from sagas.server.shapes import Record, records
 
 PATH = pathlib.Path(__file__).resolve().parent / "openapi.json"

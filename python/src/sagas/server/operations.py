@@ -15,10 +15,16 @@ from starlette.routing import Route
 
 from sagas.base.errors import SagasError
 from sagas.definition.validation import meant
-from sagas.server import json_texts, problems
-from sagas.server.access import authorize, body_of, check_capacity, service_of, unslashed
+from sagas.server import json_bodies, problems
+from sagas.server.access import (
+    authorize,
+    body_of,
+    check_capacity,
+    current_session,
+    service_of,
+    unslashed,
+)
 from sagas.server.auth import ANONYMOUS, Permission, Principal
-from sagas.server.dashboard_session import current_session
 from sagas.server.middleware import Receive, Scope, Send
 from sagas.server.problems import Problem
 from sagas.server.service import Service
@@ -30,7 +36,6 @@ from sagas.server.shapes import (
     Record,
     Several,
     Shape,
-    Text,
     read_fields,
 )
 from sagas.server.threads import LARGE
@@ -122,9 +127,6 @@ class Operation:
         return Call(request, principal, path, query, body)
 
 
-KEY = Text(most=512, least=1)
-
-
 def path_not_found() -> Problem:
     """Return the problem for a path that does not exist."""
     return Problem("NotFound", "the path does not exist; /openapi.json lists all paths")
@@ -173,7 +175,7 @@ async def read_body(shape: Record, request: Request) -> dict[str, Any]:
     text = await body_of(request)
     if is_empty and not text:
         return read_fields(shape.fields, {}, "")
-    read = functools.partial(json_texts.of_bytes, text)
+    read = functools.partial(json_bodies.read_bytes, text)
     try:
         value = read() if len(text) < LARGE else await service_of(request).threads.answers.do(read)
     except json.JSONDecodeError as error:

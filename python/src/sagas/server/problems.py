@@ -7,7 +7,7 @@ import logging
 from typing import Any
 
 from sagas.base.errors import SagasError
-from sagas.server.responses import Json
+from sagas.server.json_bodies import Json
 
 PREFIX = "urn:sagas:problem:"
 """The prefix of a problem's `type`, which never changes."""

@@ -3,13 +3,14 @@
 from __future__ import annotations
 
 import asyncio
+import contextlib
 import dataclasses
 import functools
 import logging
 import re
 import time
 from collections import OrderedDict
-from collections.abc import Awaitable
+from collections.abc import Awaitable, Iterator
 from typing import TYPE_CHECKING, Any, TypeVar
 
 from sagas.api import store
@@ -33,18 +34,15 @@ from sagas.inspection.question import Question
 from sagas.inspection.wording import stored
 from sagas.inspection.views import SagaView
 from sagas.runtime.leased_tasks import Queue
-from sagas.server import declared_steps, private_files, webhook_file
-from sagas.server.auth import Principal, Rates, Sessions, Tokens
+from sagas.server import auth, declared_steps, webhooks
+from sagas.server.auth import Principal, Sessions, Tokens
 from sagas.server.event_stream import Hub
 from sagas.server.figures import Figures
+from sagas.server.limits import ConcurrencyLimits, Quotas, Rates, StreamLimits
 from sagas.server.metrics import Metrics
 from sagas.server.middleware import SLASH, parted
-from sagas.server.places import ConcurrencyLimits
-from sagas.server.quotas import Quotas
 from sagas.server.settings import Settings
-from sagas.server.stream_limits import Streams
 from sagas.server.threads import Threads
-from sagas.server.waiting_claims import WaitingClaims
 from sagas.server.webhooks import Webhooks
 
 if TYPE_CHECKING:
@@ -74,6 +72,37 @@ class Seen:
     steps: list[str]
 
 
+class WaitingClaims:
+    """Waiting claims by worker.
+
+    Two workers may share a name: then both claims are answered, and the other worker claims
+    again.
+    """
+
+    def __init__(self) -> None:
+        self._ends: dict[str, set[asyncio.Future[None]]] = {}
+
+    @contextlib.contextmanager
+    def waiting(self, worker: str) -> Iterator[asyncio.Future[None]]:
+        """Register a waiting claim. Yields a future: when it is done, answer the claim."""
+        end = asyncio.get_running_loop().create_future()
+        claims = self._ends.setdefault(worker, set())
+        claims.add(end)
+        try:
+            yield end
+        finally:
+            claims.discard(end)
+            if not claims:
+                del self._ends[worker]
+
+    def end(self, worker: str) -> int:
+        """End the claims of a worker. Returns how many there were."""
+        ends = [end for end in self._ends.get(worker, ()) if not end.done()]
+        for end in ends:
+            end.set_result(None)
+        return len(ends)
+
+
 class Service:
     """A served store. Use the other methods only between `begin` and `end`."""
 
@@ -88,7 +117,7 @@ class Service:
         self.quotas = Quotas(settings.quota, self.look)
         self.places = ConcurrencyLimits(settings.places)
         streams = settings.streams
-        self.streams = Streams(streams.most, streams.most_each, streams.kept)
+        self.streams = StreamLimits(streams.most, streams.most_each, streams.kept)
         self.store: Store = store.open(
             settings.path,
             settings.sagas,
@@ -97,10 +126,10 @@ class Service:
         )
         self.store.leased = True
         for path in (settings.tokens, settings.webhooks.file):
-            if warning := path and private_files.warning(path):
+            if warning := path and auth.mode_warning(path):
                 logger.warning("%s", warning)
         file, allow = settings.webhooks.file, settings.webhooks.allow_local
-        hooks = webhook_file.read(file, allow) if file else []
+        hooks = webhooks.read_file(file, allow) if file else []
         self.webhooks = Webhooks(hooks, self.store.deliveries, allow)
         self._peers: Peers | None = None
         self._peer_attempts: dict[

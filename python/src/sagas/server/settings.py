@@ -7,17 +7,23 @@ import functools
 import ipaddress
 import pathlib
 from collections.abc import Mapping
-from typing import Any, Union
+from typing import Any, NamedTuple, Union
 
 from sagas.base.events import Hook
 from sagas.definition.saga import Saga
-from sagas.server.quotas import Quota
 
 Network = Union[ipaddress.IPv4Network, ipaddress.IPv6Network]
 LOOPBACK: tuple[Network, ...] = (
     ipaddress.ip_network("127.0.0.0/8"),
     ipaddress.ip_network("::1/128"),
 )
+
+
+class Quota(NamedTuple):
+    """The maximum number of open sagas, and of bytes of their inputs as JSON."""
+
+    sagas: int = 10_000
+    bytes: int = 1 << 30
 
 
 @dataclasses.dataclass(frozen=True, slots=True)

@@ -1,1 +1,1 @@
-"""The routes."""
+"""Routes of the API under `/v1`, and pages of the dashboard under `/ui`."""

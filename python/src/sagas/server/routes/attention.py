@@ -9,8 +9,8 @@ from sagas.inspection.attention_pages import Entry, EntryPosition
 from sagas.inspection.question import Question
 from sagas.server import answers, json_views
 from sagas.server.auth import Permission
+from sagas.server.json_bodies import parted
 from sagas.server.operations import Answer, Call, Routes
-from sagas.server.responses import parted
 from sagas.server.routes import filters
 from sagas.server.shapes import Choice, Field, Text
 from sagas.storage.filters import Filter

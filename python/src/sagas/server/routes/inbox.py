@@ -4,6 +4,9 @@ from __future__ import annotations
 
 import dataclasses
 import functools
+import hashlib
+import json
+import time
 from typing import Any
 from urllib.parse import urlencode
 
@@ -11,26 +14,214 @@ from starlette.requests import Request
 from starlette.responses import Response
 
 from sagas.inspection import attention_pages
-from sagas.inspection.attention_pages import KINDS, Entry
+from sagas.inspection.attention_pages import KINDS, Entry, Group
 from sagas.inspection.question import Question
-from sagas.server import json_texts
-from sagas.server.access import service_of
-from sagas.server.dashboard_session import login_redirect, viewer_of, session_and_fields, show_page
+from sagas.runtime.leased_tasks import Queue
+from sagas.server import json_bodies
+from sagas.server.access import service_of, viewer_of
+from sagas.server.dashboard import login_redirect, session_and_fields, show_page
 from sagas.server.operations import Call, Routes
-from sagas.server.routes import bulk
-from sagas.server.routes.inbox_selection import (
-    Selection,
-    id_of,
-    id_of_entry,
-    seen,
-    selected,
-)
-from sagas.server.routes.inbox_words import EXPLANATIONS, TITLES, VERBS, question_of
-from sagas.server.routes.pages import work_of
+from sagas.server.routes import operators
+from sagas.server.routes.operators import Target
 from sagas.server.shapes import Choice, Field, Number, Text
 from sagas.storage.filters import Filter
 
 routes = Routes("pages", is_page=True)
+TITLES = {
+    "stuck": "Stuck",
+    "undo_failed": "Undo failed",
+    "unused_report": "Unused",
+    "unknown": "Unknown",
+    "exhausted": "Exhausted",
+    "cannot_decode": "Unreadable",
+    "damaged": "Damaged",
+    "approval": "Approvals",
+}
+EXPLANATIONS = {
+    "stuck": "No plan is feasible. Repair by hand what is needed, then resolve them.",
+    "undo_failed": "A compensation failed permanently, and the effect of its step still exists.",
+    "unused_report": "A success was reported before the step began, and its saga ended without it. "
+    "Its effect still exists.",
+    "unknown": "The outcome of the step is unknown. Check the external system, then report it.",
+    "exhausted": "The attempts of the step are used up. Fix the cause, then retry it.",
+    "cannot_decode": "No program can read a stored value. Open the store with a program that can.",
+    "damaged": "The stored data of their shard is damaged. Repair the shard, or delete it.",
+    "approval": "The step waits for a decision.",
+}
+REPORTS = {"done": "They are done…", "failed": "They had no effect…", "abort": "Abort…"}
+VERBS: dict[str, dict[str, str]] = {
+    "stuck": {"resolve": "Resolve…"},
+    "undo_failed": {"resolve": "Resolve…"},
+    "unused_report": {"compensate": "Compensate…", "resolve": "Resolve…"},
+    "unknown": REPORTS,
+    "exhausted": {"retry": "Retry…", **REPORTS},
+    "cannot_decode": REPORTS,
+    "damaged": {},
+    "approval": {"done": "Approve…", "failed": "Refuse…", "abort": "Abort…"},
+}
+WHOLE = ("resolve", "abort")
+"""Actions on whole sagas, not on steps."""
+FAILS = "Each step fails permanently, and its saga follows a plan of least cost."
+
+
+@dataclasses.dataclass(frozen=True, slots=True)
+class Confirmation:
+    """The confirmation of a bulk action.
+
+    `title` has a placeholder for the count. `button`: for one target, and for several.
+    """
+
+    title: str
+    button: tuple[str, str]
+    text: str
+
+    def of(self, targets: list[Target], verb: str) -> dict[str, str]:
+        """Return the texts for these targets."""
+        is_one = len(targets) == 1
+        are = "is" if is_one or is_undo(targets) else "are"
+        title = self.title.format(many(targets, verb), are=are)
+        return {"title": title, "button": self.button[not is_one], "text": self.text}
+
+
+CONFIRMATIONS = {
+    "resolve": Confirmation(
+        "Mark {} as resolved?", ("Mark as resolved",) * 2, "No step runs because of this."
+    ),
+    "compensate": Confirmation(
+        "Compensate {}?",
+        ("Compensate it", "Compensate them"),
+        "Another saga calls the compensation of each, with the result that was reported. This "
+        "cannot be undone.",
+    ),
+    "retry": Confirmation(
+        "Retry {}?",
+        ("Retry it", "Retry them"),
+        "Each is called at once, with the same idempotency key.",
+    ),
+    "done": Confirmation(
+        "Report that {} {are} done?",
+        ("It is done", "They are done"),
+        "The sagas continue with it. Report this only of effects that exist: sagas cannot "
+        "check it.",
+    ),
+    "failed": Confirmation(
+        "Report that {} had no effect?",
+        ("It had no effect", "They had no effect"),
+        f"{FAILS} Report this only if there was no effect: no compensation undoes an effect "
+        "that you deny.",
+    ),
+    "abort": Confirmation(
+        "Abort {}?",
+        ("Abort it", "Abort them"),
+        "No further step starts. Steps that are done are undone or kept, whichever costs least. "
+        "This cannot be undone.",
+    ),
+}
+OF_APPROVALS = {
+    "done": Confirmation(
+        "Approve {}?",
+        ("Approve", "Approve them"),
+        "The sagas continue. Steps that need these get the result.",
+    ),
+    "failed": Confirmation(
+        "Refuse {}?", ("Refuse", "Refuse them"), f"{FAILS} This cannot be undone."
+    ),
+}
+OF_COMPENSATIONS = {
+    "failed": Confirmation(
+        "Report that {} had no effect?",
+        ("It had no effect", "They had no effect"),
+        "Each compensation fails permanently, and the effect of its step stays until an operator "
+        "repairs it. This cannot be undone.",
+    ),
+}
+
+
+def confirmation_of(kind: str, verb: str, targets: list[Target]) -> Confirmation:
+    """Return the confirmation for an action on entries of a kind."""
+    special = OF_COMPENSATIONS if is_undo(targets) else OF_APPROVALS if kind == "approval" else {}
+    return special.get(verb, CONFIRMATIONS[verb])
+
+
+def is_undo(targets: list[Target]) -> bool:
+    """Return whether all targets are compensations."""
+    return all(undo for _, _, undo in targets)
+
+
+def many(targets: list[Target], verb: str) -> str:
+    """Describe how many targets there are: sagas, steps or compensations."""
+    sagas = counted(len({key for key, _, _ in targets}), "saga")
+    if verb in WHOLE:
+        return sagas
+    undoing = "undoing " if is_undo(targets) else ""
+    return f"{undoing}{counted(len(targets), 'step')} of {sagas}"
+
+
+def counted(count: int, noun: str) -> str:
+    """Return a number with its noun."""
+    return f"{count:,} {noun}{'' if count == 1 else 's'}"
+
+
+# -- the entries that a form selects
+
+
+Fields = list[tuple[str, str]]
+
+
+def id_of(group: Group) -> str:
+    """Return the identifier of a group in forms and addresses."""
+    return hashlib.sha256(f"{group.saga}\n{group.cause}".encode()).hexdigest()[:16]
+
+
+def id_of_entry(entry: Entry) -> str:
+    """Return the identifier of an entry in forms."""
+    return f"{entry.id}.{entry.step_index}.{'undo' if entry.undo else 'run'}"
+
+
+def wait_of(entry: Entry) -> str:
+    """Return the identifier of what an entry waits for. It changes if the same step waits again."""
+    wait = entry.id, entry.step_index, entry.undo, entry.since
+    return hashlib.sha256(json.dumps(wait).encode()).hexdigest()[:16]
+
+
+@dataclasses.dataclass(frozen=True, slots=True)
+class Selection:
+    """Entries of one kind. `waits`: the identifiers of what they wait for, as a form has them."""
+
+    entries: list[Entry]
+    waits: str
+
+    def targets(self, verb: str) -> list[Target]:
+        """Return the targets of an action: steps, or each saga once."""
+        is_whole = verb in WHOLE
+        return list(
+            dict.fromkeys(
+                (entry.key, "", False) if is_whole else (entry.key, entry.step or "", entry.undo)
+                for entry in self.entries
+            )
+        )
+
+
+def selected(entries: list[Entry], fields: Fields) -> Selection:
+    """Return the selected entries: whole groups, and single ones."""
+    groups = {value for name, value in fields if name == "group"}
+    ids = {value for name, value in fields if name == "one"}
+    chosen = []
+    for group in attention_pages.groups(entries):
+        is_chosen = id_of(group) in groups
+        chosen += [entry for entry in group.entries if is_chosen or id_of_entry(entry) in ids]
+    return Selection(chosen, " ".join(map(wait_of, chosen)))
+
+
+def seen(entries: list[Entry], waits: str) -> Selection:
+    """Return the entries that the user saw, without later entries and those that wait again."""
+    names = set(waits.split())
+    return Selection([entry for entry in entries if wait_of(entry) in names], waits)
+
+
+# -- the page and its form
+
+
 SHOWN, MEMBERS, LISTED = 12, 5, 50
 """Groups on a page, sagas of each, and sagas on a page of one group."""
 MOST_GROUPED = 2000
@@ -80,6 +271,14 @@ def counts_of(sagas: Filter) -> Question[dict[str, int]]:
     for kind in KINDS:
         counts[kind] = yield from attention_pages.count(kind, sagas)
     return counts
+
+
+def work_of(queues: list[Queue]) -> dict[str, Any]:
+    """Return totals of the tasks that wait for workers."""
+    now, ready = time.time(), [queue for queue in queues if queue.ready]
+    oldest = max((now - queue.oldest for queue in ready if queue.oldest), default=0.0)
+    claimed = sum(queue.claimed for queue in queues)
+    return {"ready": sum(queue.ready for queue in ready), "claimed": claimed, "oldest": oldest}
 
 
 def address(parameters: dict[str, Any], **change: Any) -> str:
@@ -198,16 +397,18 @@ async def act(call: Call) -> Response:
     if fault := fault_of(form):
         return confirmation_page(request, form, selection, fault)
     options = {"by": session.principal.name, "note": form.get("note", "").strip()[:2000] or None}
-    result = json_texts.read(form.get("result") or "null")
+    result = json_bodies.read_text(form.get("result") or "null")
     error = form.get("failed", "").strip()[:2000]
-    work = bulk.action_of(service_of(request), verb, options, result, error)
+    work = operators.action_of(service_of(request), verb, options, result, error)
     targets = selection.targets(verb)
-    done, refused = await bulk.each(call.service, targets[: bulk.MOST_TARGETS], work)
+    done, refused = await operators.act_on_each(
+        call.service, targets[: operators.MOST_TARGETS], work
+    )
     values: dict[str, Any] = {
         "done": done,
         "refused": len(refused),
         "shown": refused[:LISTED],
-        "left": len(targets) - bulk.MOST_TARGETS,
+        "left": len(targets) - operators.MOST_TARGETS,
         "changed": len(waits.split()) - len(selection.entries),
     }
     return show_page(request, "inbox_done.html", here="inbox", kind=kind, **values)
@@ -220,7 +421,7 @@ def confirmation_page(
     kind, verb = form["kind"], form["verb"]
     targets = selection.targets(verb)
     values: dict[str, Any] = {"form": form, "targets": targets, "verb": verb, "kind": kind}
-    values |= question_of(kind, verb, targets).of(targets, verb)
+    values |= confirmation_of(kind, verb, targets).of(targets, verb)
     values |= {"waits": selection.waits, "fault": fault}
     return show_page(request, "inbox_confirm.html", 422 if fault else 200, here="inbox", **values)
 
@@ -232,7 +433,7 @@ def fault_of(form: dict[str, str]) -> str | None:
     if form["verb"] == "failed" and not form.get("failed", "").strip():
         return "Enter a reason."
     try:
-        json_texts.read(form.get("result") or "null")
+        json_bodies.read_text(form.get("result") or "null")
     except ValueError:
         return "The result is not valid JSON. Write a text in quotation marks."
     return None

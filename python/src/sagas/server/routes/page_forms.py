@@ -1,4 +1,4 @@
-"""Forms of the dashboard by which operators act on a saga."""
+"""Forms of the dashboard by which operators start sagas and act on them."""
 
 from __future__ import annotations
 
@@ -11,18 +11,19 @@ from typing import Any
 from starlette.requests import Request
 from starlette.responses import RedirectResponse, Response
 
-from sagas.base.errors import DefinitionError, NoSuchSaga, NoSuchSchedule, SagasError
+from sagas.base.errors import DefinitionError, NoSuchSaga, SagasError
 from sagas.definition import children
-from sagas.inspection.views import SagaView
-from sagas.server import json_texts, problems, step_waits
-from sagas.server.access import service_of
+from sagas.inspection import wording
+from sagas.inspection.views import SagaView, Waits
+from sagas.server import json_bodies, problems
+from sagas.server.access import check_definition, service_of, viewer_of
 from sagas.server.auth import Principal
-from sagas.server.dashboard_session import login_redirect, viewer_of, session_and_form, show_page
+from sagas.server.dashboard import address_of, login_redirect, session_and_form, show_page
 from sagas.server.operations import Call, Routes
-from sagas.server.routes import saga_pages, schedules
-from sagas.server.routes.pages import address_of
+from sagas.server.routes import saga_pages
 from sagas.server.routes.sagas import kept_of
-from sagas.server.shapes import Choice, Field, Flag
+from sagas.server.shapes import Choice, Field, Flag, Text
+
 
 routes = Routes("pages", is_page=True)
 OUTCOME = Choice(("done", "failed", "retry"))
@@ -62,15 +63,6 @@ COMPENSATE: dict[str, Any] = {
     "text": (
         "Another saga calls the compensation, with the result that was reported before the step "
         "began. This cannot be undone."
-    ),
-}
-
-REMOVE: dict[str, Any] = {
-    "verb": "Remove it",
-    "danger": True,
-    "text": (
-        "It starts no more sagas. Sagas that it started remain. This cannot be undone. The "
-        "service's log records your name and the time."
     ),
 }
 
@@ -273,7 +265,7 @@ async def step_confirmation(
     question = step_question(name, outcome, undo, approval)
     if view is not None:
         question["given"] = [("Input", view.input), ("Results in effect", view.results)]
-        question["waits"] = step_waits.name_of(view, name, undo)
+        question["waits"] = wait_name_of(view, name, undo)
         if outcome == "done" and not undo and (child := child_of(view, name)):
             question["result"], question["text"] = (
                 child_result(child),
@@ -301,13 +293,13 @@ def result_of(form: dict[str, str]) -> Any:
     if kind == "text":
         return text
     if kind == "number":
-        value = json_texts.read(text)
+        value = json_bodies.read_text(text)
         if isinstance(value, bool) or not isinstance(value, (int, float)):
             raise ValueError(text)
         return value
     if kind == "yes":
         return {"yes": True, "true": True, "no": False, "false": False}[text.strip().lower()]
-    return json_texts.read(text or "null")
+    return json_bodies.read_text(text or "null")
 
 
 @routes.post("/ui/sagas/{key}/steps/{step}/{outcome}", parts={"outcome": OUTCOME}, query=UNDO)
@@ -341,9 +333,9 @@ def why_outdated(call: Call, view: SagaView, answered: str) -> str | None:
     If no attempt is active, the store checks the report.
     """
     step, undo = call.path["step"], call.query["undo"]
-    if step_waits.name_of(view, step, undo) in ("", answered):
+    if wait_name_of(view, step, undo) in ("", answered):
         return None
-    now = step_waits.description_of(view, step, undo, time.time())
+    now = wait_description_of(view, step, undo, time.time())
     return f"The step has changed since you opened this form: {now}. Check it again."
 
 
@@ -362,49 +354,108 @@ async def report(call: Call, principal: Principal, form: dict[str, str], result:
     await service.in_time(work)
 
 
-@routes.get("/ui/schedules")
-async def schedules_page(call: Call) -> Response:
-    """Show the schedules, by name."""
-    return login_redirect(call.request) or await shown_schedules(
-        call.request, viewer_of(call.request)
-    )
-
-
-async def shown_schedules(
-    request: Request, principal: Principal, status: int = 200, fault: str | None = None
-) -> Response:
-    visible = await schedules.seen(service_of(request), principal)
-    values = {"schedules": visible, "fault": fault}
-    return show_page(request, "schedules.html", status, here="schedules", **values)
-
-
-@routes.get("/ui/schedules/{name}/{change}", parts={"change": Choice(("remove",))})
-async def remove_page(call: Call) -> Response:
-    """Ask for confirmation before a schedule is removed, because this cannot be undone."""
-    if answer := login_redirect(call.request):
-        return answer
-    name = call.path["name"]
-    if name not in {
-        schedule.name for schedule in await schedules.seen(call.service, viewer_of(call.request))
-    }:
-        raise NoSuchSchedule(f"no schedule has the name {name!r}")
-    values: dict[str, Any] = {"title": f"Remove the schedule {name}?", **REMOVE}
-    crumbs = [("/ui/schedules", "Schedules")]
-    return show_page(call.request, "confirm.html", here="schedules", crumbs=crumbs, **values)
-
-
-@routes.post("/ui/schedules/{name}/{change}", parts={"change": Choice((*schedules.DONE,))})
-async def schedule_changed(call: Call) -> Response:
-    session, _ = await session_and_form(call.request)
-    name, change = call.path["name"], call.path["change"]
-    try:
-        await schedules.change(service_of(call.request), session.principal, name, change)
-    except SagasError as error:
-        return await shown_schedules(call.request, session.principal, 409, str(problems.of(error)))
-    return RedirectResponse("/ui/schedules", 303)
-
-
 def back(request: Request, key: str) -> Response:
     """Redirect to the saga, and drop the cached figures."""
     service_of(request).figures.forget()
+    return RedirectResponse(address_of(key), 303)
+
+
+# -- what a step waits for
+
+
+REASONS = {
+    "unknown": "its outcome is unknown again",
+    "exhausted": "its attempts are used up again",
+    "approval": "it waits for a decision now",
+    "cannot_decode": "its stored value cannot be read",
+}
+
+
+def wait_name_of(view: SagaView, step: str, undo: bool) -> str:
+    """Return an identifier of what a step's attempt waits for, or "" if no attempt is active.
+
+    It changes with a later attempt, when a worker claims the attempt, and when it waits again.
+    """
+    if view.phase != "open":
+        return ""
+    at = step, undo, None
+    begun = next(
+        (
+            stretch
+            for stretch in view.stretches
+            if (stretch.step, stretch.undo, stretch.ended) == at
+        ),
+        None,
+    )
+    if begun is None:
+        return ""
+    held = _held(view, step, undo)
+    return f"{begun.attempt}" + (f".{held.why}.{held.count}.{held.since!r}" if held else "")
+
+
+def wait_description_of(view: SagaView, step: str, undo: bool, now: float) -> str:
+    """Describe what an active attempt waits for."""
+    held = _held(view, step, undo)
+    if held is None or (held.why in ("unknown", "retry") and held.until is not None):
+        return "it is being called again, or will be soon"
+    if held.why == "external":
+        return f"the worker {held.said} claimed it {wording.ago(now - held.since)}"
+    return REASONS.get(held.why, "it waits for something else")
+
+
+def _held(view: SagaView, step: str, undo: bool) -> Waits | None:
+    return next((wait for wait in view.held if (wait.step, wait.undo) == (step, undo)), None)
+
+
+# -- the form that starts a saga
+
+
+def start_form_page(
+    request: Request, form: dict[str, str], fault: str | None = None, status: int = 200
+) -> Response:
+    """Return the form with its values, and why it was not accepted."""
+    names = service_of(request).names(viewer_of(request))
+    return show_page(
+        request, "start.html", status, here="sagas", names=names, form=form, fault=fault
+    )
+
+
+@routes.get("/ui/start", query={"definition": Field(Text(most=64), default="")})
+async def start_page(call: Call) -> Response:
+    return login_redirect(call.request) or start_form_page(
+        call.request, {"definition": call.query["definition"]}
+    )
+
+
+@routes.post("/ui/start")
+async def start(call: Call) -> Response:
+    """Start the saga, and redirect to it. It may exist already with the same input."""
+    request = call.request
+    session, form = await session_and_form(request)
+    service, key = service_of(request), form.get("key", "").strip()
+    if not 0 < len(key) <= 512 or key in (".", ".."):
+        return start_form_page(
+            request,
+            form,
+            "Enter a key of 1 to 512 characters, for example an order number.",
+            422,
+        )
+    try:
+        size = len(form.get("input", ""))
+        input = json_bodies.read_text(form.get("input") or "null")
+    except ValueError as error:
+        return start_form_page(
+            request,
+            form,
+            f"The input is not valid JSON: {error}. Write a text in quotation marks.",
+            422,
+        )
+    definition = form.get("definition", "")
+    check_definition(session.principal, definition)
+    try:
+        saga = service.saga_named(session.principal, definition, None)
+        await service.start(session.principal, size, saga, key, input)
+    except SagasError as error:
+        return start_form_page(request, form, str(problems.of(error)), 409)
+    service.figures.forget()
     return RedirectResponse(address_of(key), 303)

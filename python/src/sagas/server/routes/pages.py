@@ -1,4 +1,4 @@
-"""Pages of the dashboard."""
+"""Pages of the dashboard: login, list of sagas, workers, static files and events."""
 
 from __future__ import annotations
 
@@ -6,7 +6,7 @@ import datetime
 import logging
 import time
 from typing import Any
-from urllib.parse import quote, urlencode
+from urllib.parse import urlencode
 
 from starlette.requests import Request
 from starlette.responses import RedirectResponse, Response
@@ -15,22 +15,18 @@ from sagas.base.errors import SagasError
 from sagas.definition.labels import checked
 from sagas.inspection import lists, pages as pages_module, wording
 from sagas.inspection.lists import COUNTED
-from sagas.runtime.leased_tasks import Queue
 from sagas.server import renderer
-from sagas.server.access import address, service_of
-from sagas.server.auth import Permission, Principal
-from sagas.server.dashboard_session import (
-    begin,
-    login_redirect,
+from sagas.server.access import (
+    address,
+    begin_session,
     cookie_of,
-    form_of,
-    viewer_of,
-    page,
-    session_and_form,
-    session_of,
-    show_page,
     current_session,
+    service_of,
+    session_of,
+    viewer_of,
 )
+from sagas.server.auth import Permission, Principal
+from sagas.server.dashboard import form_of, login_redirect, page, session_and_form, show_page
 from sagas.server.event_stream import Listener
 from sagas.server.operations import Call, Routes
 from sagas.server.problems import Problem
@@ -103,7 +99,7 @@ async def login(call: Call) -> Response:
         )
         return page(request, "login.html", None, 403, next=wanted, fault=fault)
     response = RedirectResponse(wanted if service.is_page(wanted) else "/ui", 303)
-    begin(request, response, principal)
+    begin_session(request, response, principal)
     logger.info("%s has logged in", principal.name)
     return response
 
@@ -117,17 +113,6 @@ async def logout(call: Call) -> Response:
     response = RedirectResponse("/ui/login", 303)
     response.delete_cookie(cookie, path="/ui")
     return response
-
-
-# -- what there is
-
-
-def work_of(queues: list[Queue]) -> dict[str, Any]:
-    """Return totals of the tasks that wait for workers."""
-    now, ready = time.time(), [queue for queue in queues if queue.ready]
-    oldest = max((now - queue.oldest for queue in ready if queue.oldest), default=0.0)
-    claimed = sum(queue.claimed for queue in queues)
-    return {"ready": sum(queue.ready for queue in ready), "claimed": claimed, "oldest": oldest}
 
 
 TEXT = Field(Text(most=512), default=None)
@@ -221,10 +206,6 @@ def filter_of(parameters: dict[str, Any], principal: Principal) -> Filter:
         started_before=days[1],
         error=parameters["error"],
     )
-
-
-def address_of(key: str) -> str:
-    return f"/ui/sagas/{quote(key, safe='')}"
 
 
 @routes.get("/ui/workers")

@@ -17,14 +17,19 @@ from sagas.definition.groups import Groups
 from sagas.engine.plan import certificate_text
 from sagas.inspection import names, picture, timeline, views, what_if
 from sagas.inspection.views import SagaView, StepView
-from sagas.server.dashboard_session import login_redirect, show_page, viewer_of
-from sagas.server.history_rows import attempt_rows, event_rows
+from sagas.server.access import viewer_of
+from sagas.server.dashboard import address_of, login_redirect, show_page
 from sagas.server.operations import Call, Routes
-from sagas.server.routes.pages import address_of
 from sagas.server.routes.sagas import kept_of
-from sagas.server.step_rows import StepTable
-from sagas.server.table_rows import FEW, folded
-from sagas.server.unfolding import FIELD, Unfolding
+from sagas.server.table_rows import (
+    FEW,
+    UNFOLD,
+    StepTable,
+    Unfolding,
+    attempt_rows,
+    event_rows,
+    folded,
+)
 
 routes = Routes("pages", is_page=True)
 MOST_EVENTS = 500
@@ -33,7 +38,7 @@ MOST_EFFECTS = 5
 """Maximum number of questions whose effects are computed. Each needs a plan."""
 
 
-@routes.get("/ui/sagas/{key}", query={"unfold": FIELD})
+@routes.get("/ui/sagas/{key}", query={"unfold": UNFOLD})
 async def saga(call: Call) -> Response:
     """Show a saga."""
     request, key = call.request, call.key

@@ -19,11 +19,12 @@ from sagas.inspection import (
     pages,
     picture as picture_module,
     saga as saga_module,
+    views,
     what_if as what_if_module,
 )
 from sagas.inspection.wording import StoredValue
 from sagas.inspection.views import SagaView
-from sagas.server import answers, json_views, renderer, unfolding
+from sagas.server import answers, json_views, renderer, table_rows
 from sagas.server.access import (
     SIZE,
     check_definition,
@@ -31,16 +32,17 @@ from sagas.server.access import (
     client_key,
     is_unchanged,
     service_of,
+    wait_for,
     waiting,
 )
+from sagas.server.answers import TIMELINE
 from sagas.server.auth import Permission, Principal
-from sagas.server.client_waits import first
-from sagas.server.event_stream import Listener
-from sagas.server.operations import Answer, Call, Routes
+from sagas.server.event_stream import Listener, Stream
+from sagas.server.json_bodies import Json, parted, tagged
+from sagas.server.limits import RequestKind
 from sagas.server.middleware import GONE
-from sagas.server.places import Kind
+from sagas.server.operations import Answer, Call, Routes
 from sagas.server.problems import Problem
-from sagas.server.responses import Json, parted, tagged
 from sagas.server.routes import filters
 from sagas.server.routes.filters import CURSOR, LIMIT
 from sagas.server.shapes import (
@@ -54,7 +56,6 @@ from sagas.server.shapes import (
     Record,
     Text,
 )
-from sagas.server.stream_limits import Stream
 
 routes = Routes("sagas", "/v1")
 LONGEST = 60.0  # seconds that a wait may take
@@ -271,9 +272,9 @@ async def wait(call: Call) -> Response:
     which. Any further data from the client ends the wait.
     """
     await call.service.check_sees(call.principal, call.key)
-    with waiting(call.request, call.principal, Kind.WAIT):
+    with waiting(call.request, call.principal, RequestKind.WAIT):
         ending = asyncio.ensure_future(call.service.store.over(call.key))
-        if await first(call.request, call.principal, ending, call.query["seconds"]):
+        if await wait_for(call.request, call.principal, ending, call.query["seconds"]):
             ending.result()  # raises if the saga does not exist
     if call.request.scope[GONE].done():
         return Response()  # the client is gone
@@ -338,7 +339,7 @@ async def what_if(call: Call) -> Response:
     "getPicture",
     permission=Permission.LOOK,
     problems=("NoSuchSaga",),
-    query={"unfold": unfolding.FIELD},
+    query={"unfold": table_rows.UNFOLD},
     answers={200: Answer("An SVG picture.", media_type="image/svg+xml")},
 )
 async def picture(call: Call) -> Response:
@@ -347,7 +348,7 @@ async def picture(call: Call) -> Response:
     It shows the steps with their states, and what the plan keeps and why. The items of a step,
     and the steps of an included saga, are one box.
     """
-    view, unfold = await view_of(call), unfolding.names_in(call.query["unfold"])
+    view, unfold = await view_of(call), table_rows.names_in(call.query["unfold"])
     return Response(
         await call.service.threads.answers.do(
             lambda: renderer.encoded(picture_module.document(view, unfold))
@@ -524,3 +525,40 @@ def stream(
         raise Problem("TooManyStreams", full)
     last = request.headers.get("last-event-id") or since
     return Stream(service.hub.stream(listener, last, still), service.streams.take(name, dashboard))
+
+
+# -- history
+
+
+@routes.get(
+    "/sagas/{key}/log",
+    "getHistory",
+    permission=Permission.LOOK,
+    problems=("NoSuchSaga",),
+    answers={200: Answer("The events of the saga, in order.", answers.HISTORY)},
+)
+async def log(call: Call) -> Response:
+    """Get the history of a saga.
+
+    Returns each event with its time and result, and the commands of operators.
+    """
+    view = await kept_of(call.service, call.principal, call.key)
+    return await call.service.threads.answers.do(
+        lambda: parted({"events": json_views.log(view)}, "events")
+    )
+
+
+@routes.get(
+    "/sagas/{key}/timeline",
+    "getTimeline",
+    permission=Permission.LOOK,
+    problems=("NoSuchSaga",),
+    answers={200: Answer("The attempts of the saga, in the order of their starts.", TIMELINE)},
+)
+async def timeline(call: Call) -> Response:
+    """Get when each attempt of a saga was queued, ran, waited and backed off.
+
+    Returns also the workers that had it, and the decisions of operators with their reasons.
+    """
+    view, now = await view_of(call), call.service.store.now()
+    return await call.service.threads.answers.do(lambda: Json(json_views.timeline(view, now)))

@@ -1,23 +1,27 @@
-"""Routes of schedules."""
+"""Routes and pages of schedules."""
 
 from __future__ import annotations
 
 import dataclasses
 import logging
 from collections.abc import Awaitable, Callable
+from typing import Any
 
-from starlette.responses import Response
+from starlette.requests import Request
+from starlette.responses import RedirectResponse, Response
 
-from sagas.base.errors import NoSuchSchedule
+from sagas.base.errors import NoSuchSchedule, SagasError
 from sagas.definition.payloads import shown
 from sagas.definition.timing import key_of
 from sagas.inspection import lists
-from sagas.server import answers, json_views
+from sagas.server import answers, json_views, problems
+from sagas.server.access import service_of, viewer_of
 from sagas.server.auth import Permission, Principal
+from sagas.server.dashboard import login_redirect, session_and_form, show_page
+from sagas.server.json_bodies import Json
 from sagas.server.operations import Answer, Call, Handler, Routes
-from sagas.server.responses import Json
 from sagas.server.service import Service
-from sagas.server.shapes import Text
+from sagas.server.shapes import Choice, Text
 from sagas.storage.schedules import Schedule
 
 logger = logging.getLogger("sagas.server")
@@ -92,3 +96,59 @@ def declare(verb: str, description: str) -> Handler:
 pause = declare("pause", "Pause a schedule.\n\nIt starts no more sagas until it is resumed.")
 resume = declare("resume", "Resume a schedule.\n\nIt continues with its next time.")
 remove = declare("remove", "Remove a schedule.\n\nSagas that it started remain.")
+
+
+# -- pages
+
+
+page_routes = Routes("pages", is_page=True)
+REMOVE: dict[str, Any] = {
+    "verb": "Remove it",
+    "danger": True,
+    "text": (
+        "It starts no more sagas. Sagas that it started remain. This cannot be undone. The "
+        "service's log records your name and the time."
+    ),
+}
+
+
+@page_routes.get("/ui/schedules")
+async def schedules_page(call: Call) -> Response:
+    """Show the schedules, by name."""
+    return login_redirect(call.request) or await shown_schedules(
+        call.request, viewer_of(call.request)
+    )
+
+
+async def shown_schedules(
+    request: Request, principal: Principal, status: int = 200, fault: str | None = None
+) -> Response:
+    visible = await seen(service_of(request), principal)
+    values = {"schedules": visible, "fault": fault}
+    return show_page(request, "schedules.html", status, here="schedules", **values)
+
+
+@page_routes.get("/ui/schedules/{name}/{change}", parts={"change": Choice(("remove",))})
+async def remove_page(call: Call) -> Response:
+    """Ask for confirmation before a schedule is removed, because this cannot be undone."""
+    if answer := login_redirect(call.request):
+        return answer
+    name = call.path["name"]
+    if name not in {
+        schedule.name for schedule in await seen(call.service, viewer_of(call.request))
+    }:
+        raise NoSuchSchedule(f"no schedule has the name {name!r}")
+    values: dict[str, Any] = {"title": f"Remove the schedule {name}?", **REMOVE}
+    crumbs = [("/ui/schedules", "Schedules")]
+    return show_page(call.request, "confirm.html", here="schedules", crumbs=crumbs, **values)
+
+
+@page_routes.post("/ui/schedules/{name}/{change}", parts={"change": Choice((*DONE,))})
+async def schedule_changed(call: Call) -> Response:
+    session, _ = await session_and_form(call.request)
+    name, verb = call.path["name"], call.path["change"]
+    try:
+        await change(service_of(call.request), session.principal, name, verb)
+    except SagasError as error:
+        return await shown_schedules(call.request, session.principal, 409, str(problems.of(error)))
+    return RedirectResponse("/ui/schedules", 303)

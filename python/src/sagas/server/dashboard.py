@@ -1,9 +1,8 @@
-"""Sessions and forms of the dashboard."""
+"""Pages and forms of the dashboard: templates, login redirects and fields."""
 
 from __future__ import annotations
 
 import contextlib
-import functools
 import string
 from typing import Any
 from urllib.parse import parse_qsl, quote, urlencode
@@ -12,104 +11,14 @@ from starlette.requests import Request
 from starlette.responses import HTMLResponse, RedirectResponse, Response
 
 from sagas.server import problems, renderer
-from sagas.server.access import (
-    CHECK,
-    PRINCIPAL,
-    PRINCIPAL_NAME,
-    body_of,
-    count_request,
-    occupy,
-    rights_changed,
-    service_of,
-)
-from sagas.server.auth import LOCAL_PRINCIPAL, Permission, Session, Principal
+from sagas.server.access import begin_session, body_of, expired_form, service_of, session_of
+from sagas.server.auth import LOCAL_PRINCIPAL, Session
 from sagas.server.problems import Problem
 
-COOKIE = "sagas_session"
-"""The name of the session's cookie, before the port."""
 
-
-def cookie_of(request: Request) -> str:
-    """Return the cookie's name, with the port that the browser uses.
-
-    Browsers send the cookies of a host to all of its ports, and another service may use one of
-    them.
-    """
-    port = request.headers.get("host", "").rpartition("]")[2].partition(":")[2]
-    return f"{COOKIE}_{port}" if port.isascii() and port.isdigit() and len(port) < 6 else COOKIE
-
-
-def session_of(request: Request) -> Session | None:
-    """Return the session of an operator with the current rights of its token, or None."""
-    session = current_session(request)
-    if session is not None:
-        request.scope[PRINCIPAL_NAME], request.scope[PRINCIPAL] = (
-            session.principal.name,
-            session.principal,
-        )
-        request.scope[CHECK] = functools.partial(check_unchanged, request, session.principal)
-        count_request(request, session.principal)
-        occupy(request, session.principal)
-    return session
-
-
-def current_session(request: Request) -> Session | None:
-    """Return the same as `session_of`, without counting the request."""
-    service = service_of(request)
-    session = service.sessions.find(request.cookies.get(cookie_of(request), ""))
-    if session is None:
-        return None
-    principal = (
-        LOCAL_PRINCIPAL if service.tokens is None else service.tokens.of(session.principal.digest)
-    )
-    if principal is None or not principal.has_permission(Permission.OPERATE):
-        return None  # its token is not in the file any more, or has expired
-    session.principal = principal
-    return session
-
-
-def check_unchanged(request: Request, principal: Principal) -> None:
-    """Raise `Problem` if the session has ended since the request was authorized, or its token
-    changed.
-    """
-    session = current_session(request)
-    if session is None:
-        raise expired_form()
-    if session.principal != principal:
-        raise rights_changed()
-
-
-def expired_form() -> Problem:
-    """Return the problem for a form that does not belong to the session."""
-    return Problem(
-        "ExpiredForm",
-        "this form does not belong to your session: go back, reload the page, and send it again",
-    )
-
-
-def viewer_of(request: Request) -> Principal:
-    """Return the principal that views a page, after `login_redirect` has let the request pass."""
-    principal: Principal = (
-        request.scope.get(PRINCIPAL, LOCAL_PRINCIPAL)
-        if service_of(request).tokens is None
-        else request.scope[PRINCIPAL]
-    )
-    return principal
-
-
-def begin(request: Request, response: Response, principal: Principal) -> Session:
-    """Start a session and set its cookie."""
-    name, session = service_of(request).sessions.begin(principal)
-    response.set_cookie(
-        cookie_of(request),
-        name,
-        path="/ui",
-        httponly=True,
-        samesite="lax",
-        secure=request.url.scheme == "https",
-        max_age=int(service_of(request).settings.session_time),
-    )
-    return session
+def address_of(key: str) -> str:
+    """Return the page of a saga."""
+    return f"/ui/sagas/{quote(key, safe='')}"
 
 
 def page(
@@ -142,7 +51,7 @@ def show_page(request: Request, template: str, status: int = 200, **values: Any)
     if service_of(request).tokens is not None:
         return login_first(request)
     response = Response()
-    session = begin(request, response, LOCAL_PRINCIPAL)
+    session = begin_session(request, response, LOCAL_PRINCIPAL)
     shown_page = page(request, template, session, status, **values)
     shown_page.headers["set-cookie"] = response.headers["set-cookie"]
     return shown_page

@@ -1,19 +1,22 @@
-"""Routes of webhooks."""
+"""Routes and the page of webhook deliveries."""
 
 from __future__ import annotations
 
 import logging
 from typing import Any
+from urllib.parse import urlencode
 
-from starlette.responses import Response
+from starlette.responses import RedirectResponse, Response
 
 from sagas.inspection import deliveries
 from sagas.inspection.deliveries import Delivery
 from sagas.server import answers
+from sagas.server.access import service_of, viewer_of
 from sagas.server.auth import Permission, Principal
+from sagas.server.dashboard import login_redirect, session_and_form, show_page
+from sagas.server.json_bodies import Json, times
 from sagas.server.operations import Answer, Call, Routes
 from sagas.server.problems import Problem
-from sagas.server.responses import Json, times
 from sagas.server.routes.filters import LIMIT
 from sagas.server.service import Service
 from sagas.server.shapes import Choice, Field, Record, Text
@@ -46,7 +49,7 @@ def check_all(principal: Principal) -> None:
         raise Problem("Forbidden", f"{principal.name} is restricted to some definitions")
 
 
-async def again(service: Service, principal: Principal, id: str) -> Delivery:
+async def post_again(service: Service, principal: Principal, id: str) -> Delivery:
     """Post a delivery again. Raises `Problem`."""
     check_all(principal)
     done = await service.store.deliveries.redeliver(id)
@@ -99,4 +102,57 @@ async def redeliver(call: Call) -> Response:
 
     It keeps its id and gets all its attempts again, even if it was delivered or given up.
     """
-    return Json(delivery_json(await again(call.service, call.principal, call.path["id"])))
+    return Json(delivery_json(await post_again(call.service, call.principal, call.path["id"])))
+
+
+# -- the page
+
+
+page_routes = Routes("pages", is_page=True)
+LISTED = 100
+STATES = tuple(state.value for state in DeliveryState)
+FILTERED = {
+    "state": Field(Choice(STATES), default=None),
+    "webhook": Field(Text(most=64), default=None),
+}
+LOOKS = {"pending": "open", "delivered": "completed", "failed": "stuck"}
+"""The badge of a state: that of a phase with a similar meaning."""
+
+
+def page_url(**parameters: Any) -> str:
+    """Return the page with this filter."""
+    query = {name: value for name, value in parameters.items() if value}
+    return f"/ui/webhooks?{urlencode(query)}" if query else "/ui/webhooks"
+
+
+@page_routes.get("/ui/webhooks", query=FILTERED)
+async def deliveries_page(call: Call) -> Response:
+    """Show the latest deliveries, newest first."""
+    if answer := login_redirect(call.request):
+        return answer
+    check_all(viewer_of(call.request))
+    state, webhook = call.query["state"], call.query["webhook"]
+    listed_deliveries = await call.service.look(deliveries.listed(state, webhook, LISTED + 1))
+    return show_page(
+        call.request,
+        "webhooks.html",
+        here="webhooks",
+        deliveries=listed_deliveries[:LISTED],
+        most=LISTED,
+        more=len(listed_deliveries) > LISTED,
+        states=(None, *STATES),
+        looks=LOOKS,
+        state=state,
+        webhook=webhook,
+        url=page_url,
+        has_hooks=call.service.settings.webhooks is not None,
+    )
+
+
+@page_routes.post("/ui/webhooks/{id}/redeliver")
+async def redeliver_from_page(call: Call) -> Response:
+    """Post a delivery again, and redirect to the list."""
+    session, form = await session_and_form(call.request)
+    await post_again(service_of(call.request), session.principal, call.path["id"])
+    state = form.get("state") if form.get("state") in STATES else None
+    return RedirectResponse(page_url(state=state, webhook=form.get("webhook", "")[:64]), 303)

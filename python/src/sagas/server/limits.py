@@ -1,6 +1,8 @@
-"""Quotas of tokens: how many open sagas each may have started, with how much input.
+"""Limits of clients: request rates, concurrent requests, event streams, and open sagas.
 
-The store records which token started each saga. So a restart forgets nothing, and other
+A client is a token, or without tokens an address.
+
+Quotas of open sagas survive a restart: the store records which token started each saga. So other
 services of the database are counted. Between two counts, this service adds its own starts.
 """
 
@@ -8,30 +10,122 @@ from __future__ import annotations
 
 import asyncio
 import dataclasses
+import enum
 import time
+from collections import Counter, OrderedDict
 from collections.abc import Awaitable, Callable
-from typing import NamedTuple
 
 from sagas.base.errors import SagasError
 from sagas.inspection import lists
 from sagas.inspection.question import Question
 from sagas.server.auth import Principal
 from sagas.server.problems import Problem
+from sagas.server.settings import ConcurrencySettings, Quota
 
-OLD = 10.0
+
+class Rates:
+    """Token buckets of clients: each fills at a rate, up to two seconds' worth and at least 1."""
+
+    def __init__(self, rate: float, most: int = 10_000) -> None:
+        self.rate, self.most, self._size = rate, most, max(1.0, 2 * rate)
+        self._buckets: OrderedDict[str, tuple[float, float]] = OrderedDict()
+
+    def take(self, name: str) -> bool:
+        """Return whether one more request is within the rate."""
+        now = time.monotonic()
+        available, at = self._buckets.pop(name, (self._size, now))
+        available = min(self._size, available + (now - at) * self.rate)
+        self._buckets[name] = (available - 1 if available >= 1 else available), now
+        if len(self._buckets) > self.most:
+            self._buckets.popitem(last=False)
+        return available >= 1
+
+
+class RequestKind(enum.Enum):
+    """The kinds of requests that are limited."""
+
+    CONNECTION = "connections with an active request"
+    WAIT = "requests that wait for a saga"
+    CLAIM = "claims"
+
+
+class ConcurrencyLimits:
+    """The slots of all tokens, or without tokens of all addresses."""
+
+    def __init__(self, settings: ConcurrencySettings) -> None:
+        self._limits = {
+            RequestKind.CONNECTION: settings.connections_of_token,
+            RequestKind.WAIT: settings.waits,
+            RequestKind.CLAIM: settings.claims,
+        }
+        self._taken: Counter[tuple[str, RequestKind]] = Counter()
+
+    def has_room(self, client_key: str, kind: RequestKind) -> bool:
+        """Return whether one more slot is free."""
+        return self._taken[client_key, kind] < self._limits[kind]
+
+    def take(self, client_key: str, kind: RequestKind) -> Callable[[], None]:
+        """Take a slot. Returns a function that frees it, to be called once.
+
+        Raises:
+            Problem: The client has used up its slots.
+        """
+        if not self.has_room(client_key, kind):
+            name = "TooManyConnections" if kind is RequestKind.CONNECTION else "TooManyWaits"
+            why = f"your token has {self._limits[kind]} {kind.value}: retry when one has ended"
+            raise Problem(name, why)
+        key = client_key, kind
+        self._taken[key] += 1
+
+        def leave() -> None:
+            self._taken[key] -= 1
+            if self._taken[key] <= 0:
+                del self._taken[key]
+
+        return leave
+
+
+class StreamLimits:
+    """Limits of streams: `most` in total, `each` per client, and `kept` for the dashboard alone."""
+
+    def __init__(self, most: int, each: int, kept: int) -> None:
+        self.most, self.each, self.kept = most, each, kept
+        self._open: Counter[tuple[str, bool]] = Counter()
+
+    def full(self, client_key: str, dashboard: bool) -> str | None:
+        """Return why a client gets no further stream, or None."""
+        if self._open[client_key, dashboard] >= self.each:
+            return f"you have {self.each} event streams: close some"
+        most = self.most if dashboard else self.most - self.kept
+        others = sum(count for (_, shown), count in self._open.items() if not shown)
+        total = self._open.total()
+        if total >= self.most or (not dashboard and others >= most):
+            return f"there are {most} event streams: retry later"
+        return None
+
+    def take(self, client_key: str, dashboard: bool) -> Callable[[], None]:
+        """Count one more stream. Returns a function that ends it."""
+        key = client_key, dashboard
+        self._open[key] += 1
+
+        def leave() -> None:
+            self._open[key] -= 1
+            if self._open[key] <= 0:
+                del self._open[key]
+
+        return leave
+
+
+# -- quotas
+
+
+MAX_COUNT_AGE = 10.0
 """Seconds after which a new count starts in the background."""
-SHARE = 10
+COUNT_SHARE = 10
 """At most one part in this many of a service's time is spent on counts."""
 NEVER = float("-inf")
-LEAST = 0.05
+MIN_COUNT_PAUSE = 0.05
 """Minimum seconds between two counts."""
-
-
-class Quota(NamedTuple):
-    """The maximum number of open sagas, and of bytes of their inputs as JSON."""
-
-    sagas: int = 10_000
-    bytes: int = 1 << 30
 
 
 @dataclasses.dataclass(eq=False, slots=True)
@@ -86,7 +180,7 @@ class Quotas:
             Problem: The quota is used up.
         """
         now, quota = time.monotonic(), self.of(principal)
-        if now > self._began + OLD:
+        if now > self._began + MAX_COUNT_AGE:
             counting = self._begin()
             if self._began == NEVER:
                 await asyncio.shield(counting)
@@ -146,7 +240,7 @@ class Quotas:
         finally:
             self._counting = None
             ended = time.monotonic()
-            self._next = ended + max(LEAST, SHARE * (ended - began))
+            self._next = ended + max(MIN_COUNT_PAUSE, COUNT_SHARE * (ended - began))
             self._began = began
         uncounted = [
             pending
