@@ -18,7 +18,7 @@ from sagas.definition.start_options import StartOptions
 from sagas.inspection import saga as saga_questions
 from sagas.inspection import what_if
 from sagas.inspection.question import AsyncStoreReader
-from sagas.runtime import retries
+from sagas.runtime import stored_values
 from sagas.runtime.children import ChildEnd
 
 
@@ -44,7 +44,9 @@ class ChildOperations:
             end = history.live_result(ended)
             return ChildEnd(end, ended.id, ended.kind, ended.text, ended.results)
         coordinator = self._access.coordinator
-        known = await retries.until_answered(functools.partial(coordinator.store.known, ended))
+        known = await stored_values.until_answered(
+            functools.partial(coordinator.store.known, ended)
+        )
         kind = coordinator.registry.kind(known.definition)
         results = {
             step: value or "null"

@@ -28,7 +28,7 @@ from sagas.core.states import Action
 from sagas.definition import children, serialization
 from sagas.definition.compiled import ActionKey
 from sagas.definition.validation import meant
-from sagas.runtime import current_step, operator_commands
+from sagas.runtime import invocation, operator_commands
 from sagas.storage import operator_requests
 
 
@@ -200,7 +200,7 @@ class Commands:
             is_here = attempt.instance.busy.get(attempt.action_key) is attempt
             if is_over or not is_here or coordinator.sagas.by_key.get(key) is not attempt.instance:
                 raise SagaMoved(f"saga {key!r}")  # the stored outcome counts
-            if attempt is current_step.waiter(
+            if attempt is invocation.waiter(
                 coordinator.executor.calls.running
             ) and attempts.becomes_reportable(attempt):
                 raise WouldWaitForever(

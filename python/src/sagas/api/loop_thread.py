@@ -12,7 +12,7 @@ from typing import Any, TypeVar
 from sagas.base.errors import Closed
 from sagas.base.fork_guard import OpenState
 from sagas.core import pending
-from sagas.runtime import current_step
+from sagas.runtime import invocation
 
 T = TypeVar("T")
 SOON = 2.0
@@ -72,7 +72,7 @@ class Loop:
         with self._guard:
             loop = self._loop if self.runs else None
             if loop and threading.current_thread() is not self._thread:
-                with current_step.blocking():
+                with invocation.blocking():
                     future = asyncio.run_coroutine_threadsafe(work, loop)
                 self._pending.add(future)
         if loop is None:

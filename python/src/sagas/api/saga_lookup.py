@@ -17,7 +17,7 @@ from sagas.core.batch import SagaRow
 from sagas.core.key_lookup import KeyLookupPolicy
 from sagas.core.model import SagaInstance
 from sagas.core.results import SagaResult
-from sagas.runtime import current_step, retries
+from sagas.runtime import invocation, stored_values
 
 
 class SagaLookup:
@@ -72,7 +72,7 @@ class SagaLookup:
             work = self.until_ended(key)
             return timeouts.in_time(key, work, timeout, lambda: self.waits_for(key))
         coordinator = self._access.coordinator_here()
-        if caller := current_step.waiter(coordinator.executor.calls.running):
+        if caller := invocation.waiter(coordinator.executor.calls.running):
             return coordinator.waits.guard(caller, key, self.until_ended(key))
         return self.until_ended(key)
 
@@ -92,7 +92,7 @@ class SagaLookup:
         over = await self.whole(key)
         if isinstance(over, SagaInstance):
             return history.live_result(over)
-        return await retries.until_answered(functools.partial(self._end_of, over))
+        return await stored_values.until_answered(functools.partial(self._end_of, over))
 
     async def _end_of(self, row: SagaRow) -> SagaResult:
         coordinator = self._access.coordinator
@@ -109,7 +109,7 @@ class SagaLookup:
             over = await self.over(key)
             if isinstance(over, SagaRow) or over.is_whole:
                 return over
-            row = await retries.until_answered(lambda: self.row(key))
+            row = await stored_values.until_answered(lambda: self.row(key))
             if row.phase is not None:
                 return row
 
@@ -119,7 +119,7 @@ class SagaLookup:
         while True:
             live = await self.live(key)
             if live is None:
-                row = await retries.until_answered(lambda: self.row(key))
+                row = await stored_values.until_answered(lambda: self.row(key))
                 if row.phase is not None:
                     if record := coordinator.store.record:
                         record.seen(row.id, "wake")

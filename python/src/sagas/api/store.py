@@ -35,8 +35,7 @@ from sagas.definition.payloads import Codec
 from sagas.definition.saga import Saga
 from sagas.definition.start_options import Deadline
 from sagas.definition.step import Seconds
-from sagas.runtime import blob_sweep, current_step, operator_commands
-from sagas.runtime import retention as retention_module
+from sagas.runtime import invocation, operator_commands, retention as retention_module
 from sagas.runtime.coordinator import Coordinator
 from sagas.runtime.scheduler import Scheduler
 from sagas.storage import factory
@@ -194,7 +193,7 @@ class Store(RetryCalls):
             coordinator.spawn(self._reports.run())
         database.watch(coordinator)
         if isinstance(database, BlobDatabase):
-            coordinator.spawn(blob_sweep.sweep(database))
+            coordinator.spawn(retention_module.sweep_blobs(database))
         if self._retention is not None:
             seconds = self._retention.total_seconds()
             coordinator.spawn(
@@ -437,7 +436,7 @@ class Store(RetryCalls):
             WouldWaitForever: The call is made in a step.
             Closed: The store is closed.
         """
-        if caller := current_step.waiter(self._coordinator.executor.calls.running):
+        if caller := invocation.waiter(self._coordinator.executor.calls.running):
             raise WouldWaitForever(
                 f"step {caller.name!r} of saga {caller.instance.key!r} waits until no saga is "
                 "open, but its own is. Wait for that outside of a step"

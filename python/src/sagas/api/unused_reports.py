@@ -23,7 +23,7 @@ from sagas.definition.start_options import StartOptions
 from sagas.definition.task import Task
 from sagas.definition.task_data import TaskSnapshot
 from sagas.definition.validation import meant
-from sagas.runtime import given_values, stored_values
+from sagas.runtime import leased_tasks, stored_values
 from sagas.storage import operator_requests
 
 PAUSE = 30.0
@@ -159,7 +159,7 @@ class UnusedReports:
         if location is not None:
             fields = ("shape", "declared_step", "index", "item_key", "item")
             location_data = {field: fields_of_task[field] for field in fields} | {"step": name}
-            location_data["given"] = serialization.read(given_values.text_of(task))
+            location_data["given"] = serialization.read(leased_tasks.given_text(task))
         return {
             "key": row.key,
             "token": token,

@@ -11,8 +11,7 @@ from collections.abc import Collection, Mapping
 from sagas.core.effects import NO_RARE_EFFECTS, Abort, Effects
 from sagas.core.model import Attempt, SagaInstance
 from sagas.core.recovery import Recovery
-from sagas.runtime.instances import Instances
-from sagas.runtime.waiters import Waiters
+from sagas.runtime.instances import Instances, Waiters
 from sagas.storage.interface import Database
 from sagas.storage.record_file import BEYOND, RecordFile, Rest
 

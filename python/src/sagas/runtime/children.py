@@ -23,8 +23,7 @@ from sagas.core.model import SUSPENDED, Attempt
 from sagas.core.outcomes import SUCCEEDED, Outcome
 from sagas.core.results import SagaResult
 from sagas.core.states import Suspension
-from sagas.definition import children as child_keys
-from sagas.definition import tokens
+from sagas.definition import children as child_keys, tokens
 from sagas.definition.arguments import BELOW
 from sagas.definition.capacity import SHARD_CAPACITY
 from sagas.definition.compiled import CompiledDefinition
@@ -34,7 +33,7 @@ from sagas.definition.start_options import StartOptions, deadline_at
 from sagas.runtime import stored_values
 from sagas.runtime.executor_host import CoordinatorForExecutor
 from sagas.runtime.stored_values import ValueReader
-from sagas.runtime.waiters import Waiters
+from sagas.runtime.instances import Waiters
 
 RETRY_DELAY = 1.0
 """Seconds until a failed operation of the store is tried again."""

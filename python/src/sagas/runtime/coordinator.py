@@ -21,15 +21,14 @@ from sagas.core.shard import ShardDriver
 from sagas.core.undo_check import CompletedChild
 from sagas.definition.shelf import DefinitionRegistry
 from sagas.definition.tracing import Tracer
-from sagas.runtime import decode_check, remote_steps
+from sagas.runtime import remote_steps, stored_values
 from sagas.runtime.client_starts import StartReader
 from sagas.runtime.commit_queue import CommitQueue
-from sagas.runtime.deadlines import Deadlines
+from sagas.runtime.instances import Deadlines, Instances
 from sagas.runtime.deadlocks import DeadlockCheck
 from sagas.runtime.declared_calls import DefinitionCaller
 from sagas.runtime.executor import Executor
 from sagas.runtime.external_queue import ExternalQueue
-from sagas.runtime.instances import Instances
 from sagas.runtime.lifespan import Lifespan
 from sagas.runtime.shard_runner import ShardRunner
 from sagas.runtime.shards import Shards
@@ -184,7 +183,7 @@ class Coordinator:
         self.deadlines.look()
         self.executor.keep_progress()
         now = time.monotonic()
-        if self.store.shared and now >= offered + decode_check.PAUSE:
+        if self.store.shared and now >= offered + stored_values.OFFER_PAUSE:
             offered = now
             self.shards.offer_unread()
         self._timer = self.loop.call_later(self.shards.pause, self._tick, offered)

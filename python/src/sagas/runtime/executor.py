@@ -31,7 +31,7 @@ from sagas.runtime.early_reports import EarlyReports
 from sagas.runtime.executor_host import ExternalTasks, CoordinatorForExecutor, RunnerForExecutor
 from sagas.runtime.fleet_limits import Fleet
 from sagas.runtime.stored_values import ValueReader
-from sagas.runtime.waiters import Waiters
+from sagas.runtime.instances import Waiters
 
 UNDECIDED = (Do.READ, Do.ASK)
 """Decisions that need more data first."""

@@ -16,7 +16,7 @@ from sagas.core.shard import ShardDriver
 from sagas.core.suspensions import SuspensionRow
 from sagas.definition.shelf import DefinitionRegistry
 from sagas.runtime.declared_calls import DefinitionCaller
-from sagas.runtime.dispatcher import TurnPolicy
+from sagas.runtime.calls import TurnPolicy
 from sagas.storage.interface import Database
 
 

@@ -24,7 +24,7 @@ from sagas.definition import compensation_task, report_undos, shape_validation, 
 from sagas.definition.shape_values import ShapeValues
 from sagas.definition.task import Task
 from sagas.definition.task_data import TaskSnapshot
-from sagas.runtime import given_values
+from sagas.runtime import leased_tasks
 from sagas.runtime.external_reports import ExternalReports
 from sagas.runtime.leased_tasks import Heartbeat, LeasedTask, Queue, Word
 from sagas.runtime.offer_check import OfferCheck
@@ -343,14 +343,14 @@ class ExternalQueue(ExternalReports):
             task = compensation_task.of(task, kind.undoes, sees)
         lease = self._signer.issue(claim.attempt, claim.lease, holder)
         try:
-            given_text = given_values.text_of(task)
-        except given_values.DeclarationMissing as error:
+            given_text = leased_tasks.given_text(task)
+        except leased_tasks.DeclarationMissing as error:
             logger.warning("%s: %s", claim.attempt, error)
             await self._give_back(claim.attempt, claim.lease)
             return None
         except Exception as error:  # raised by the user's function
             with contextlib.suppress(SagasError):  # the lease expires, and the task is free again
-                await self.report(claim.attempt, lease, holder, given_values.failure(error))
+                await self.report(claim.attempt, lease, holder, leased_tasks.given_failure(error))
             return None
         return LeasedTask(claim.attempt, lease, now + claim.seconds, task, given_text)
 

@@ -33,7 +33,7 @@ from sagas.definition import tokens
 from sagas.definition.blobs import BlobUnavailable
 from sagas.definition.capacity import SHARD_CAPACITY
 from sagas.runtime.offer_check import awaits_worker
-from sagas.runtime.retries import until_answered
+from sagas.runtime.stored_values import until_answered
 from sagas.storage import queries
 from sagas.storage.external import Report, Row
 

@@ -16,7 +16,7 @@ from sagas.definition.payloads import PLAIN, Payloads
 from sagas.runtime.commit_queue import CommitQueue
 from sagas.runtime.executor import Executor
 from sagas.runtime.instances import Instances
-from sagas.runtime.retries import until_answered
+from sagas.runtime.stored_values import until_answered
 from sagas.storage.interface import Database
 
 if TYPE_CHECKING:

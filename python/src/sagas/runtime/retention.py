@@ -19,7 +19,7 @@ import pathlib
 import threading
 import time
 from collections.abc import Callable
-from typing import TYPE_CHECKING, Any
+from typing import Any, TYPE_CHECKING
 
 from sagas.base.errors import SagasError
 from sagas.base.logger import logger
@@ -31,6 +31,7 @@ from sagas.storage.queries import RESOLVABLE
 
 if TYPE_CHECKING:
     from sagas.runtime.coordinator import Coordinator
+    from sagas.storage.blob_layer import BlobDatabase
 
 MAX_SAGAS = 100_000
 """Maximum number of sagas that one run deletes."""
@@ -240,3 +241,37 @@ async def keep(
             )
             pause = HOUR
         await asyncio.sleep(min(pause, max(1.0, seconds / 24)))
+
+
+DAY, HOUR = 86_400.0, 3600.0
+"""Seconds between two sweeps, and between two checks of the blob store's owner."""
+COPY = (
+    "%s: the values in the blob store belong to %s, and this store is a copy of it. No value is "
+    "deleted. Give this store its own blob store, with a copy of the values. Or run `sagas store "
+    "STORE own-blobs --blobs ...` if this store replaces the original"
+)
+
+
+async def sweep_blobs(database: BlobDatabase) -> None:
+    """Delete orphaned blobs when the store opens, and then once a day.
+
+    Each hour it checks whether the blob store belongs to this store or to the original of a copy.
+    It runs until it is cancelled.
+    """
+    loop, blobs, warned_name = asyncio.get_running_loop(), database.blobs, ""
+    due = loop.time()
+    while True:
+        try:
+            if loop.time() < due:
+                await blobs.is_own()
+            else:
+                count = await database.swept()
+                due = loop.time() + (DAY if blobs.other is None else 0)
+                if count:
+                    logger.info("deleted %s without a row", number(count, "blob"))
+            if blobs.other is not None and blobs.other.name != warned_name:
+                warned_name = blobs.other.name
+                logger.warning(COPY, database.path, warned_name)
+        except SagasError as error:
+            logger.warning("blobs without a row could not be deleted: %s", error)
+        await asyncio.sleep(HOUR)

@@ -15,7 +15,7 @@ from sagas.core.shard import MAX_REPORTS, ShardDriver
 from sagas.core.states import ShardState
 from sagas.core.suspensions import SuspensionRow
 from sagas.engine.process import EngineProcess
-from sagas.runtime import decode_check
+from sagas.runtime import stored_values
 from sagas.runtime.shard_parts import Parts, ShardsForRunner, engine_on, named, not_understood
 
 FEW = 64  # number of requests that are answered quickly
@@ -374,7 +374,7 @@ class ShardRunner:
             if rows is not None and (damage := recovery.damage_of(rows, driver)):
                 driver.loaded(rows)
                 raise DamagedShard(damage)
-            if rows is None or await decode_check.is_left(self, rows, self._parts.store):
+            if rows is None or await stored_values.is_left(self, rows, self._parts.store):
                 self._shards.lose(self)
                 return
             if driver.state is not LOADING:

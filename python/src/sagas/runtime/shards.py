@@ -21,7 +21,7 @@ from sagas.definition.compiled import CompiledDefinition
 from sagas.definition.shelf import DefinitionRegistry
 from sagas.engine.pool import EnginePool
 from sagas.engine.process import EngineProcess
-from sagas.runtime import decode_check
+from sagas.runtime import stored_values
 from sagas.runtime.audits import Auditor
 from sagas.runtime.client_starts import StartDoubt
 from sagas.runtime.commit_queue import CommitQueue
@@ -441,7 +441,7 @@ class Shards:
         """Offer shards with unreadable values to other nodes."""
         for runner in self.runners.values():
             is_here = runner.driver.state in (ACTIVE, IDLE)
-            if runner.has_unread and is_here and not decode_check.is_at_work(runner.driver):
+            if runner.has_unread and is_here and not stored_values.is_at_work(runner.driver):
                 self._spawn(self._offer(runner))
 
     async def _offer(self, runner: ShardRunner) -> None:
