@@ -25,7 +25,7 @@ from sagas.core.limits import Slots
 from sagas.runtime import retention
 from sagas.runtime.children import Children
 from sagas.runtime.instances import Deadlines
-from sagas.runtime.early_reports import EarlyReports
+from sagas.runtime.executor import EarlyReports
 from sagas.runtime.scheduler import Scheduler
 from sagas.server import webhooks
 from sagas.storage import archive, blob_layer

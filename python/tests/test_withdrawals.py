@@ -22,7 +22,7 @@ import sagas
 from sagas.base.events import Event
 from sagas.core.batch import Batch, Withdrawal
 from sagas.definition.capacity import SHARD_CAPACITY
-from sagas.runtime import offer_check
+from sagas.runtime import external_queue
 from sagas.storage.postgresql import commit_statement
 from sagas.storage.postgresql.commit_statement import Commit
 

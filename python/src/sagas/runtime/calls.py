@@ -16,13 +16,12 @@ import types
 from collections import deque
 from collections.abc import Awaitable, Callable, Coroutine, Generator, Sequence
 from concurrent.futures import Executor as Threads
-from typing import Any, Protocol
+from typing import TYPE_CHECKING, Any
 
 from sagas.base.errors import CannotDecode, ShardLost
 from sagas.base.fork_guard import private_descriptors
 from sagas.base.logger import logger
 from sagas.core import outcomes, spans
-from sagas.core.limits import Slots
 from sagas.core.model import Attempt, QUEUED, RUNNING, SagaInstance, finish_all, start_all
 from sagas.core.outcomes import Outcome
 from sagas.core.step_transactions import StepTransactions
@@ -34,9 +33,17 @@ from sagas.definition.tracing import Tracer
 from sagas.runtime import invocation
 from sagas.runtime.acknowledgements import Acknowledgements
 from sagas.runtime.invocation import CALLED
-from sagas.runtime.executor_host import CoordinatorForExecutor
-from sagas.runtime.fleet_limits import Fleet, Gate
+from sagas.runtime.fleet_limits import Gate
 
+if TYPE_CHECKING:
+    from sagas.runtime.coordinator import Coordinator
+    from sagas.runtime.executor import Executor
+    from sagas.runtime.external_queue import ExternalQueue
+
+QUIET = 1.0
+"""Seconds that closing waits before it logs which functions it waits for."""
+FORKED = 70
+"""The exit status of a forked child process that returned from a step function."""
 MAX_BATCH = 256
 """Maximum number of successes that are reported at once, while further functions are called."""
 RECHECK_AFTER = 100
@@ -49,35 +56,6 @@ run. A turn costs as much as a short step.
 """
 
 
-class CallHandler(Protocol):
-    """Decides whether attempts are called, and receives the outcomes."""
-
-    def begins(self, attempt: Attempt) -> bool:
-        """Return whether the attempt is called now."""
-
-    def ended(self, attempt: Attempt, began: float, outcome: Outcome | None) -> None:
-        """Handle that a call is over. `began` is its start by the monotonic clock.
-
-        `outcome` is None if the call was cancelled.
-        """
-
-    def done(self, attempts: list[Attempt]) -> None:
-        """Handle that calls succeeded without waiting. The attempts have their outcomes."""
-
-    def held_loop(self, attempt: Attempt, seconds: float) -> None:
-        """Handle that a function blocked the loop for a long time."""
-
-
-class TurnPolicy(Protocol):
-    """How calls of functions share the loop with the rest of a store."""
-
-    def batch_size(self, ready: int) -> int:
-        """Return how many of `ready` calls are reported at once."""
-
-    def must_yield(self) -> bool:
-        """Return whether callers get their turn before further functions are called."""
-
-
 class Dispatcher:
     """Calls the functions of attempts in the order in which they arrive.
 
@@ -88,28 +66,25 @@ class Dispatcher:
 
     def __init__(
         self,
-        functions: CallHandler,
-        turns: TurnPolicy,
+        calls: Calls,
+        coordinator: Coordinator,
         jobs: dict[Attempt, asyncio.Task[None] | None],
         inside: StepTransactions | None = None,
     ) -> None:
         """Make a dispatcher.
 
         Args:
-            functions: Decides about each call, and receives its outcome.
-            turns: Decides when other tasks get their turn.
+            calls: Decides about each call, and receives its outcome.
+            coordinator: Decides when other tasks get their turn.
             jobs: Receives the task that calls each attempt.
             inside: Provides connections for functions in transactions, if there are any.
         """
         self._loop = asyncio.get_running_loop()
         self._context = contextvars.copy_context()
-        self._begins, self._ended = functions.begins, functions.ended
-        self._done, self._held = functions.done, functions.held_loop
-        self._batch_size, self._must_yield, self._batch_limit = (
-            turns.batch_size,
-            turns.must_yield,
-            MAX_BATCH,
-        )
+        self._begins, self._ended = calls.begins, calls.ended
+        self._done, self._held = calls.done, calls.held_loop
+        self._batch_size, self._must_yield = coordinator.batch_size, coordinator.must_yield
+        self._batch_limit = MAX_BATCH
         self._jobs, self._inside = jobs, inside
         self._flushed_at = time.monotonic()
         self._ready: deque[Attempt] = deque()
@@ -387,37 +362,6 @@ class _Continuation:
         return waits_for.pop()
 
 
-QUIET = 1.0
-"""Seconds that closing waits before it logs which functions it waits for."""
-FORKED = 70
-"""The exit status of a forked child process that returned from a step function."""
-
-
-class CallListener(Protocol):
-    """Receives the outcomes of calls."""
-
-    closing: bool
-
-    def ended(self, attempt: Attempt, outcome: Outcome, at_once: bool) -> None:
-        """Handle that the function of an attempt has returned or raised."""
-
-    def succeeded(self, attempts: Sequence[Attempt]) -> None:
-        """Handle that the functions of several attempts succeeded: as `ended`, for all."""
-
-    def enter(self, attempt: Attempt) -> None:
-        """Have the attempt called again: the call had no effect, and did not fail."""
-
-    def lost(self, attempt: Attempt, fault: ShardLost) -> None:
-        """Handle that it is unknown whether the transaction of an attempt was committed."""
-
-    def emit(self, attempt: Attempt, name: str, detail: str | None = None) -> None:
-        """Emit an event of an attempt."""
-
-
-Remote = Callable[[Manner, Attempt], Any]
-"""Sends an attempt to a worker of a queue, and returns its outcome, or None."""
-
-
 class Calls:
     """Calls functions, each within a slot.
 
@@ -428,23 +372,15 @@ class Calls:
 
     def __init__(
         self,
-        listener: CallListener,
-        coordinator: CoordinatorForExecutor,
-        slots: Slots,
-        fleet: Fleet,
+        executor: Executor,
+        coordinator: Coordinator,
+        external: ExternalQueue,
         threads: Threads,
-        remote: Remote,
         tracer: Tracer | None,
-        fill: Callable[[Attempt], Awaitable[None]],
     ) -> None:
-        self._fill = fill
-        self._listener, self._store, self._slots, self._fleet = (
-            listener,
-            coordinator.store,
-            slots,
-            fleet,
-        )
-        self._threads, self._remote = threads, remote
+        self._executor, self._store = executor, coordinator.store
+        self._slots, self._fleet, self._fill = executor.slots, executor.fleet, executor.values.fill
+        self._threads, self._external = threads, external
         self._teller, self._clock = coordinator.teller, coordinator.clock
         self._forks, self._tracer = private_descriptors.forks, tracer
         self.acknowledgements = Acknowledgements.of(coordinator.store)
@@ -505,13 +441,13 @@ class Calls:
     async def _call_limited(self, attempt: Attempt, gate: Gate) -> None:
         """Call the function if its fleet limit grants a slot; otherwise, let it wait."""
         granted = await gate.ask(attempt)
-        if granted and attempt.state is QUEUED and not self._listener.closing:
+        if granted and attempt.state is QUEUED and not self._executor.closing:
             attempt.start()
             await self._call(attempt)
             return
         del self.running[attempt]
         self._leave(attempt)
-        if attempt.state is QUEUED and not self._listener.closing:
+        if attempt.state is QUEUED and not self._executor.closing:
             gate.hold(attempt, first=True)
 
     async def _call(self, attempt: Attempt) -> None:
@@ -543,11 +479,10 @@ class Calls:
     async def _outcome(self, attempt: Attempt, manner: Manner) -> Outcome | None:
         """Call a function that is not simple: in a thread, a transaction, or at a worker."""
         if manner.queue:
-            outcome: Outcome | None = await self._remote(manner, attempt)
-            return outcome
+            return await self._external.call(manner, attempt)
         inside = self._store.inside if manner.transaction else None
         call = inside.call if inside else invocation.call_alone
-        late = functools.partial(self._listener.emit, attempt, "step_overdue")
+        late = functools.partial(self._executor.emit, attempt, "step_overdue")
         try:
             task = attempt.task()
         except CannotDecode as error:  # by the store's codec
@@ -603,7 +538,7 @@ class Calls:
             if attempt.extras is not None:
                 spans.note_again(attempt, self._clock())
             if self._teller.has_hook:
-                self._listener.emit(attempt, "step_started")
+                self._executor.emit(attempt, "step_started")
             return True
         if attempt.state is RUNNING:  # another node may own the shard: it is loaded again first
             attempt.claim()
@@ -622,7 +557,7 @@ class Calls:
         for attempt in attempts:
             del self.running[attempt]
         self._slots.leave_many(len(attempts))
-        self._listener.succeeded(finish_all(attempts, self._clock()))
+        self._executor.succeeded(finish_all(attempts, self._clock()))
 
     def held_loop(self, attempt: Attempt, seconds: float) -> None:
         """Warn once for each function that it blocked the event loop."""
@@ -654,17 +589,17 @@ class Calls:
         if not self._leave_running(attempt, began):
             return
         if fault is not None:
-            self._listener.lost(attempt, fault)
+            self._executor.lost(attempt, fault)
         elif record is not None and record.again:
             attempt.claim()
-            self._listener.enter(attempt)
+            self._executor.enter(attempt)
         elif outcome is None and attempt.extras and attempt.extras.control:
             if attempt.extras.control.is_stopped:
                 attempt.extras.control.is_stopped = False
                 outcome_unknown = outcomes.unknown("cancelled, since the saga was aborted")
-                self._listener.ended(attempt, outcome_unknown, at_once)
+                self._executor.ended(attempt, outcome_unknown, at_once)
         elif outcome is not None:
-            self._listener.ended(attempt, outcome, at_once)
+            self._executor.ended(attempt, outcome, at_once)
 
     def _leave_running(self, attempt: Attempt, began: float) -> bool:
         """Release the slot of a call; return whether its outcome still counts."""

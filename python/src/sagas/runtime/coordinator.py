@@ -95,8 +95,8 @@ class Coordinator:
         if acknowledgements := self.executor.calls.acknowledgements:
             acknowledgements.follow(self.sagas, self.executor.kept)
         self.executor.slots.is_fair = any(saga.fair_by for saga in registry.sagas.values())
-        self.commits = CommitQueue(store, self, teller, self.loop)
-        self.shards = Shards(
+        self.commits: CommitQueue = CommitQueue(store, self, teller, self.loop)
+        self.shards: Shards = Shards(
             store,
             registry,
             program,

@@ -19,7 +19,6 @@ from sagas.core.shard import ShardDriver
 from sagas.definition.blobs import BlobUnavailable, Reference
 from sagas.definition.compiled import CompiledDefinition
 from sagas.definition.payloads import ABSENT
-from sagas.runtime.executor_host import CoordinatorForExecutor
 from sagas.storage.interface import Database
 
 T = TypeVar("T")
@@ -94,11 +93,11 @@ class ValueReader:
 
     def __init__(
         self,
-        coordinator: CoordinatorForExecutor,
+        store: Database,
         unread: Callable[[Attempt, BlobUnavailable], None],
     ) -> None:
         """Make a reader. `unread` is called if the blob store does not return a value."""
-        self._coordinator, self._slots = coordinator, asyncio.Semaphore(AT_ONCE)
+        self._store, self._slots = store, asyncio.Semaphore(AT_ONCE)
         self._unread = unread
         self.count = 0
 
@@ -129,7 +128,7 @@ class ValueReader:
         instance = attempt.instance
         steps = [number for number, _ in attempt.action.needed_results] + [attempt.step]
         stored = await until_answered(
-            lambda: values_of(self._coordinator.store, instance.id, steps), with_blobs=False
+            lambda: values_of(self._store, instance.id, steps), with_blobs=False
         )
         if stored is not None:  # otherwise the saga and the attempt are gone
             instance.fill(stored, attempt.results)
