@@ -270,7 +270,7 @@ def test_a_damaged_offer_is_repeated(
 ) -> None:
     """Its row was damaged: that is found, and logged as a warning."""
     saga, events = trip(), list[Event]()
-    monkeypatch.setattr(offer_check, "PAUSE", 0.2)
+    monkeypatch.setattr(external_queue, "CHECK_INTERVAL", 0.2)
 
     async def main() -> None:
         async with opened(location, saga, events=events) as store:

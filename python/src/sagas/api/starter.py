@@ -17,7 +17,7 @@ from sagas.definition.payloads import ABSENT
 from sagas.definition.saga import Saga
 from sagas.definition.shelf import Fitted, DefinitionRegistry
 from sagas.definition.start_options import Deadline, StartOptions, deadline_at
-from sagas.runtime import relocation
+from sagas.runtime import instances
 from sagas.runtime.coordinator import Coordinator
 
 StartWork = Coroutine[Any, Any, bool]
@@ -157,7 +157,7 @@ class Starter:
             stored = row.saga, row.input
         if stored:
             kind_or_saga, store = kind or saga, coordinator.store
-            error = await relocation.conflict_with_stored(
+            error = await instances.conflict_with_stored(
                 store, key, kind_or_saga, text, *stored, payloads
             )
             if error and live and not live.committed and not coordinator.store.shared:
@@ -165,7 +165,7 @@ class Starter:
                 row = await coordinator.store.find(key)
                 if row:
                     stored = row.saga, row.input
-                    error = await relocation.conflict_with_stored(
+                    error = await instances.conflict_with_stored(
                         store, key, kind_or_saga, text, *stored, payloads
                     )
                     live = None
@@ -213,7 +213,7 @@ class Starter:
         if row is None:
             return False
         store = self._access.coordinator.store
-        error = await relocation.conflict_with_stored(
+        error = await instances.conflict_with_stored(
             store, live.key, live.kind, live.text, row.saga, row.input
         )
         if error:

@@ -36,6 +36,7 @@ from sagas.definition.saga import Saga
 from sagas.definition.start_options import Deadline
 from sagas.definition.step import Seconds
 from sagas.runtime import invocation, operator_commands, retention as retention_module
+from sagas.runtime.client_starts import StartReader
 from sagas.runtime.coordinator import Coordinator
 from sagas.runtime.scheduler import Scheduler
 from sagas.storage import factory
@@ -183,7 +184,7 @@ class Store(RetryCalls):
         )
         coordinator.listeners.append(self._requests.look)
         if self._starter.accepts_new:
-            coordinator.listeners.append(coordinator.start_reader().look)
+            coordinator.listeners.append(StartReader(coordinator).look)
             scheduler = Scheduler(coordinator, self._start_scheduled, self._advance)
             coordinator.listeners.append(scheduler.look)
             coordinator.spawn(scheduler.run())

@@ -22,7 +22,7 @@ from sagas.base.errors import CannotDecode, ShardLost
 from sagas.base.fork_guard import private_descriptors
 from sagas.base.logger import logger
 from sagas.core import outcomes, spans
-from sagas.core.model import Attempt, QUEUED, RUNNING, SagaInstance, finish_all, start_all
+from sagas.core.model import QUEUED, RUNNING, Attempt, SagaInstance, finish_all, start_all
 from sagas.core.outcomes import Outcome
 from sagas.core.step_transactions import StepTransactions
 from sagas.definition import awaitables
@@ -32,8 +32,8 @@ from sagas.definition.task import Task
 from sagas.definition.tracing import Tracer
 from sagas.runtime import invocation
 from sagas.runtime.acknowledgements import Acknowledgements
-from sagas.runtime.invocation import CALLED
 from sagas.runtime.fleet_limits import Gate
+from sagas.runtime.invocation import CALLED
 
 if TYPE_CHECKING:
     from sagas.runtime.coordinator import Coordinator

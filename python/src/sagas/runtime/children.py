@@ -12,8 +12,8 @@ from sagas.base.errors import (
     InvalidResult,
     KeyConflict,
     MissingStep,
-    SagaMoved,
     NoSuchSaga,
+    SagaMoved,
     SagasError,
     TemporaryError,
 )

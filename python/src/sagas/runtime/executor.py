@@ -18,7 +18,7 @@ from sagas.core.declared_values import OptionCalls
 from sagas.core.early_reports import EarlyReport, Refusal
 from sagas.core.effects import Effects
 from sagas.core.limits import Slots
-from sagas.core.model import Attempt, CLAIMED, FINISHED, QUEUED, SUSPENDED, SagaInstance
+from sagas.core.model import CLAIMED, FINISHED, QUEUED, SUSPENDED, Attempt, SagaInstance
 from sagas.core.outcomes import Outcome
 from sagas.core.shard import ShardDriver
 from sagas.core.states import OutcomeKind, Suspension

@@ -33,9 +33,9 @@ from sagas.base.logger import logger
 from sagas.core import outcomes
 from sagas.core.exhaustion import RETRYABLE
 from sagas.core.lease_signature import Signer
-from sagas.core.model import Attempt, FINISHED, SUSPENDED
+from sagas.core.model import FINISHED, SUSPENDED, Attempt
 from sagas.core.offers import offered_task_name, task_name
-from sagas.core.outcomes import CANNOT_DECODE, FAILED, Outcome, PERMANENT, SUCCEEDED, UNKNOWN
+from sagas.core.outcomes import CANNOT_DECODE, FAILED, PERMANENT, SUCCEEDED, UNKNOWN, Outcome
 from sagas.core.shard import ShardDriver
 from sagas.core.states import OutcomeKind, Suspension
 from sagas.core.suspensions import Lease

@@ -1,4 +1,7 @@
-"""The open sagas of this program: by key, with the callers that wait and with their deadlines."""
+"""The open sagas of this program: by key, with the callers that wait and with their deadlines.
+
+A start whose key is used is the same saga, or a conflict.
+"""
 
 from __future__ import annotations
 
@@ -6,14 +9,21 @@ import asyncio
 import heapq
 import itertools
 from collections.abc import Callable
-from typing import Generic, TypeVar
+from typing import TYPE_CHECKING, Generic, TypeVar
 
-from sagas.base.errors import SagasError
+from sagas.base.errors import KeyConflict, SagasError
 from sagas.base.events import EventEmitter
 from sagas.core.effects import Abort
 from sagas.core.model import SagaInstance
+from sagas.definition import input_equality, mismatches
+from sagas.definition.blobs import Reference
 from sagas.definition.compiled import CompiledDefinition
+from sagas.definition.payloads import PLAIN, Payloads
 from sagas.definition.start_options import StartOptions
+from sagas.storage.interface import Database
+
+if TYPE_CHECKING:
+    from sagas.definition.saga import Saga
 
 K = TypeVar("K")
 MANY = 64
@@ -248,3 +258,68 @@ def _ignore_result(aborted: asyncio.Future[bool]) -> None:
     """
     if not aborted.cancelled():
         aborted.exception()
+
+
+INPUT = "SELECT input FROM sagas WHERE key = ?"
+
+
+def conflict(
+    key: str,
+    kind: CompiledDefinition | Saga,
+    text: str,
+    stored_name: str,
+    stored_input: str,
+    payloads: Payloads | None = None,
+) -> KeyConflict | None:
+    """Return the error of a start whose key is used; None if it is the same saga.
+
+    Args:
+        key: The key.
+        kind: The saga of the start.
+        text: The input of the start.
+        stored_name: The name of the saga that has the key.
+        stored_input: The input of the saga that has the key.
+        payloads: How inputs are stored (default: those of `kind`).
+    """
+    saga = kind.name
+    if stored_name != saga:
+        return KeyConflict(
+            f"key {key!r} belongs to a saga {stored_name!r}, not {saga!r}. Use another key"
+        )
+    if stored_input != text:
+        kind_payloads: Payloads = getattr(kind, "payloads", PLAIN)
+        stored = payloads or kind_payloads
+        text = stored.decode(text)
+        if reference := Reference.of(stored_input):
+            if reference.is_of(text):
+                return None
+            return KeyConflict(f"key {key!r} belongs to a saga with another input. Use another key")
+        stored_input = stored.decode(stored_input)
+    if stored_input != text and (differ := input_equality.differences(kind, stored_input, text)):
+        paths = mismatches.joined_paths(differ)
+        return KeyConflict(
+            f"key {key!r} belongs to a saga with another input, which differs at {paths}. "
+            "Use another key"
+        )
+    return None
+
+
+async def conflict_with_stored(
+    store: Database,
+    key: str,
+    kind: CompiledDefinition | Saga,
+    text: str,
+    stored_name: str,
+    stored_input: str,
+    payloads: Payloads | None = None,
+) -> KeyConflict | None:
+    """Return the error of a start whose key is used, as `conflict`.
+
+    An input outside of the database is read if its digest differs: it may be equal with other
+    types. Raises `StoreUnavailable`.
+    """
+    error = conflict(key, kind, text, stored_name, stored_input, payloads)
+    if error and stored_name == kind.name and Reference.of(stored_input):
+        for (whole,) in await store.read(INPUT, key):
+            error = conflict(key, kind, text, stored_name, whole, payloads)
+    return error

@@ -19,7 +19,7 @@ import pathlib
 import threading
 import time
 from collections.abc import Callable
-from typing import Any, TYPE_CHECKING
+from typing import TYPE_CHECKING, Any
 
 from sagas.base.errors import SagasError
 from sagas.base.logger import logger

@@ -1,41 +1,70 @@
-"""Creates, loads, loses and closes shards."""
+"""The shards of this program: created, loaded, lost and closed, with the placement of new sagas.
+
+A saga whose key another shard has, or whose shard moved to another node, is moved too.
+"""
 
 from __future__ import annotations
 
 import asyncio
 import contextlib
+import secrets
 import time
 from collections.abc import Callable, Coroutine
+from typing import TYPE_CHECKING
 
 from sagas.base.errors import DamagedShard, EngineError, SagaMoved, SagasError, StoreUnavailable
 from sagas.base.events import EventEmitter
 from sagas.base.logger import logger
 from sagas.core import recovery
-from sagas.core.batch import Batch, LoadedShard, ShardRow, SagaRow, RequestRef
+from sagas.core.batch import Batch, LoadedShard, RequestRef, SagaRow, ShardRow
 from sagas.core.effects import Abort
 from sagas.core.model import SagaInstance
 from sagas.core.shard import ShardDriver, ShardIdentity
 from sagas.core.shard_definitions import ShardDefinitions
 from sagas.core.states import ShardState
+from sagas.definition.blobs import Reference
 from sagas.definition.compiled import CompiledDefinition
-from sagas.definition.shelf import DefinitionRegistry
+from sagas.definition.shelf import DefinitionRegistry, DefinitionSet
 from sagas.engine.pool import EnginePool
 from sagas.engine.process import EngineProcess
 from sagas.runtime import stored_values
 from sagas.runtime.audits import Auditor
-from sagas.runtime.client_starts import StartDoubt
 from sagas.runtime.commit_queue import CommitQueue
-from sagas.runtime.effects import EffectHandler, ExternalOffers
 from sagas.runtime.executor import Executor
-from sagas.runtime.instances import Instances
-from sagas.runtime.placement import Placement
-from sagas.runtime.relocation import Relocation
-from sagas.runtime.shard_parts import Opening, Parts
-from sagas.runtime.shard_runner import ShardRunner
+from sagas.runtime.instances import INPUT, Instances, conflict
+from sagas.runtime.shard_runner import EffectHandler, Parts, ShardRunner
+from sagas.runtime.stored_values import until_answered
 from sagas.storage.interface import Database
 
+if TYPE_CHECKING:
+    from sagas.runtime.external_queue import ExternalQueue
+
 STALE, ACTIVE, IDLE = ShardState.STALE, ShardState.ACTIVE, ShardState.IDLE
+RETRY_DELAY = 1.0
+"""Seconds after which failed starts are read again."""
 REMEDY = "The other shards are served. See the guide on damaged shards"
+
+
+class StartDoubt:
+    """Whether starts that this node has claimed may have been lost.
+
+    No other node takes such starts, so this node reads them again.
+    """
+
+    def __init__(self, loop: asyncio.AbstractEventLoop, look: Callable[[], None]) -> None:
+        self._loop, self._look = loop, look
+        self._is_set = False
+
+    def doubt(self, looks: bool = True) -> None:
+        """Mark that some may be lost. With `looks`, they are read again after a delay."""
+        self._is_set = True
+        if looks:
+            self._loop.call_later(RETRY_DELAY, self._look)
+
+    def settle(self) -> bool:
+        """Return whether some may be lost, and clear the mark."""
+        was_set, self._is_set = self._is_set, False
+        return was_set
 
 
 class Shards:
@@ -45,6 +74,7 @@ class Shards:
         runners: The shards, by number.
         engines: Their engine processes.
         auditor: Audits finished shards.
+        relocation: Moves sagas between shards and nodes.
         closed: Why nothing starts any more.
         is_closing: Whether nothing starts any more.
         start_doubt: Whether claimed starts of clients may be lost.
@@ -60,7 +90,7 @@ class Shards:
         sagas: Instances,
         executor: Executor,
         commits: CommitQueue,
-        offers: ExternalOffers,
+        offers: ExternalQueue,
         clock: Callable[[], float],
         teller: EventEmitter,
         spawn: Callable[[Coroutine[None, None, None]], asyncio.Task[None]],
@@ -79,7 +109,7 @@ class Shards:
         self.start_doubt = StartDoubt(self._loop, look)
         self._idle = idle
         self._placement = Placement(store, definitions, sagas, self._loop, self)
-        self._relocation = Relocation(store, sagas, executor, commits, clock, spawn, self)
+        self.relocation = Relocation(store, sagas, executor, commits, clock, spawn, self)
         effects = EffectHandler(executor, sagas, teller, self, offers)
         self._parts = Parts(
             store,
@@ -281,10 +311,6 @@ class Shards:
         for runner in self.runners.values():
             runner.driver.withdraw(saga)
 
-    def compare_with_stored(self, saga: SagaInstance) -> None:
-        """Compare a saga with the stored one of its key, and notify its callers."""
-        self._relocation.compare_with_stored(saga)
-
     def refuse(self, saga: SagaInstance, error: SagasError) -> None:
         """Refuse the start of a saga, and notify its callers."""
         self._sagas.leave(saga, error, error)
@@ -298,19 +324,7 @@ class Shards:
         """
         self.start_doubt.doubt(not self.closed)
 
-    def leave(self, saga: SagaInstance, error: SagasError | None) -> None:
-        """Stop executing a saga here."""
-        self._relocation.leave(saga, error)
-
-    def key_taken(self, saga: SagaInstance, row: SagaRow) -> None:
-        """Handle that another shard has the key of a saga."""
-        self._relocation.key_taken(saga, row)
-
     # -- recovery
-
-    async def find_elsewhere(self, driver: ShardDriver, rows: LoadedShard) -> None:
-        """Withdraw unconfirmed starts whose keys other sagas have."""
-        await self._relocation.find_elsewhere(driver, rows)
 
     def reopen(
         self, driver: ShardDriver, rows: LoadedShard | None, fault: BaseException | None
@@ -378,7 +392,7 @@ class Shards:
         for abort in (*driver.aborts, *driver.aborts_sent):
             self._sagas.fail_abort(abort, moved)
         self._stop(runner)
-        self._relocation.stop_shard(driver)
+        self.relocation.stop_shard(driver)
         self._notify_change()
         self.ready(runner)
 
@@ -483,6 +497,263 @@ class Shards:
         engines = [runner.engine for runner in self.runners.values() if runner.engine]
         for runner in self.runners.values():
             runner.stop()
-            self._relocation.notify_closed(runner.driver, error)
+            self.relocation.notify_closed(runner.driver, error)
         self._sagas.fail_aborts(error)
         return engines
+
+
+class Opening:
+    """The shards that are loaded while the store opens."""
+
+    def __init__(self) -> None:
+        self._loading: set[ShardRunner] = set()
+        self._over: asyncio.Future[None] | None = None
+
+    def begin(self, runners: list[ShardRunner]) -> None:
+        """Set the shards that are to be loaded."""
+        self._loading = {*runners}
+        if runners:
+            self._over = asyncio.get_running_loop().create_future()
+
+    async def over(self) -> None:
+        """Wait until all are loaded."""
+        if self._over:
+            await self._over
+
+    def ready(self, runner: ShardRunner) -> None:
+        """Handle that a shard is loaded or lost."""
+        self._loading.discard(runner)
+        if not self._loading and self._over and not self._over.done():
+            self._over.set_result(None)
+
+    def fail(self, error: SagasError) -> None:
+        """Fail the opening, because a shard could not be loaded."""
+        if self._over and not self._over.done():
+            self._over.set_exception(error)
+
+
+class Placement:
+    """Assigns sagas to shards.
+
+    Attributes:
+        current: The shards that accept sagas, by the digest of their definitions.
+        waiting: Sagas that are assigned in this turn of the loop.
+    """
+
+    def __init__(
+        self,
+        store: Database,
+        definitions: DefinitionRegistry,
+        sagas: Instances,
+        loop: asyncio.AbstractEventLoop,
+        shards: Shards,
+    ) -> None:
+        self._store, self._definitions, self._sagas = store, definitions, sagas
+        self._loop, self._shards = loop, shards
+        self.current: dict[str, ShardRunner] = {}
+        self.waiting: list[SagaInstance] = []
+
+    def assign(self, saga: SagaInstance) -> None:
+        """Assign a saga to a shard, together with others of this turn of the loop.
+
+        If the store is a file, the key is looked up first. If the key is taken, callers receive the
+        reason in a later turn, so that they can wait for it.
+        """
+        self.waiting.append(saga)
+        if len(self._sagas.by_key) == 1:
+            self.fill()
+        elif len(self.waiting) == 1:
+            self._loop.call_soon(self.fill)
+
+    def fill(self, asker: ShardRunner | None = None) -> None:
+        """Assign all waiting sagas. `asker` is a shard that is about to ask its engine."""
+        if not self.waiting:
+            return
+        waiting, self.waiting = self.waiting, []
+        stored_rows: dict[str, SagaRow] = {}
+        try:
+            if self._shards.closed:
+                raise self._shards.closed
+            if not self._store.shared:
+                stored_rows = self._store.find_many(
+                    [saga.key for saga in waiting if not saga.guessed]
+                )
+        except SagasError as error:
+            for saga in waiting:
+                self._loop.call_soon(self._shards.refuse, saga, error)
+            return
+        filled: dict[ShardRunner, None] = {}
+        for saga in waiting:
+            if saga.key in stored_rows:
+                self._loop.call_soon(self._shards.relocation.key_taken, saga, stored_rows[saga.key])
+            elif runner := self._put(saga):
+                filled[runner] = None
+        for runner in filled:
+            if runner is not asker:
+                runner.poke(at_once=True)
+
+    def forget(self, runner: ShardRunner) -> None:
+        """Have a shard accept no more sagas."""
+        if self.is_current(runner):
+            del self.current[runner.driver.identity.definitions.digest]
+
+    def is_current(self, runner: ShardRunner) -> bool:
+        """Return whether a shard accepts sagas."""
+        return self.current.get(runner.driver.identity.definitions.digest) is runner
+
+    def _put(self, saga: SagaInstance) -> ShardRunner | None:
+        definitions, kind = self._definitions.set_of(saga.kind), saga.kind
+        runner = self.current.get(definitions.digest)
+        if runner is None or not self._takes(runner, kind):
+            try:
+                runner = self._create(definitions, kind)
+            except SagasError as error:
+                self._loop.call_soon(self._shards.refuse, saga, error)
+                return None
+        saga.definition_index = runner.driver.identity.definitions.definition_index(kind)
+        runner.driver.open(saga)
+        return runner
+
+    def _takes(self, runner: ShardRunner, kind: CompiledDefinition) -> bool:
+        """Return whether a shard has room for one more saga of this definition."""
+        has_room = runner.driver.identity.definitions.has_room(kind)
+        return has_room and runner.driver.has_room(self._definitions.room)
+
+    def _create(self, definitions: DefinitionSet, kind: CompiledDefinition) -> ShardRunner:
+        """Create a shard. It has at least one definition, because an audit needs one."""
+        before = self.current.get(definitions.digest)
+        number, name = self._store.new_shard(), secrets.token_hex(8)
+        of = ShardDefinitions(definitions.kinds or [kind], definitions.digest)
+        identity = ShardIdentity(number, name, of)
+        runner = self._shards.run(ShardDriver.created(identity, self._store.timeline))
+        self.current[definitions.digest] = runner
+        if before:
+            self._loop.call_soon(self._shards.close_if_over, before)
+        return runner
+
+
+class Relocation:
+    """Releases sagas that other nodes execute, and opens sagas in another shard."""
+
+    def __init__(
+        self,
+        store: Database,
+        sagas: Instances,
+        executor: Executor,
+        commits: CommitQueue,
+        clock: Callable[[], float],
+        spawn: Callable[[Coroutine[None, None, None]], object],
+        shards: Shards,
+    ) -> None:
+        self._store, self._sagas, self._executor, self._commits = store, sagas, executor, commits
+        self._clock, self._spawn, self._shards = clock, spawn, shards
+
+    def leave(self, saga: SagaInstance, error: SagasError | None) -> None:
+        """Stop executing a saga here.
+
+        Callers that wait for its end check the store. Callers that started it receive `error`.
+        """
+        self._sagas.leave(saga, error, SagaMoved("this node does not execute the saga"))
+        for attempt in saga.busy.values():
+            self._executor.changes.notify(attempt)
+
+    def key_taken(self, saga: SagaInstance, row: SagaRow, is_whole: bool = False) -> None:
+        """Handle that another shard has the key: with the same saga, or with a conflict.
+
+        With `is_whole`, a large input was read from the blob store.
+        """
+        error = conflict(saga.key, saga.kind, saga.text, row.saga, row.input)
+        # a large input may be equal with other types
+        if error and Reference.of(row.input) and not is_whole:
+            self._spawn(self._move(saga))
+            return
+        if saga.client_start is not None:
+            self._spawn(self._begun(saga.client_start, None if error else row.id))
+        self.leave(saga, error)
+
+    def compare_with_stored(self, saga: SagaInstance) -> None:
+        """Read the stored saga of the same key, and compare it with this one."""
+        self._spawn(self._compare_with_stored(saga))
+
+    async def _compare_with_stored(self, saga: SagaInstance) -> None:
+        row = await until_answered(lambda: self._whole(saga.key))
+        if row is not None and row.id >= 0:
+            self.key_taken(saga, row, is_whole=True)
+        else:
+            self.leave(saga, None)
+
+    async def _whole(self, key: str) -> SagaRow | None:
+        """Return the saga with this key, with its whole input."""
+        row = await self._store.find(key)
+        if row is not None and Reference.of(row.input):
+            for (text,) in await self._store.read(INPUT, key):
+                row = row._replace(input=text)
+        return row
+
+    async def _begun(self, start: int, saga: int | None) -> None:
+        """Mark a client's start as done, with its saga or None, so that no node opens it."""
+        batch = Batch(-1, self._clock())
+        batch.rare_rows.begun.append((start, saga))
+        try:
+            await self._commits.kept(batch)
+        except SagasError:
+            self._shards.doubt()
+
+    async def find_elsewhere(self, driver: ShardDriver, rows: LoadedShard) -> None:
+        """Withdraw unconfirmed starts in a shard whose keys other sagas have.
+
+        These sagas are in another shard, or have ended in this one.
+        """
+        open_keys = {key for _, key, *_ in rows.open}
+        unconfirmed = [
+            saga for saga in driver.opens_sent if not saga.committed and saga.key not in open_keys
+        ]
+        others = await asyncio.gather(*(self._store.find(saga.key) for saga in unconfirmed))
+        for saga, other in zip(unconfirmed, others):
+            if other is not None and (other.id >= 0 or saga.guessed):
+                driver.opens_sent.pop(saga, None)
+                saga.number, saga.shard = -1, None
+                self.key_taken(saga, other)
+
+    def stop_shard(self, driver: ShardDriver) -> None:
+        """Stop what was started in a shard that another node has now.
+
+        Callers that wait check the store.
+        """
+        moved = SagaMoved("the saga moved to another node")
+        sagas, opens = list(driver.sagas.values()), [*driver.opens_sent, *driver.opens]
+        attempts = dict.fromkeys(driver.unstored_reports())
+        attempts |= {attempt: None for saga in sagas for attempt in saga.busy.values()}
+        for attempt in attempts:
+            self._executor.kept.notify(attempt, moved)
+            self._executor.forget(attempt)
+        self._executor.early.look_again(driver.number, moved)
+        for saga in sagas:
+            if saga.committed:
+                self.leave(saga, None)
+        driver.clear_opens()
+        for saga in opens:
+            if not saga.committed:
+                saga.forget()
+                saga.number, saga.shard = -1, None
+                self._spawn(self._move(saga))
+
+    def notify_closed(self, driver: ShardDriver, error: SagasError) -> None:
+        """Notify callers that wait for steps of a shard that the store is closed."""
+        self._executor.early.look_again(driver.number, error)
+        for attempt in driver.unstored_reports():
+            self._executor.kept.notify(attempt, error)
+        for saga in driver.sagas.values():
+            for attempt in saga.busy.values():
+                self._executor.kept.notify(attempt, error)  # a retry was requested
+                self._executor.changes.notify(attempt)
+
+    async def _move(self, saga: SagaInstance) -> None:
+        """Open a saga of a lost shard elsewhere, unless it is stored already."""
+        row = await until_answered(lambda: self._whole(saga.key))
+        if self._sagas.by_key.get(saga.key) is not saga:
+            return
+        if row is not None and (row.id >= 0 or saga.client_start is None):
+            self.key_taken(saga, row, is_whole=True)
+        else:
+            self._shards.assign(saga)

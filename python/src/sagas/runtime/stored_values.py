@@ -8,13 +8,12 @@ from __future__ import annotations
 
 import asyncio
 from collections.abc import AsyncIterator, Awaitable, Callable, Sequence
-from typing import Protocol, TypeVar, cast
+from typing import TypeVar, cast
 
 from sagas.base.errors import StoreUnavailable
-from sagas.base.logger import logger
 from sagas.core.batch import LoadedShard
 from sagas.core.held_values import StoredValues
-from sagas.core.model import Attempt, RUNNING
+from sagas.core.model import RUNNING, Attempt
 from sagas.core.shard import ShardDriver
 from sagas.definition.blobs import BlobUnavailable, Reference
 from sagas.definition.compiled import CompiledDefinition
@@ -141,13 +140,6 @@ OFFER_PAUSE = 2.0
 REMEDY = "they wait for a program that can. Give new fields a default"
 
 
-class CheckedShard(Protocol):
-    """A shard that is being loaded."""
-
-    driver: ShardDriver
-    has_unread: bool
-
-
 async def unreadable_sagas(
     kinds: Sequence[CompiledDefinition], rows: LoadedShard, store: Database
 ) -> AsyncIterator[str]:
@@ -176,33 +168,6 @@ async def unreadable_sagas(
             known = {step: value for step, value in known.items() if not Reference.of(value)}
         if why := kind.unread(text, known):
             yield f"saga {kind.name!r}, key {key!r}, {why}"
-
-
-async def is_left(shard: CheckedShard, rows: LoadedShard, store: Database) -> bool:
-    """Return whether a shard is left to another node, because values cannot be read.
-
-    If no other node takes it, this program logs a warning once.
-    """
-    driver = shard.driver
-    errors = [
-        error async for error in unreadable_sagas(driver.identity.definitions.kinds, rows, store)
-    ]
-    if not errors:
-        return False
-    if not is_at_work(driver) and await store.spare(driver.number):
-        logger.info("left shard %s to other nodes: %s", driver.name, errors[0])
-        return True
-    if not shard.has_unread:
-        count = "1 open saga" if len(errors) == 1 else f"{len(errors)} open sagas"
-        logger.warning(
-            "shard %s: this program cannot read %s: %s. The first one: %s",
-            driver.name,
-            count,
-            REMEDY,
-            errors[0],
-        )
-    shard.has_unread = True
-    return False
 
 
 def is_at_work(driver: ShardDriver) -> bool:
