@@ -83,7 +83,8 @@ class Dispatcher:
         self._context = contextvars.copy_context()
         self._begins, self._ended = calls.begins, calls.ended
         self._done, self._held = calls.done, calls.held_loop
-        self._batch_size, self._must_yield = coordinator.batch_size, coordinator.must_yield
+        self._batch_size = coordinator.commits.batch_size
+        self._must_yield = coordinator.sagas.must_yield
         self._batch_limit = MAX_BATCH
         self._jobs, self._inside = jobs, inside
         self._flushed_at = time.monotonic()
@@ -383,7 +384,7 @@ class Calls:
         self._threads, self._external = threads, external
         self._teller, self._clock = coordinator.teller, coordinator.clock
         self._forks, self._tracer = private_descriptors.forks, tracer
-        self.acknowledgements = Acknowledgements.of(coordinator.store)
+        self.acknowledgements: Acknowledgements | None = Acknowledgements.of(coordinator.store)
         self._called = self.acknowledgements.called if self.acknowledgements else None
         self.running: dict[Attempt, asyncio.Task[None] | None] = {}
         self._dispatcher = Dispatcher(self, coordinator, self.running)

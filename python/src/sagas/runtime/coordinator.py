@@ -18,7 +18,6 @@ from sagas.base.logger import logger
 from sagas.core import undo_check
 from sagas.core.batch import Batch, ShardRow
 from sagas.core.limits import Slots
-from sagas.core.shard import ShardDriver
 from sagas.core.states import ShardState
 from sagas.core.undo_check import CompletedChild
 from sagas.definition.shelf import DefinitionRegistry
@@ -28,9 +27,8 @@ from sagas.runtime.commit_queue import CommitQueue
 from sagas.runtime.declared_calls import DefinitionCaller
 from sagas.runtime.executor import Executor
 from sagas.runtime.external_queue import ExternalQueue
-from sagas.runtime.instances import Deadlines, Instances
+from sagas.runtime.instances import Instances
 from sagas.runtime.lifespan import Lifespan
-from sagas.runtime.shard_runner import ShardRunner
 from sagas.runtime.shards import Shards
 from sagas.storage.interface import Database
 
@@ -61,7 +59,6 @@ class Coordinator:
         declared: Calls functions of definitions.
         external: The tasks of external workers.
         waits: Functions that wait for sagas.
-        deadlines: Aborts sagas at their deadlines.
         closed: Why nothing starts any more.
         forks: The number of this process.
         refusal: Done, with the reason, when this node can no longer execute anything.
@@ -95,30 +92,13 @@ class Coordinator:
         self._timer: asyncio.TimerHandle | None = None
         self.declared = DefinitionCaller(threads)
         self.external = ExternalQueue(self)
-        self.sagas = Instances(self.loop)
+        self.sagas: Instances = Instances(self.loop)
+        self.commits: CommitQueue = CommitQueue(store, self, teller, self.loop)
         self.executor = Executor(self, self.external, concurrency, self._threads, tracer)
         if acknowledgements := self.executor.calls.acknowledgements:
             acknowledgements.follow(self.sagas, self.executor.kept)
         self.executor.slots.is_fair = any(saga.fair_by for saga in registry.sagas.values())
-        self.commits: CommitQueue = CommitQueue(store, self, teller, self.loop)
-        self.shards: Shards = Shards(
-            store,
-            registry,
-            program,
-            engine_processes,
-            self.sagas,
-            self.executor,
-            self.commits,
-            self.external,
-            clock,
-            teller,
-            self.spawn,
-            self.look,
-            idle,
-        )
-        self.deadlines = Deadlines(self.sagas, self.shards.abort, teller, clock)
-        self.sagas.on_executed = self.deadlines.add
-        self.shards.abort_overdue = self.deadlines.look
+        self.shards: Shards = Shards(self, program, engine_processes, idle)
         self.waits = DeadlockCheck(self)
         self.listeners.append(self.executor.children.look)
         self._lifespan = Lifespan(context, registry.context)
@@ -172,7 +152,7 @@ class Coordinator:
         """
         self.shards.tick()
         self.waits.look()
-        self.deadlines.look()
+        self.shards.deadlines.look()
         self.executor.keep_progress()
         now = time.monotonic()
         if self.store.shared and now >= offered + stored_values.OFFER_PAUSE:
@@ -221,7 +201,7 @@ class Coordinator:
         """Return the shards that this program executes, or is about to close."""
         return self.shards.numbers()
 
-    # -- load (`commit_queue.CommitLoad`, `dispatcher.TurnPolicy`)
+    # -- load (`commit_queue.CommitLoad`)
 
     def coming(self) -> int:
         """Return how many calls are on their way to a commit."""
@@ -234,14 +214,6 @@ class Coordinator:
     def is_alone(self) -> bool:
         """Return whether there is one saga, and no function runs."""
         return not self.slots.running and len(self.sagas.by_key) == 1
-
-    def batch_size(self, ready: int) -> int:
-        """Return how many of `ready` calls are reported at once."""
-        return self.commits.batch_size(ready)
-
-    def must_yield(self) -> bool:
-        """Return whether callers get their turn before further functions are called."""
-        return self.sagas.must_yield()
 
     @property
     def slots(self) -> Slots:
@@ -257,10 +229,6 @@ class Coordinator:
     def _feed(self) -> None:
         self._is_feeding = False
         self.slots.feed()
-
-    def runner(self, shard: ShardDriver) -> ShardRunner | None:
-        """Return the runner of a shard; None if this program no longer has the shard."""
-        return self.shards.runner(shard)
 
     # -- in the background
 
@@ -460,7 +428,7 @@ class DeadlockCheck:
         if saga is None or not saga.committed or saga.over or not self._is_quiet(saga):
             return False
         if not saga.busy:
-            runner = self._coordinator.runner(saga.shard) if saga.shard else None
+            runner = self._coordinator.shards.runner(saga.shard) if saga.shard else None
             return runner is not None and self._coordinator.slots.is_shard_waiting(runner)
         return any(
             attempt in self._waits or self._coordinator.slots.is_waiting(attempt)

@@ -1,4 +1,7 @@
-"""Carries out the decisions of `AttemptMachine`, and stores reports that arrive before their steps."""
+"""Carries out the decisions of `AttemptMachine`.
+
+It also stores reports that arrive before their steps start.
+"""
 
 from __future__ import annotations
 
@@ -77,11 +80,11 @@ class Executor:
         self.slots: Slots = Slots(concurrency, self._start, coordinator.feed)
         self.fleet: Fleet = Fleet(coordinator, self.slots.enter)
         self.values: ValueReader = ValueReader(coordinator.store, self._unread)
-        self.calls = Calls(self, coordinator, external, threads, tracer)
+        self.calls: Calls = Calls(self, coordinator, external, threads, tracer)
         self.changes: Waiters[Attempt] = Waiters(coordinator.loop)
         self.kept: Waiters[Attempt] = Waiters(coordinator.loop)
         self.children = Children(coordinator, self, self.values)
-        self.early = EarlyReports(coordinator, coordinator.clock)
+        self.early: EarlyReports = EarlyReports(coordinator, coordinator.clock)
         self._timers: dict[Attempt, asyncio.TimerHandle] = {}
         self._doubted: set[Attempt] = set()  # reports of their workers are being looked up
         self.closing: bool = False
@@ -282,7 +285,7 @@ class Executor:
             assert shard
             shard.reports[attempt] = shards[shard] = None
         for shard in shards:
-            if runner := self._coordinator.runner(shard):
+            if runner := self._coordinator.shards.runner(shard):
                 runner.poke(at_once=True)
 
     def keep_progress(self) -> None:
@@ -295,7 +298,7 @@ class Executor:
                 effects = shards.setdefault(shard, shard.effects(now))
                 effects.batch.rare_rows.progress.append((*attempt.row, *control.progress, now))
         for shard, effects in shards.items():
-            if runner := self._coordinator.runner(shard):
+            if runner := self._coordinator.shards.runner(shard):
                 runner.keep(effects)
 
     def finish(self, attempt: Attempt, outcome: Outcome) -> None:
@@ -352,7 +355,7 @@ class Executor:
 
     def _runner(self, attempt: Attempt) -> ShardRunner | None:
         shard = attempt.instance.shard
-        return self._coordinator.runner(shard) if shard else None
+        return self._coordinator.shards.runner(shard) if shard else None
 
     # -- reports that were not stored
 
@@ -499,7 +502,7 @@ class EarlyReports:
             NotSerializable: The codec failed.
         """
         shard = report.saga.shard
-        runner = self._coordinator.runner(shard) if shard else None
+        runner = self._coordinator.shards.runner(shard) if shard else None
         if shard is None or runner is None:
             raise SagaMoved(f"saga {report.saga.key!r}")
         effects = early_reports.effects(shard, report, self._clock()) if shard.is_current else None

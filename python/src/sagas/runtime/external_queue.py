@@ -163,7 +163,7 @@ class ExternalQueue:
 
     def _store_offer(self, attempt: Attempt) -> None:
         shard = attempt.instance.shard
-        if shard and (runner := self.coordinator.runner(shard)):
+        if shard and (runner := self.coordinator.shards.runner(shard)):
             runner.keep(shard.offered(attempt, self.coordinator.clock()))
 
     def offered(self, attempt: Attempt) -> None:
@@ -186,7 +186,7 @@ class ExternalQueue:
         if self._is_moving(attempt):
             return  # the saga is drained again when the offer is stored
         shard = attempt.instance.shard
-        if shard and (runner := self.coordinator.runner(shard)):
+        if shard and (runner := self.coordinator.shards.runner(shard)):
             self._withdrawing.add(attempt)
             runner.keep(shard.withdrawn(attempt, self.coordinator.clock()))
 

@@ -2,19 +2,15 @@
 
 from __future__ import annotations
 
-import asyncio
-import dataclasses
 import time
-from collections.abc import Callable, Collection, Coroutine, Sequence
+from collections.abc import Collection, Sequence
 from typing import TYPE_CHECKING
 
 from sagas.base.errors import DamagedShard, SagasError
-from sagas.base.events import EventEmitter
 from sagas.base.logger import logger
 from sagas.core import early_reports, recovery
 from sagas.core.batch import LoadedShard
 from sagas.core.effects import NO_RARE_EFFECTS, Abort, Effects, RareEffects
-from sagas.core.limits import Slots
 from sagas.core.model import Attempt, SagaInstance
 from sagas.core.recovery import Recovery
 from sagas.core.replies import EngineDisagrees
@@ -22,16 +18,12 @@ from sagas.core.shard import MAX_REPORTS, ShardDriver
 from sagas.core.states import ShardState, saga_phase, undo_failures
 from sagas.core.suspensions import SuspensionRow
 from sagas.definition.payloads import ABSENT
-from sagas.engine.pool import EnginePool
 from sagas.engine.process import EngineProcess, Listener
 from sagas.runtime import stored_values
-from sagas.runtime.commit_queue import CommitQueue
-from sagas.runtime.executor import Executor
-from sagas.runtime.instances import Instances, conflict
-from sagas.storage.interface import Database
+from sagas.runtime.instances import conflict
 
 if TYPE_CHECKING:
-    from sagas.runtime.external_queue import ExternalQueue
+    from sagas.runtime.coordinator import Coordinator
     from sagas.runtime.shards import Shards
 
 FEW = 64  # number of requests that are answered quickly
@@ -40,23 +32,6 @@ FIRST_PAUSE, MAX_PAUSE = 0.02, 2.0  # seconds until a shard is loaded again
 PAUSE_ASIDE = 60.0  # seconds until a shard that is set aside is loaded again
 STALE, LOADING, IDLE = ShardState.STALE, ShardState.LOADING, ShardState.IDLE
 STARTING, ACTIVE, CLOSED = ShardState.STARTING, ShardState.ACTIVE, ShardState.CLOSED
-
-
-@dataclasses.dataclass(frozen=True, slots=True)
-class Parts:
-    """The parts that all shards of a program share."""
-
-    store: Database
-    program: str
-    loop: asyncio.AbstractEventLoop
-    clock: Callable[[], float]
-    teller: EventEmitter
-    sagas: Instances
-    slots: Slots
-    commits: CommitQueue
-    engines: EnginePool[ShardRunner]
-    effects: EffectHandler
-    spawn: Callable[[Coroutine[None, None, None]], object]
 
 
 class ShardRunner:
@@ -72,7 +47,7 @@ class ShardRunner:
         used: When its engine was last asked, by the monotonic clock.
     """
 
-    def __init__(self, driver: ShardDriver, parts: Parts, shards: Shards) -> None:
+    def __init__(self, driver: ShardDriver, coordinator: Coordinator, shards: Shards) -> None:
         self.driver = driver
         self.engine: EngineProcess | None = None
         self.fault: BaseException | None = None
@@ -80,9 +55,10 @@ class ShardRunner:
         self.note: str | None = None
         self.has_unread = False
         self.used = 0.0
-        self._parts, self._shards = parts, shards
-        self._slots, self._engines, self._commits = parts.slots, parts.engines, parts.commits
-        self._effects, self._clock, self._loop = parts.effects, parts.clock, parts.loop
+        self._coordinator, self._store, self._shards = coordinator, coordinator.store, shards
+        self._slots, self._engines = coordinator.executor.slots, shards.engines
+        self._commits, self._effects = coordinator.commits, shards.effects
+        self._clock, self._loop = coordinator.clock, coordinator.loop
         self._woke = self._pause = 0.0
         self._is_scheduled = self._is_coming = False
         self._rows: LoadedShard | None = None  # the rows that it is recovered from
@@ -135,8 +111,9 @@ class ShardRunner:
             self._loop.call_soon(self.give_up_engine)
             if not self.driver.commits_in_flight:
                 return
-        self._shards.abort_overdue()
-        self._shards.fill(self)
+        self._shards.deadlines.look()
+        if self._shards.placement.waiting:
+            self._shards.placement.fill(self)
         if self.driver.state is not ACTIVE or engine.unanswered:  # another shard took its engine
             return
         lines = [] if self.driver.needs_new_engine else self._requests()
@@ -161,7 +138,7 @@ class ShardRunner:
             self.engine = None
             self.driver.set_state(IDLE)
             self.driver.set_state(STARTING)
-            self._parts.spawn(self._start())
+            self._coordinator.spawn(self._start())
 
     def _requests(self) -> list[str]:
         is_closing, driver = self._shards.is_closing, self.driver
@@ -311,10 +288,10 @@ class ShardRunner:
         """Start an engine, which the pool has granted."""
         if self.driver.state is STALE:
             self.driver.set_state(LOADING)
-            self._parts.spawn(self._load())
+            self._coordinator.spawn(self._load())
         elif self.driver.state is IDLE:
             self.driver.set_state(STARTING)
-            self._parts.spawn(self._start())
+            self._coordinator.spawn(self._start())
         else:
             self._engines.release(self)
 
@@ -322,14 +299,14 @@ class ShardRunner:
         """Start an engine on the shard, unless another node has written the shard."""
         driver = self.driver
         try:
-            taken = await self._parts.store.take_up(driver.number, driver.epoch)
+            taken = await self._store.take_up(driver.number, driver.epoch)
             if driver.state is not STARTING:
                 return
             if taken is None:  # another node may own it: load it again, as after a failure
                 self.fail(None)
                 return
             text, driver.events = taken
-            self.engine = engine_on(self._parts, driver, text, self)
+            self.engine = engine_on(self._shards.program, driver, text, self)
         except Exception as error:
             self.fail(named(error))
             return
@@ -347,7 +324,7 @@ class ShardRunner:
             return
         if self.driver.state is ACTIVE:
             detail = f"shard {self.driver.name}: {last}"
-            self._parts.teller.emit("engine_died", detail=detail)
+            self._coordinator.teller.emit("engine_died", detail=detail)
             self.fail(None)
         else:  # while the shard was loaded
             self.engine = self._rows = None
@@ -401,7 +378,7 @@ class ShardRunner:
         """Read the shard from the store, and start an engine on it."""
         driver = self.driver
         try:
-            rows = await self._parts.store.load(driver.number, driver.epoch, driver.new_shard)
+            rows = await self._store.load(driver.number, driver.epoch, driver.new_shard)
             if driver.state is not LOADING:
                 return
             if rows is not None and (damage := recovery.damage_of(rows, driver)):
@@ -417,7 +394,7 @@ class ShardRunner:
             if driver.state is not LOADING:
                 return
             self._shards.reopen(driver, rows, self.fault)
-            self.engine = engine_on(self._parts, driver, rows.text, self)
+            self.engine = engine_on(self._shards.program, driver, rows.text, self)
         except Exception as error:
             if driver.state is LOADING:
                 self._shards.reopen(driver, None, fault := named(error))
@@ -431,7 +408,7 @@ class ShardRunner:
 
         If no other node takes it, this program logs a warning once.
         """
-        driver, store = self.driver, self._parts.store
+        driver, store = self.driver, self._store
         kinds = driver.identity.definitions.kinds
         errors = [error async for error in stored_values.unreadable_sagas(kinds, rows, store)]
         if not errors:
@@ -453,8 +430,8 @@ class ShardRunner:
 
     def _recover(self, rows: LoadedShard, replies: list[str], log_text: str) -> None:
         """Set the driver to the stored state, and continue what was started."""
-        self._rows, driver, store = None, self.driver, self._parts.store
-        known = self._parts.sagas.by_key
+        self._rows, driver, store = None, self.driver, self._store
+        known = self._coordinator.sagas.by_key
         try:
             recovered = recovery.recover(
                 rows, replies, self._clock(), driver, known, store.shared, self._overdue, log_text
@@ -489,17 +466,11 @@ class ShardRunner:
 class EffectHandler:
     """Carries out effects: some at once, others after their batch is durable."""
 
-    def __init__(
-        self,
-        executor: Executor,
-        sagas: Instances,
-        teller: EventEmitter,
-        shards: Shards,
-        offers: ExternalQueue,
-    ) -> None:
-        self._executor, self._slots, self._sagas = executor, executor.slots, sagas
-        self._teller, self._shards, self._offers = teller, shards, offers
-        self._acknowledgements = executor.calls.acknowledgements
+    def __init__(self, coordinator: Coordinator, shards: Shards) -> None:
+        self._executor, self._slots = coordinator.executor, coordinator.executor.slots
+        self._sagas, self._teller = coordinator.sagas, coordinator.teller
+        self._shards, self._offers = shards, coordinator.external
+        self._acknowledgements = coordinator.executor.calls.acknowledgements
 
     def at_once(self, effects: Effects) -> None:
         """Carry out the effects that do not wait for the commit."""
@@ -665,11 +636,11 @@ class EffectHandler:
 
 
 def engine_on(
-    parts: Parts, driver: ShardDriver, log_text: str, listener: Listener
+    program: str, driver: ShardDriver, log_text: str, listener: Listener
 ) -> EngineProcess:
     """Start an engine on a shard's event log, with all definitions of the shard."""
     definitions = driver.identity.definitions
-    engine = EngineProcess(parts.program, definitions.texts, log_text, listener)
+    engine = EngineProcess(program, definitions.texts, log_text, listener)
     definitions.started()
     return engine
 

@@ -9,11 +9,10 @@ import asyncio
 import contextlib
 import secrets
 import time
-from collections.abc import Callable, Coroutine
+from collections.abc import Callable
 from typing import TYPE_CHECKING
 
 from sagas.base.errors import DamagedShard, EngineError, SagaMoved, SagasError, StoreUnavailable
-from sagas.base.events import EventEmitter
 from sagas.base.logger import logger
 from sagas.core import recovery
 from sagas.core.batch import Batch, LoadedShard, RequestRef, SagaRow, ShardRow
@@ -24,20 +23,17 @@ from sagas.core.shard_definitions import ShardDefinitions
 from sagas.core.states import ShardState
 from sagas.definition.blobs import Reference
 from sagas.definition.compiled import CompiledDefinition
-from sagas.definition.shelf import DefinitionRegistry, DefinitionSet
+from sagas.definition.shelf import DefinitionSet
 from sagas.engine.pool import EnginePool
 from sagas.engine.process import EngineProcess
 from sagas.runtime import stored_values
 from sagas.runtime.audits import Auditor
-from sagas.runtime.commit_queue import CommitQueue
-from sagas.runtime.executor import Executor
-from sagas.runtime.instances import INPUT, Instances, conflict
-from sagas.runtime.shard_runner import EffectHandler, Parts, ShardRunner
+from sagas.runtime.instances import INPUT, Deadlines, conflict
+from sagas.runtime.shard_runner import EffectHandler, ShardRunner
 from sagas.runtime.stored_values import until_answered
-from sagas.storage.interface import Database
 
 if TYPE_CHECKING:
-    from sagas.runtime.external_queue import ExternalQueue
+    from sagas.runtime.coordinator import Coordinator
 
 STALE, ACTIVE, IDLE = ShardState.STALE, ShardState.ACTIVE, ShardState.IDLE
 RETRY_DELAY = 1.0
@@ -72,58 +68,42 @@ class Shards:
 
     Attributes:
         runners: The shards, by number.
+        program: The program `sagas`.
         engines: Their engine processes.
         auditor: Audits finished shards.
+        placement: Assigns new sagas to shards.
         relocation: Moves sagas between shards and nodes.
+        effects: Carries out the effects of the shards.
         closed: Why nothing starts any more.
         is_closing: Whether nothing starts any more.
         start_doubt: Whether claimed starts of clients may be lost.
-        abort_overdue: Aborts the sagas whose deadlines have passed.
+        deadlines: Aborts the sagas whose deadlines have passed.
     """
 
     def __init__(
-        self,
-        store: Database,
-        definitions: DefinitionRegistry,
-        program: str,
-        engines: int,
-        sagas: Instances,
-        executor: Executor,
-        commits: CommitQueue,
-        offers: ExternalQueue,
-        clock: Callable[[], float],
-        teller: EventEmitter,
-        spawn: Callable[[Coroutine[None, None, None]], asyncio.Task[None]],
-        look: Callable[[], None],
-        idle: float,
+        self, coordinator: Coordinator, program: str, engine_processes: int, idle: float
     ) -> None:
-        self._store, self._definitions, self._sagas = store, definitions, sagas
-        self._teller, self._spawn, self._commits = teller, spawn, commits
-        self._loop = asyncio.get_running_loop()
-        self.runners: dict[int, ShardRunner] = {}
-        self.engines: EnginePool[ShardRunner] = EnginePool(engines)
-        self.auditor = Auditor(store, program, commits, clock, teller)
-        self.closed: SagasError | None = None
-        self.is_closing = False
-        self.abort_overdue: Callable[[], None] = lambda: None
-        self.start_doubt = StartDoubt(self._loop, look)
-        self._idle = idle
-        self._placement = Placement(store, definitions, sagas, self._loop, self)
-        self.relocation = Relocation(store, sagas, executor, commits, clock, spawn, self)
-        effects = EffectHandler(executor, sagas, teller, self, offers)
-        self._parts = Parts(
-            store,
-            program,
-            self._loop,
-            clock,
-            teller,
-            sagas,
-            executor.slots,
-            commits,
-            self.engines,
-            effects,
-            spawn,
+        self._store, self._definitions = coordinator.store, coordinator.registry
+        self._sagas, self._commits, self._clock = (
+            coordinator.sagas,
+            coordinator.commits,
+            coordinator.clock,
         )
+        self._teller, self._spawn = coordinator.teller, coordinator.spawn
+        self._coordinator, self._loop = coordinator, coordinator.loop
+        self.program: str = program
+        self._idle = idle
+        self.runners: dict[int, ShardRunner] = {}
+        self.engines: EnginePool[ShardRunner] = EnginePool(engine_processes)
+        self.auditor = Auditor(self._store, program, self._commits, self._clock, self._teller)
+        self.closed: SagasError | None = None
+        self.is_closing: bool = False
+        self.start_doubt = StartDoubt(self._loop, coordinator.look)
+        self.deadlines: Deadlines = Deadlines(self._sagas, self.abort, self._teller, self._clock)
+        self._sagas.on_executed = self.deadlines.add
+        self.placement: Placement = Placement(coordinator, self)
+        self.relocation: Relocation = Relocation(coordinator, self)
+        self.effects: EffectHandler = EffectHandler(coordinator, self)
         self._opening = Opening()
         self._closing: dict[int, asyncio.Task[None]] = {}  # finished, and not marked as closed
         self._change: asyncio.Future[None] | None = None
@@ -173,7 +153,7 @@ class Shards:
 
     def run(self, driver: ShardDriver) -> ShardRunner:
         """Execute a shard from now on."""
-        runner = self.runners[driver.number] = ShardRunner(driver, self._parts, self)
+        runner = self.runners[driver.number] = ShardRunner(driver, self._coordinator, self)
         return runner
 
     def taken(self, rows: list[ShardRow]) -> None:
@@ -206,7 +186,7 @@ class Shards:
             return
         runner.is_set_aside, driver = True, runner.driver
         self._spawn(self._report(runner, error))
-        self._placement.forget(runner)
+        self.placement.forget(runner)
         driver.is_full = True
         sent, unsent = recovery.take_unopened(driver, None, self._sagas.by_key)
         for saga in sent:
@@ -230,7 +210,7 @@ class Shards:
     async def _note(self, runner: ShardRunner, why: str | None) -> None:
         """Store why no program can open a shard. If that fails, the next try stores it."""
         driver = runner.driver
-        batch = Batch(driver.number, self._parts.clock(), epoch=driver.epoch)
+        batch = Batch(driver.number, self._clock(), epoch=driver.epoch)
         batch.rare_rows.set_aside = (why,)
         with contextlib.suppress(SagasError):
             await self._commits.kept(batch)
@@ -283,7 +263,7 @@ class Shards:
     def coming(self) -> int:
         """Return how many replies of engines, and how many new sagas, are expected."""
         pending = sum(runner.pending_answers() for runner in self.engines.borrowers())
-        return pending + len(self._placement.waiting)
+        return pending + len(self.placement.waiting)
 
     def abort(self, saga: SagaInstance, command: RequestRef = None) -> asyncio.Future[bool]:
         """Ask to abort a saga; return a future of whether this command aborts it."""
@@ -299,12 +279,7 @@ class Shards:
 
     def assign(self, saga: SagaInstance) -> None:
         """Open a saga in a shard."""
-        self._placement.assign(saga)
-
-    def fill(self, asker: ShardRunner) -> None:
-        """Assign waiting sagas to shards. `asker` is about to ask its engine."""
-        if self._placement.waiting:
-            self._placement.fill(asker)
+        self.placement.assign(saga)
 
     def withdraw(self, saga: SagaInstance) -> None:
         """Do not open a saga in any shard."""
@@ -364,7 +339,7 @@ class Shards:
         """
         self._teller.emit("lease_expired")
         if is_older:
-            self._placement.current.clear()
+            self.placement.current.clear()
             self._forget_closing()
             for runner in self.runners.values():
                 runner.driver.is_full = True
@@ -398,9 +373,9 @@ class Shards:
 
     def _stop(self, runner: ShardRunner) -> None:
         runner.stop()
-        self._parts.effects.over(runner.driver.sagas.values())
+        self.effects.over(runner.driver.sagas.values())
         self.runners.pop(runner.driver.number, None)
-        self._placement.forget(runner)
+        self.placement.forget(runner)
 
     # -- end
 
@@ -416,7 +391,7 @@ class Shards:
         driver = runner.driver
         if not driver.is_over or driver.state not in (ACTIVE, IDLE):
             return
-        is_current = self._placement.is_current(runner)
+        is_current = self.placement.is_current(runner)
         takes_more = is_current and not driver.is_full and driver.opened < self._definitions.room
         if self.closed or driver.new_shard or takes_more:
             return
@@ -540,16 +515,9 @@ class Placement:
         waiting: Sagas that are assigned in this turn of the loop.
     """
 
-    def __init__(
-        self,
-        store: Database,
-        definitions: DefinitionRegistry,
-        sagas: Instances,
-        loop: asyncio.AbstractEventLoop,
-        shards: Shards,
-    ) -> None:
-        self._store, self._definitions, self._sagas = store, definitions, sagas
-        self._loop, self._shards = loop, shards
+    def __init__(self, coordinator: Coordinator, shards: Shards) -> None:
+        self._store, self._definitions = coordinator.store, coordinator.registry
+        self._sagas, self._loop, self._shards = coordinator.sagas, coordinator.loop, shards
         self.current: dict[str, ShardRunner] = {}
         self.waiting: list[SagaInstance] = []
 
@@ -635,18 +603,10 @@ class Placement:
 class Relocation:
     """Releases sagas that other nodes execute, and opens sagas in another shard."""
 
-    def __init__(
-        self,
-        store: Database,
-        sagas: Instances,
-        executor: Executor,
-        commits: CommitQueue,
-        clock: Callable[[], float],
-        spawn: Callable[[Coroutine[None, None, None]], object],
-        shards: Shards,
-    ) -> None:
-        self._store, self._sagas, self._executor, self._commits = store, sagas, executor, commits
-        self._clock, self._spawn, self._shards = clock, spawn, shards
+    def __init__(self, coordinator: Coordinator, shards: Shards) -> None:
+        self._store, self._sagas = coordinator.store, coordinator.sagas
+        self._executor, self._commits = coordinator.executor, coordinator.commits
+        self._clock, self._spawn, self._shards = coordinator.clock, coordinator.spawn, shards
 
     def leave(self, saga: SagaInstance, error: SagasError | None) -> None:
         """Stop executing a saga here.

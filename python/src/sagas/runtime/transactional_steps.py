@@ -200,8 +200,8 @@ class Transactions:
         """Call a function as `invocation.call` does, and commit its transaction.
 
         If the function did nothing over its connection, nothing is committed, and no record is
-        written. Raises `ShardLost` if it is unknown whether the transaction was committed, or if another
-        node owns the shard. Then the record is looked up.
+        written. Raises `ShardLost` if it is unknown whether the transaction was committed, or if
+        another node owns the shard. Then the record is looked up.
         """
         function = manner.function
         assert function
