@@ -26,6 +26,9 @@ SLOW_AFTER = 0.01
 """Seconds after which a function counts as slow, and another thread calls the next ones."""
 DELIVERY_INTERVAL = 0.001
 """Seconds after which a thread delivers its results to the loop, and continues."""
+T = TypeVar("T")
+MIN_THREADS = 4
+"""Minimum number of threads. Slow functions of one definition use only some of them."""
 
 
 class Call(NamedTuple):
@@ -201,11 +204,6 @@ def _called(call: Call) -> tuple[Any, Exception | None]:
     finally:
         if os.getpid() != pid:  # a forked child process returned here, and has no loop
             os._exit(FORKED)
-
-
-T = TypeVar("T")
-MIN_THREADS = 4
-"""Minimum number of threads. Slow functions of one definition use only some of them."""
 
 
 class DefinitionCaller:

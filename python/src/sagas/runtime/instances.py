@@ -28,6 +28,9 @@ if TYPE_CHECKING:
 K = TypeVar("K")
 MANY = 64
 """After each such number of callers of an event, cancelled ones are dropped."""
+MAX_ENTRIES = 1000
+"""Number of deadlines at which those of ended sagas are dropped."""
+INPUT = "SELECT input FROM sagas WHERE key = ?"
 
 
 class Waiters(Generic[K]):
@@ -201,10 +204,6 @@ class Instances:
             self._empty.set()
 
 
-MAX_ENTRIES = 1000
-"""Number of deadlines at which those of ended sagas are dropped."""
-
-
 class Deadlines:
     """The deadlines of the open sagas of this program, the next one first.
 
@@ -258,9 +257,6 @@ def _ignore_result(aborted: asyncio.Future[bool]) -> None:
     """
     if not aborted.cancelled():
         aborted.exception()
-
-
-INPUT = "SELECT input FROM sagas WHERE key = ?"
 
 
 def conflict(

@@ -34,6 +34,8 @@ _BLOCKS: ContextVar[Attempt | None] = ContextVar("sagas_blocks", default=None)
 """The attempt whose thread is blocked until a call in the store's loop returns."""
 _THREAD: ContextVar[int | None] = ContextVar("sagas_thread", default=None)
 """The thread that runs the plain function."""
+MAX_FRAMES = 12
+"""Maximum number of frames that are named: the innermost and the outermost ones."""
 
 
 @contextlib.contextmanager
@@ -67,10 +69,6 @@ def waiter(running: Running) -> Attempt | None:
         return None
     is_here = _BLOCKS.get() is attempt or asyncio.current_task() is running[attempt]
     return attempt if is_here else None
-
-
-MAX_FRAMES = 12
-"""Maximum number of frames that are named: the innermost and the outermost ones."""
 
 
 async def ended(work: Awaitable[Any], task: Task[Any]) -> Outcome:

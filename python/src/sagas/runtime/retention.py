@@ -1,4 +1,4 @@
-"""Deletes ended sagas after their retention.
+"""Deletes ended sagas after their retention, and large values that no row refers to any more.
 
 A whole closed shard is deleted when the retention of all its sagas is over. If an archive directory
 is given, the shard is exported first.
@@ -70,6 +70,13 @@ IS_DAMAGED = "(closed = 2 OR (closed = 0 AND audit IS NOT NULL))"
 OF_LOG = (
     "DELETE FROM event_log WHERE shard = ?",
     "DELETE FROM shard_definitions WHERE shard = ?",
+)
+DAY = 86_400.0
+"""Seconds between two sweeps of blobs. Between two checks of the blob store's owner is an hour."""
+COPY = (
+    "%s: the values in the blob store belong to %s, and this store is a copy of it. No value is "
+    "deleted. Give this store its own blob store, with a copy of the values. Or run `sagas store "
+    "STORE own-blobs --blobs ...` if this store replaces the original"
 )
 
 
@@ -241,15 +248,6 @@ async def keep(
             )
             pause = HOUR
         await asyncio.sleep(min(pause, max(1.0, seconds / 24)))
-
-
-DAY, HOUR = 86_400.0, 3600.0
-"""Seconds between two sweeps, and between two checks of the blob store's owner."""
-COPY = (
-    "%s: the values in the blob store belong to %s, and this store is a copy of it. No value is "
-    "deleted. Give this store its own blob store, with a copy of the values. Or run `sagas store "
-    "STORE own-blobs --blobs ...` if this store replaces the original"
-)
 
 
 async def sweep_blobs(database: BlobDatabase) -> None:

@@ -23,6 +23,19 @@ from sagas.storage.interface import Database
 T = TypeVar("T")
 FIRST_PAUSE, MAX_PAUSE = 0.02, 2.0
 """Seconds until the store is asked again: the first and the longest pause."""
+AT_ONCE = 4
+"""Maximum number of attempts whose values are read at once, to limit the memory."""
+INPUT = """
+SELECT s.input, (SELECT p.shape FROM shapes p WHERE p.id = s.id) FROM sagas s WHERE s.id = ?
+"""
+RESULTS = """
+SELECT step, value FROM attempts WHERE id = ? AND action = 'run' AND event = 'commit' AND step IN
+"""
+MANY = 32
+"""Number of sagas that are checked in one turn of the loop."""
+OFFER_PAUSE = 2.0
+"""Seconds between checks whether another node can take the shard."""
+REMEDY = "they wait for a program that can. Give new fields a default"
 
 
 async def until_answered(ask: Callable[[], Awaitable[T]], with_blobs: bool = True) -> T:
@@ -42,16 +55,6 @@ async def until_answered(ask: Callable[[], Awaitable[T]], with_blobs: bool = Tru
                 raise
             await asyncio.sleep(pause)
             pause = min(MAX_PAUSE, 2 * pause)
-
-
-AT_ONCE = 4
-"""Maximum number of attempts whose values are read at once, to limit the memory."""
-INPUT = """
-SELECT s.input, (SELECT p.shape FROM shapes p WHERE p.id = s.id) FROM sagas s WHERE s.id = ?
-"""
-RESULTS = """
-SELECT step, value FROM attempts WHERE id = ? AND action = 'run' AND event = 'commit' AND step IN
-"""
 
 
 async def values_of(
@@ -131,13 +134,6 @@ class ValueReader:
         )
         if stored is not None:  # otherwise the saga and the attempt are gone
             instance.fill(stored, attempt.results)
-
-
-MANY = 32
-"""Number of sagas that are checked in one turn of the loop."""
-OFFER_PAUSE = 2.0
-"""Seconds between checks whether another node can take the shard."""
-REMEDY = "they wait for a program that can. Give new fields a default"
 
 
 async def unreadable_sagas(
