@@ -38,7 +38,6 @@ from sagas.runtime.invocation import CALLED
 if TYPE_CHECKING:
     from sagas.runtime.coordinator import Coordinator
     from sagas.runtime.executor import Executor
-    from sagas.runtime.external_queue import ExternalQueue
 
 QUIET = 1.0
 """Seconds that closing waits before it logs which functions it waits for."""
@@ -375,13 +374,12 @@ class Calls:
         self,
         executor: Executor,
         coordinator: Coordinator,
-        external: ExternalQueue,
         threads: Threads,
         tracer: Tracer | None,
     ) -> None:
         self._executor, self._store = executor, coordinator.store
         self._slots, self._fleet, self._fill = executor.slots, executor.fleet, executor.values.fill
-        self._threads, self._external = threads, external
+        self._threads, self._external = threads, coordinator.external
         self._teller, self._clock = coordinator.teller, coordinator.clock
         self._forks, self._tracer = private_descriptors.forks, tracer
         self.acknowledgements: Acknowledgements | None = Acknowledgements.of(coordinator.store)

@@ -91,10 +91,10 @@ class Coordinator:
         self._jobs: set[asyncio.Task[None]] = set()
         self._timer: asyncio.TimerHandle | None = None
         self.declared = DefinitionCaller(threads)
-        self.external = ExternalQueue(self)
+        self.external: ExternalQueue = ExternalQueue(self)
         self.sagas: Instances = Instances(self.loop)
         self.commits: CommitQueue = CommitQueue(store, self, teller, self.loop)
-        self.executor = Executor(self, self.external, concurrency, self._threads, tracer)
+        self.executor = Executor(self, concurrency, self._threads, tracer)
         if acknowledgements := self.executor.calls.acknowledgements:
             acknowledgements.follow(self.sagas, self.executor.kept)
         self.executor.slots.is_fair = any(saga.fair_by for saga in registry.sagas.values())

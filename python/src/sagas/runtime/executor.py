@@ -37,7 +37,6 @@ from sagas.runtime.stored_values import ValueReader
 
 if TYPE_CHECKING:
     from sagas.runtime.coordinator import Coordinator
-    from sagas.runtime.external_queue import ExternalQueue
     from sagas.runtime.shard_runner import ShardRunner
 
 UNDECIDED = (Do.READ, Do.ASK)
@@ -65,26 +64,22 @@ class Executor:
     def __init__(
         self,
         coordinator: Coordinator,
-        external: ExternalQueue,
         concurrency: int,
         threads: Threads,
         tracer: Tracer | None = None,
     ) -> None:
-        self._coordinator, self._external = coordinator, external
-        self._loop, self._clock, self._teller = (
-            coordinator.loop,
-            coordinator.clock,
-            coordinator.teller,
-        )
+        self._coordinator, self._external = coordinator, coordinator.external
+        self._loop, self._clock = coordinator.loop, coordinator.clock
+        self._teller = coordinator.teller
         self.machine = AttemptMachine()
         self.slots: Slots = Slots(concurrency, self._start, coordinator.feed)
         self.fleet: Fleet = Fleet(coordinator, self.slots.enter)
         self.values: ValueReader = ValueReader(coordinator.store, self._unread)
-        self.calls: Calls = Calls(self, coordinator, external, threads, tracer)
+        self.calls: Calls = Calls(self, coordinator, threads, tracer)
         self.changes: Waiters[Attempt] = Waiters(coordinator.loop)
         self.kept: Waiters[Attempt] = Waiters(coordinator.loop)
         self.children = Children(coordinator, self, self.values)
-        self.early: EarlyReports = EarlyReports(coordinator, coordinator.clock)
+        self.early: EarlyReports = EarlyReports(coordinator)
         self._timers: dict[Attempt, asyncio.TimerHandle] = {}
         self._doubted: set[Attempt] = set()  # reports of their workers are being looked up
         self.closing: bool = False
@@ -487,8 +482,8 @@ class EarlyReports:
     A shard that has to be recovered does not write them. Then the callers check the store again.
     """
 
-    def __init__(self, coordinator: Coordinator, clock: Callable[[], float]) -> None:
-        self._coordinator, self._clock = coordinator, clock
+    def __init__(self, coordinator: Coordinator) -> None:
+        self._coordinator, self._clock = coordinator, coordinator.clock
         self._waiting: dict[EarlyReport | Refusal, asyncio.Future[None]] = {}
 
     def put(self, report: EarlyReport | Refusal) -> asyncio.Future[None]:

@@ -84,12 +84,9 @@ class Shards:
         self, coordinator: Coordinator, program: str, engine_processes: int, idle: float
     ) -> None:
         self._store, self._definitions = coordinator.store, coordinator.registry
-        self._sagas, self._commits, self._clock = (
-            coordinator.sagas,
-            coordinator.commits,
-            coordinator.clock,
-        )
-        self._teller, self._spawn = coordinator.teller, coordinator.spawn
+        self._sagas, self._commits = coordinator.sagas, coordinator.commits
+        self._clock, self._teller = coordinator.clock, coordinator.teller
+        self._spawn = coordinator.spawn
         self._coordinator, self._loop = coordinator, coordinator.loop
         self.program: str = program
         self._idle = idle
