@@ -93,7 +93,9 @@ def awaits_worker(attempt: Attempt) -> bool:
 
 
 class ExternalQueue:
-    """Offers attempts to workers, and hands them out under leases.
+    """Offers attempts to workers, hands them out under leases, and accepts their reports.
+
+    Reports are also read that other nodes wrote into the table.
 
     Attributes:
         leased: Whether this program serves workers. If not, other nodes serve its tasks, or

@@ -1,7 +1,8 @@
-"""Values of open sagas that are not in memory: read when needed, and checked for their types.
+"""Values of open sagas that are not in memory: they are read when a function needs them.
 
-A shard is left to another node if this program cannot decode its values. If no other node takes
-it, the program logs that, and offers the shard again from time to time.
+When a shard is loaded, the stored values of its open sagas are checked. The shard is left to
+another node if this program cannot decode them. If no other node takes it, the program logs that,
+and offers the shard again from time to time.
 """
 
 from __future__ import annotations
