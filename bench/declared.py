@@ -23,7 +23,7 @@ from collections.abc import Callable
 from typing import Any
 
 import sagas
-from sagas.runtime.function_threads import FunctionThreads
+from sagas.runtime.declared_calls import FunctionThreads
 
 WARM = 3
 """Sagas of each caller that run before the timed ones."""

@@ -35,7 +35,7 @@ from server import Server, serving  # noqa: E402
 
 import sagas  # noqa: E402
 from sagas.core import shard_definitions  # noqa: E402
-from sagas.runtime import shard_parts  # noqa: E402
+from sagas.runtime import shard_runner  # noqa: E402
 
 FIXED, FROM_INPUT = "fixed", "a definition of its own"
 MAX_ITEMS = 5
@@ -62,7 +62,7 @@ class Engines:
 
     started = 0
 
-    class Counted(shard_parts.EngineProcess):
+    class Counted(shard_runner.EngineProcess):
         """An engine that is counted."""
 
         def __init__(self, *arguments: Any) -> None:
@@ -183,7 +183,7 @@ def main() -> None:
     parser.add_argument("--definitions", default=str(shard_definitions.MOST_ADDED))
     parser.add_argument("--store", choices=["sqlite", "postgresql"], action="append")
     options = parser.parse_args()
-    shard_parts.EngineProcess = Engines.Counted  # type: ignore[misc]
+    shard_runner.EngineProcess = Engines.Counted  # type: ignore[misc]
     print("measurement,condition,median,low,high,unit")
     stores = options.store or ["sqlite", "postgresql"]
     if "sqlite" in stores:

@@ -22,10 +22,10 @@ from sagas.definition.shelf import DefinitionRegistry
 from sagas.definition.start_options import StartOptions
 from sagas.definition.task import Task
 from sagas.core.limits import Slots
-from sagas.runtime import blob_sweep
+from sagas.runtime import retention
 from sagas.runtime.children import Children
-from sagas.runtime.deadlines import Deadlines
-from sagas.runtime.early_reports import EarlyReports
+from sagas.runtime.instances import Deadlines
+from sagas.runtime.executor import EarlyReports
 from sagas.runtime.scheduler import Scheduler
 from sagas.server import webhooks
 from sagas.storage import archive, blob_layer
@@ -108,7 +108,7 @@ def webhook_not_posted() -> None:
 @variant("blob-lost", "blobs", count=8)
 def blob_swept() -> None:
     """A sweep takes each blob for an orphan."""
-    setattr(blob_sweep, "DAY", 0.2)
+    setattr(retention, "DAY", 0.2)
     setattr(blob_layer, "AGE", -60.0)
     setattr(blob_layer, "referred", lambda rows: [])
 

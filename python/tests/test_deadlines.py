@@ -19,7 +19,7 @@ from test_schedules import Clock
 import sagas
 import sagas.testing
 from sagas.core.model import SagaInstance
-from sagas.runtime import deadlines
+from sagas.runtime import instances
 
 SOON = datetime.timedelta(seconds=0.3)
 UTC = datetime.timezone.utc
@@ -59,7 +59,7 @@ def test_a_saga_that_is_over_is_not_kept_for_its_deadline(
 
     Open sagas are aborted in time.
     """
-    monkeypatch.setattr(deadlines, "MAX_ENTRIES", 4, raising=False)
+    monkeypatch.setattr(instances, "MAX_ENTRIES", 4)
     kind, clock = slow(deadline=datetime.timedelta(days=1)), Clock()
 
     def count() -> int:

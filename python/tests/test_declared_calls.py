@@ -12,8 +12,8 @@ import pytest
 from cases import Task, run, until
 
 import sagas
-from sagas.runtime import function_threads
-from sagas.runtime.function_threads import FunctionThreads
+from sagas.runtime import declared_calls
+from sagas.runtime.declared_calls import FunctionThreads
 
 NOW = datetime.timedelta(0)
 
@@ -229,4 +229,4 @@ def test_a_loop_that_is_closed_during_calls() -> None:
     asyncio.run(main())
     gate.opened.set()
     threads.close()
-    assert job.cancelled() and function_threads.FORKED == 70
+    assert job.cancelled() and declared_calls.FORKED == 70

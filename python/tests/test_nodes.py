@@ -925,7 +925,7 @@ def test_a_start_that_comes_late(postgresql: Server, url: str, is_born: bool) ->
                 inside = store._coordinator
                 assert inside
                 if not is_born:
-                    inside.shards._placement.current.clear()
+                    inside.shards.placement.current.clear()
                 with psycopg.connect(url) as stranger, psycopg.connect(
                     url, autocommit=True
                 ) as observer:

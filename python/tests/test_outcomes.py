@@ -372,7 +372,7 @@ def test_a_function_that_holds_the_loop(
 
     A function in a thread blocks nothing, nor does one that waits.
     """
-    monkeypatch.setattr("sagas.runtime.dispatcher.LONG", 0.1)
+    monkeypatch.setattr("sagas.runtime.calls.LONG", 0.1)
     saga = sagas.Saga("shop")
 
     @saga.step

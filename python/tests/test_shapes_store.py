@@ -22,7 +22,7 @@ import sagas
 from sagas.cli import store_command
 from sagas.core.shard_definitions import ShardDefinitions
 from sagas.definition.capacity import MOST_ADDED
-from sagas.runtime import shard_parts
+from sagas.runtime import shard_runner
 from sagas.storage import admin
 
 ALL = [order, plain, trip, booking, shaped.package, shaped.hire]
@@ -198,14 +198,14 @@ def test_definitions_start_no_further_engine(
     """Each saga has its own definition, and each shard still has one engine, its first."""
     engines: list[str] = []
 
-    class Counted(shard_parts.EngineProcess):
+    class Counted(shard_runner.EngineProcess):
         def __init__(self, program: str, of: Sequence[str], text: str, listener: Any) -> None:
             engines.append(listener.driver.name)
             begun.append(len(of))
             super().__init__(program, of, text, listener)
 
     begun: list[int] = []
-    monkeypatch.setattr(shard_parts, "EngineProcess", Counted)
+    monkeypatch.setattr(shard_runner, "EngineProcess", Counted)
 
     async def main() -> None:
         async with sagas.open(location, [order]) as store:

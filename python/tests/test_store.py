@@ -31,7 +31,7 @@ import sagas.testing
 from sagas.core import protocol as lines, shard
 from sagas.engine import process
 from sagas.base import program
-from sagas.runtime import dispatcher
+from sagas.runtime import calls as calls_module
 from sagas.storage import admin
 from sagas.storage.sqlite import writer as writer_module
 
@@ -1139,14 +1139,14 @@ def test_a_late_reply_locks_no_rows(tmp_path: pathlib.Path) -> None:
     run(main())
 
 
-@pytest.mark.parametrize("turn", [0.0, dispatcher.TURN])
+@pytest.mark.parametrize("turn", [0.0, calls_module.TURN])
 def test_steps_give_the_loop_a_turn(
     location: str, monkeypatch: pytest.MonkeyPatch, turn: float
 ) -> None:
     """Commits and replies may come at once: other work of the loop has its turn after `TURN`, and
     is not delayed by a saga of many steps.
     """
-    monkeypatch.setattr(dispatcher, "TURN", turn)
+    monkeypatch.setattr(calls_module, "TURN", turn)
     saga, turns, seen = sagas.Saga("long"), 0, []
     for number in range(30):
 

@@ -22,7 +22,7 @@ import sagas
 from sagas.base.events import Event
 from sagas.core.batch import Batch, Withdrawal
 from sagas.definition.capacity import SHARD_CAPACITY
-from sagas.runtime import offer_check
+from sagas.runtime import external_queue
 from sagas.storage.postgresql import commit_statement
 from sagas.storage.postgresql.commit_statement import Commit
 
@@ -270,7 +270,7 @@ def test_a_damaged_offer_is_repeated(
 ) -> None:
     """Its row was damaged: that is found, and logged as a warning."""
     saga, events = trip(), list[Event]()
-    monkeypatch.setattr(offer_check, "PAUSE", 0.2)
+    monkeypatch.setattr(external_queue, "CHECK_INTERVAL", 0.2)
 
     async def main() -> None:
         async with opened(location, saga, events=events) as store:

@@ -5,7 +5,7 @@ from __future__ import annotations
 from wrong import slow_disk
 
 from sagas.core.effects import Effects
-from sagas.runtime.effects import EffectHandler
+from sagas.runtime.shard_runner import EffectHandler
 
 FINDS = "told-early"
 STRIKES = "program"

@@ -30,7 +30,7 @@ from sagas.definition.step import Step
 from sagas.engine.plan import Plan
 from sagas.inspection import saga as one_saga
 from sagas.inspection.question import AsyncStoreReader, Question
-from sagas.runtime import operator_commands, retries
+from sagas.runtime import operator_commands, stored_values
 from sagas.storage import operator_requests, queries
 from sagas.storage.blob_layer import Blobs
 from sagas.storage.store_name import FORM
@@ -274,7 +274,7 @@ class Client(SharedCalls):
     async def _wait(self, key: str, request: dict[str, Any] | None) -> SagaResult:
         turn, before = 0, None
         while True:
-            row = await retries.until_answered(lambda: self._row(key))
+            row = await stored_values.until_answered(lambda: self._row(key))
             if request:
                 client_start.check_same(request, [(row.saga, row.input)])
             if row.phase is not None:

@@ -27,7 +27,7 @@ from sagas.definition.payloads import Payloads
 from sagas.definition.saga import Saga
 from sagas.definition.shape import Shape
 from sagas.definition.start_options import Deadline, deadline_at
-from sagas.runtime import relocation
+from sagas.runtime import instances
 from sagas.runtime.declared_calls import DefinitionCaller
 from sagas.storage import codec_note
 from sagas.storage.postgresql import caller_connection, connections, notifications, replication
@@ -84,7 +84,7 @@ def has_other_definition(request: dict[str, Any], rows: list[Row]) -> bool:
 def check_same(request: dict[str, Any], rows: list[Row]) -> None:
     """Raise `KeyConflict` if another saga or input has the key."""
     for saga, text, *_ in rows:
-        error = relocation.conflict(
+        error = instances.conflict(
             request["key"], request["of"], request["input"], saga, text, request["payloads"]
         )
         if error:

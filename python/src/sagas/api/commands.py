@@ -42,7 +42,12 @@ from sagas.definition.start_options import StartOptions
 from sagas.definition.task import Task
 from sagas.definition.task_data import TaskSnapshot
 from sagas.definition.validation import meant
-from sagas.runtime import current_step, given_values, operator_commands, stored_values
+from sagas.runtime import (
+    invocation,
+    leased_tasks,
+    operator_commands,
+    stored_values,
+)
 from sagas.storage import operator_requests
 from sagas.storage.queries import PHASE
 
@@ -226,7 +231,7 @@ class Commands:
             is_here = attempt.instance.busy.get(attempt.action_key) is attempt
             if is_over or not is_here or coordinator.sagas.by_key.get(key) is not attempt.instance:
                 raise SagaMoved(f"saga {key!r}")  # the stored outcome counts
-            if attempt is current_step.waiter(
+            if attempt is invocation.waiter(
                 coordinator.executor.calls.running
             ) and attempts.becomes_reportable(attempt):
                 raise WouldWaitForever(
@@ -524,7 +529,7 @@ class UnusedReports:
         if location is not None:
             fields = ("shape", "declared_step", "index", "item_key", "item")
             location_data = {field: fields_of_task[field] for field in fields} | {"step": name}
-            location_data["given"] = serialization.read(given_values.text_of(task))
+            location_data["given"] = serialization.read(leased_tasks.given_text(task))
         return {
             "key": row.key,
             "token": token,

@@ -13,7 +13,7 @@ from typing import Any, Concatenate, Generic, ParamSpec, TypeVar
 from sagas.base.errors import Closed
 from sagas.base.fork_guard import OpenState
 from sagas.core import pending
-from sagas.runtime import current_step
+from sagas.runtime import invocation
 
 A = TypeVar("A")
 A_co = TypeVar("A_co", covariant=True)
@@ -76,7 +76,7 @@ class Loop:
         with self._guard:
             loop = self._loop if self.runs else None
             if loop and threading.current_thread() is not self._thread:
-                with current_step.blocking():
+                with invocation.blocking():
                     future = asyncio.run_coroutine_threadsafe(work, loop)
                 self._pending.add(future)
         if loop is None:

@@ -39,13 +39,13 @@ from sagas.engine.plan import Plan
 from sagas.inspection import saga as saga_questions, what_if
 from sagas.inspection.question import AsyncStoreReader
 from sagas.runtime import (
-    blob_sweep,
-    current_step,
+    invocation,
     operator_commands,
     retention as retention_module,
-    retries,
+    stored_values,
 )
 from sagas.runtime.children import ChildEnd
+from sagas.runtime.client_starts import StartReader
 from sagas.runtime.coordinator import Coordinator
 from sagas.runtime.scheduler import Scheduler
 from sagas.storage import factory, store_name
@@ -278,7 +278,7 @@ class Store(Operators):
         )
         coordinator.listeners.append(self._requests.look)
         if self._starter.accepts_new:
-            coordinator.listeners.append(coordinator.start_reader().look)
+            coordinator.listeners.append(StartReader(coordinator).look)
             scheduler = Scheduler(coordinator, self._start_scheduled, self._advance)
             coordinator.listeners.append(scheduler.look)
             coordinator.spawn(scheduler.run())
@@ -288,7 +288,7 @@ class Store(Operators):
             coordinator.spawn(self._reports.run())
         database.watch(coordinator)
         if isinstance(database, BlobDatabase):
-            coordinator.spawn(blob_sweep.sweep(database))
+            coordinator.spawn(retention_module.sweep_blobs(database))
         if self._retention is not None:
             seconds = self._retention.total_seconds()
             coordinator.spawn(
@@ -531,7 +531,7 @@ class Store(Operators):
             WouldWaitForever: The call is made in a step.
             Closed: The store is closed.
         """
-        if caller := current_step.waiter(self._coordinator.executor.calls.running):
+        if caller := invocation.waiter(self._coordinator.executor.calls.running):
             raise WouldWaitForever(
                 f"step {caller.name!r} of saga {caller.instance.key!r} waits until no saga is "
                 "open, but its own is. Wait for that outside of a step"
@@ -604,7 +604,9 @@ class ChildOperations:
             end = history.live_result(ended)
             return ChildEnd(end, ended.id, ended.kind, ended.text, ended.results)
         coordinator = self._access.coordinator
-        known = await retries.until_answered(functools.partial(coordinator.store.known, ended))
+        known = await stored_values.until_answered(
+            functools.partial(coordinator.store.known, ended)
+        )
         kind = coordinator.registry.kind(known.definition)
         results = {
             step: value or "null"

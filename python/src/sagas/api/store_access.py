@@ -32,7 +32,7 @@ from sagas.definition.payloads import ABSENT
 from sagas.definition.saga import Saga
 from sagas.definition.shelf import DefinitionRegistry, Fitted
 from sagas.definition.start_options import Deadline, StartOptions, deadline_at
-from sagas.runtime import current_step, relocation, retries
+from sagas.runtime import instances, invocation, stored_values
 from sagas.runtime.coordinator import Coordinator
 
 T = TypeVar("T")
@@ -162,7 +162,7 @@ class SagaLookup:
             work = self.until_ended(key)
             return in_time(key, work, timeout, lambda: self.waits_for(key))
         coordinator = self._access.coordinator_here()
-        if caller := current_step.waiter(coordinator.executor.calls.running):
+        if caller := invocation.waiter(coordinator.executor.calls.running):
             return coordinator.waits.guard(caller, key, self.until_ended(key))
         return self.until_ended(key)
 
@@ -182,7 +182,7 @@ class SagaLookup:
         over = await self.whole(key)
         if isinstance(over, SagaInstance):
             return history.live_result(over)
-        return await retries.until_answered(functools.partial(self._end_of, over))
+        return await stored_values.until_answered(functools.partial(self._end_of, over))
 
     async def _end_of(self, row: SagaRow) -> SagaResult:
         coordinator = self._access.coordinator
@@ -199,7 +199,7 @@ class SagaLookup:
             over = await self.over(key)
             if isinstance(over, SagaRow) or over.is_whole:
                 return over
-            row = await retries.until_answered(lambda: self.row(key))
+            row = await stored_values.until_answered(lambda: self.row(key))
             if row.phase is not None:
                 return row
 
@@ -209,7 +209,7 @@ class SagaLookup:
         while True:
             live = await self.live(key)
             if live is None:
-                row = await retries.until_answered(lambda: self.row(key))
+                row = await stored_values.until_answered(lambda: self.row(key))
                 if row.phase is not None:
                     if record := coordinator.store.record:
                         record.seen(row.id, "wake")
@@ -370,7 +370,7 @@ class Starter:
             stored = row.saga, row.input
         if stored:
             kind_or_saga, store = kind or saga, coordinator.store
-            error = await relocation.conflict_with_stored(
+            error = await instances.conflict_with_stored(
                 store, key, kind_or_saga, text, *stored, payloads
             )
             if error and live and not live.committed and not coordinator.store.shared:
@@ -378,7 +378,7 @@ class Starter:
                 row = await coordinator.store.find(key)
                 if row:
                     stored = row.saga, row.input
-                    error = await relocation.conflict_with_stored(
+                    error = await instances.conflict_with_stored(
                         store, key, kind_or_saga, text, *stored, payloads
                     )
                     live = None
@@ -426,7 +426,7 @@ class Starter:
         if row is None:
             return False
         store = self._access.coordinator.store
-        error = await relocation.conflict_with_stored(
+        error = await instances.conflict_with_stored(
             store, live.key, live.kind, live.text, row.saga, row.input
         )
         if error:

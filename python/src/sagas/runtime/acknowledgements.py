@@ -7,14 +7,16 @@ are decided, not when they are stored. So the record shows an acknowledgement th
 from __future__ import annotations
 
 from collections.abc import Collection, Mapping
+from typing import TYPE_CHECKING
 
 from sagas.core.effects import NO_RARE_EFFECTS, Abort, Effects
 from sagas.core.model import Attempt, SagaInstance
 from sagas.core.recovery import Recovery
-from sagas.runtime.instances import Instances
-from sagas.runtime.waiters import Waiters
 from sagas.storage.interface import Database
 from sagas.storage.record_file import BEYOND, RecordFile, Rest
+
+if TYPE_CHECKING:
+    from sagas.runtime.instances import Instances, Waiters
 
 
 class Acknowledgements:

@@ -6,7 +6,7 @@ import asyncio
 from collections.abc import Callable
 
 from sagas.base import program
-from sagas.base.errors import EngineError, ShardLost, SagasError
+from sagas.base.errors import EngineError, SagasError, ShardLost
 from sagas.base.events import EventEmitter
 from sagas.core import protocol
 from sagas.core.batch import Batch

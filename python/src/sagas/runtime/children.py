@@ -4,7 +4,7 @@ from __future__ import annotations
 
 import asyncio
 from collections.abc import Iterator, Mapping
-from typing import Any, NamedTuple, Protocol
+from typing import TYPE_CHECKING, Any, NamedTuple, Protocol
 
 from sagas.base.errors import (
     CannotDecode,
@@ -12,8 +12,8 @@ from sagas.base.errors import (
     InvalidResult,
     KeyConflict,
     MissingStep,
-    SagaMoved,
     NoSuchSaga,
+    SagaMoved,
     SagasError,
     TemporaryError,
 )
@@ -31,9 +31,11 @@ from sagas.definition.labels import TOKEN
 from sagas.definition.saga import Saga
 from sagas.definition.start_options import StartOptions, deadline_at
 from sagas.runtime import stored_values
-from sagas.runtime.executor_host import CoordinatorForExecutor
 from sagas.runtime.stored_values import ValueReader
-from sagas.runtime.waiters import Waiters
+
+if TYPE_CHECKING:
+    from sagas.runtime.coordinator import Coordinator
+    from sagas.runtime.executor import Executor
 
 RETRY_DELAY = 1.0
 """Seconds until a failed operation of the store is tried again."""
@@ -81,15 +83,6 @@ class SagaOperations(Protocol):
         """Return whether a plan would undo a step if all running attempts succeed."""
 
 
-class OutcomeListener(Protocol):
-    """Receives the outcomes of attempts."""
-
-    kept: Waiters[Attempt]
-
-    def ended(self, attempt: Attempt, outcome: Outcome) -> None:
-        """Handle that the child of an attempt has ended."""
-
-
 class Children:
     """The attempts of this program that wait for child sagas.
 
@@ -99,10 +92,8 @@ class Children:
     after the parent has ended.
     """
 
-    def __init__(
-        self, coordinator: CoordinatorForExecutor, listener: OutcomeListener, values: ValueReader
-    ) -> None:
-        self._coordinator, self._listener, self._values = coordinator, listener, values
+    def __init__(self, coordinator: Coordinator, executor: Executor, values: ValueReader) -> None:
+        self._coordinator, self._executor, self._values = coordinator, executor, values
         self.operations: SagaOperations | None = None
         self._jobs: dict[Attempt, asyncio.Task[None]] = {}
         self._aborts: dict[Attempt, asyncio.Task[None]] = {}
@@ -159,7 +150,7 @@ class Children:
         self.gone(attempt)
         is_here = attempt.instance.busy.get(attempt.action_key) is attempt
         if is_here and attempt.state is SUSPENDED and attempt.reason is Suspension.CHILD:
-            self._listener.ended(attempt, outcome)
+            self._executor.ended(attempt, outcome)
 
     async def _outcome(self, attempt: Attempt) -> Outcome:
         """Start the child if it does not exist, and return the outcome of the attempt."""
@@ -368,7 +359,7 @@ class Children:
         Attempts that wait for children are not awaited.
         """
         while others := list(_others(attempt)):
-            await self._listener.kept.wait(others[0])
+            await self._executor.kept.wait(others[0])
 
 
 def _others(attempt: Attempt) -> Iterator[Attempt]:

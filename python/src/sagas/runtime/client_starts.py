@@ -3,90 +3,34 @@
 from __future__ import annotations
 
 import asyncio
-from collections.abc import Callable, Coroutine
-from typing import Protocol
+from typing import TYPE_CHECKING
 
-from sagas.base.errors import (
-    CannotDecode,
-    DefinitionError,
-    InvalidInput,
-    SagasError,
-    StoreUnavailable,
-)
+from sagas.base.errors import CannotDecode, DefinitionError, InvalidInput, StoreUnavailable
 from sagas.base.logger import logger
 from sagas.core.batch import Batch, PendingStart
-from sagas.core.model import SagaInstance
 from sagas.definition import undo_sagas
 from sagas.definition.saga import Saga
-from sagas.definition.shelf import Fitted, DefinitionRegistry
+from sagas.definition.shelf import Fitted
 from sagas.definition.start_options import StartOptions
-from sagas.runtime.commit_queue import CommitQueue
-from sagas.runtime.declared_calls import DefinitionCaller
-from sagas.runtime.instances import Instances
-from sagas.runtime.relocation import conflict_with_stored
-from sagas.storage.interface import Database
+from sagas.runtime.instances import conflict_with_stored
+
+if TYPE_CHECKING:
+    from sagas.runtime.coordinator import Coordinator
 
 MANY = 64
 """Maximum number of starts that one read takes, so that other nodes get some too."""
-RETRY_DELAY = 1.0
-"""Seconds after which failed starts are read again."""
 LEAVE_SECONDS = 10.0
 """Seconds for which a start with an undecodable input is left to other nodes."""
-
-
-class StartDoubt:
-    """Whether starts that this node has claimed may have been lost.
-
-    No other node takes such starts, so this node reads them again.
-    """
-
-    def __init__(self, loop: asyncio.AbstractEventLoop, look: Callable[[], None]) -> None:
-        self._loop, self._look = loop, look
-        self._is_set = False
-
-    def doubt(self, looks: bool = True) -> None:
-        """Mark that some may be lost. With `looks`, they are read again after a delay."""
-        self._is_set = True
-        if looks:
-            self._loop.call_later(RETRY_DELAY, self._look)
-
-    def settle(self) -> bool:
-        """Return whether some may be lost, and clear the mark."""
-        was_set, self._is_set = self._is_set, False
-        return was_set
-
-
-class CoordinatorForStarts(Protocol):
-    """The coordinator, as the reader of starts uses it."""
-
-    closed: SagasError | None
-    declared: DefinitionCaller
-
-    def spawn(self, work: Coroutine[None, None, None]) -> object:
-        """Run a coroutine in the background."""
 
 
 class StartReader:
     """Reads starts of clients in batches, one after another."""
 
-    def __init__(
-        self,
-        coordinator: CoordinatorForStarts,
-        store: Database,
-        definitions: DefinitionRegistry,
-        sagas: Instances,
-        commits: CommitQueue,
-        doubt: StartDoubt,
-        clock: Callable[[], float],
-        assign: Callable[[SagaInstance], None],
-    ) -> None:
-        self._coordinator, self._store, self._definitions, self._sagas = (
-            coordinator,
-            store,
-            definitions,
-            sagas,
-        )
-        self._commits, self._doubt, self._clock, self._assign = commits, doubt, clock, assign
+    def __init__(self, coordinator: Coordinator) -> None:
+        self._coordinator, self._store = coordinator, coordinator.store
+        self._definitions, self._sagas = coordinator.registry, coordinator.sagas
+        self._commits, self._clock = coordinator.commits, coordinator.clock
+        self._doubt = coordinator.shards.start_doubt
         self._is_taking = self._again = False
         self._left: dict[int, float] = {}
         self._fitted: set[int] = set()  # starts for which functions of definitions run
@@ -230,4 +174,4 @@ class StartReader:
         options = StartOptions(labels, deadline, shape=shape, traceparent=traceparent)
         instance = self._sagas.add(key, text, kind, options)
         instance.client_start = id
-        self._assign(instance)
+        self._coordinator.shards.assign(instance)

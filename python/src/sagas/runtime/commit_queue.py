@@ -6,7 +6,7 @@ import asyncio
 from collections.abc import Sequence
 from typing import Protocol
 
-from sagas.base.errors import ShardLost, SagasError, StoreUnavailable
+from sagas.base.errors import SagasError, ShardLost, StoreUnavailable
 from sagas.base.events import EventEmitter
 from sagas.base.logger import logger
 from sagas.core.batch import Batch

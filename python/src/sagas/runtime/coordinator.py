@@ -1,40 +1,42 @@
-"""Wires, opens and closes the parts of a store."""
+"""Wires, opens and closes the parts of a store, and refuses waits that could never end."""
 
 from __future__ import annotations
 
 import asyncio
 import contextlib
+import dataclasses
 import functools
 import time
 from collections.abc import Callable, Coroutine, Sequence
 from concurrent.futures import ThreadPoolExecutor
-from typing import Any
+from typing import TYPE_CHECKING, Any, TypeVar
 
-from sagas.base.errors import Closed, InvalidStore, SagasError
+from sagas.base.errors import Closed, InvalidStore, SagasError, SlotsTaken, WouldWaitForever
 from sagas.base.events import EventEmitter
 from sagas.base.fork_guard import private_descriptors
 from sagas.base.logger import logger
 from sagas.core import undo_check
 from sagas.core.batch import Batch, ShardRow
 from sagas.core.limits import Slots
-from sagas.core.shard import ShardDriver
+from sagas.core.states import ShardState
 from sagas.core.undo_check import CompletedChild
 from sagas.definition.shelf import DefinitionRegistry
 from sagas.definition.tracing import Tracer
-from sagas.runtime import decode_check, remote_steps
-from sagas.runtime.client_starts import StartReader
+from sagas.runtime import remote_steps, stored_values
 from sagas.runtime.commit_queue import CommitQueue
-from sagas.runtime.deadlines import Deadlines
-from sagas.runtime.deadlocks import DeadlockCheck
 from sagas.runtime.declared_calls import DefinitionCaller
 from sagas.runtime.executor import Executor
 from sagas.runtime.external_queue import ExternalQueue
 from sagas.runtime.instances import Instances
 from sagas.runtime.lifespan import Lifespan
-from sagas.runtime.shard_runner import ShardRunner
 from sagas.runtime.shards import Shards
 from sagas.storage.interface import Database
 
+if TYPE_CHECKING:
+    from sagas.core.model import Attempt, SagaInstance
+
+T = TypeVar("T")
+REMEDY = "Wait for it outside of the saga's steps"
 QUIET = 1.0
 """Seconds that closing waits for the last commits, and then for ended engine processes."""
 
@@ -57,7 +59,6 @@ class Coordinator:
         declared: Calls functions of definitions.
         external: The tasks of external workers.
         waits: Functions that wait for sagas.
-        deadlines: Aborts sagas at their deadlines.
         closed: Why nothing starts any more.
         forks: The number of this process.
         refusal: Done, with the reason, when this node can no longer execute anything.
@@ -90,47 +91,17 @@ class Coordinator:
         self._jobs: set[asyncio.Task[None]] = set()
         self._timer: asyncio.TimerHandle | None = None
         self.declared = DefinitionCaller(threads)
-        self.external = ExternalQueue(self)
-        self.sagas = Instances(self.loop)
-        self.executor = Executor(self, self.external, concurrency, self._threads, tracer)
+        self.external: ExternalQueue = ExternalQueue(self)
+        self.sagas: Instances = Instances(self.loop)
+        self.commits: CommitQueue = CommitQueue(store, self, teller, self.loop)
+        self.executor = Executor(self, concurrency, self._threads, tracer)
         if acknowledgements := self.executor.calls.acknowledgements:
             acknowledgements.follow(self.sagas, self.executor.kept)
         self.executor.slots.is_fair = any(saga.fair_by for saga in registry.sagas.values())
-        self.commits = CommitQueue(store, self, teller, self.loop)
-        self.shards = Shards(
-            store,
-            registry,
-            program,
-            engine_processes,
-            self.sagas,
-            self.executor,
-            self.commits,
-            self.external,
-            clock,
-            teller,
-            self.spawn,
-            self.look,
-            idle,
-        )
-        self.deadlines = Deadlines(self.sagas, self.shards.abort, teller, clock)
-        self.sagas.on_executed = self.deadlines.add
-        self.shards.abort_overdue = self.deadlines.look
+        self.shards: Shards = Shards(self, program, engine_processes, idle)
         self.waits = DeadlockCheck(self)
         self.listeners.append(self.executor.children.look)
         self._lifespan = Lifespan(context, registry.context)
-
-    def start_reader(self) -> StartReader:
-        """Return the reader of clients' starts."""
-        return StartReader(
-            self,
-            self.store,
-            self.registry,
-            self.sagas,
-            self.commits,
-            self.shards.start_doubt,
-            self.clock,
-            self.shards.assign,
-        )
 
     # -- opening
 
@@ -181,10 +152,10 @@ class Coordinator:
         """
         self.shards.tick()
         self.waits.look()
-        self.deadlines.look()
+        self.shards.deadlines.look()
         self.executor.keep_progress()
         now = time.monotonic()
-        if self.store.shared and now >= offered + decode_check.PAUSE:
+        if self.store.shared and now >= offered + stored_values.OFFER_PAUSE:
             offered = now
             self.shards.offer_unread()
         self._timer = self.loop.call_later(self.shards.pause, self._tick, offered)
@@ -230,7 +201,7 @@ class Coordinator:
         """Return the shards that this program executes, or is about to close."""
         return self.shards.numbers()
 
-    # -- load (`commit_queue.CommitLoad`, `dispatcher.TurnPolicy`)
+    # -- load (`commit_queue.CommitLoad`)
 
     def coming(self) -> int:
         """Return how many calls are on their way to a commit."""
@@ -243,14 +214,6 @@ class Coordinator:
     def is_alone(self) -> bool:
         """Return whether there is one saga, and no function runs."""
         return not self.slots.running and len(self.sagas.by_key) == 1
-
-    def batch_size(self, ready: int) -> int:
-        """Return how many of `ready` calls are reported at once."""
-        return self.commits.batch_size(ready)
-
-    def must_yield(self) -> bool:
-        """Return whether callers get their turn before further functions are called."""
-        return self.sagas.must_yield()
 
     @property
     def slots(self) -> Slots:
@@ -266,10 +229,6 @@ class Coordinator:
     def _feed(self) -> None:
         self._is_feeding = False
         self.slots.feed()
-
-    def runner(self, shard: ShardDriver) -> ShardRunner | None:
-        """Return the runner of a shard; None if this program no longer has the shard."""
-        return self.shards.runner(shard)
 
     # -- in the background
 
@@ -360,3 +319,126 @@ class Coordinator:
             self.executor.calls.end(shutdown_timeout), self.declared.end(shutdown_timeout)
         )
         return late
+
+
+@dataclasses.dataclass
+class SagaWait:
+    """A function that waits for a saga without a timeout.
+
+    Attributes:
+        key: The key of the saga.
+        scope: Ends the wait.
+        is_given_up: Whether the wait was ended because no slot is free for the saga.
+    """
+
+    key: str
+    scope: asyncio.Timeout
+    is_given_up: bool = False
+
+
+class DeadlockCheck:
+    """The step functions of a store that wait for sagas of the same store."""
+
+    def __init__(self, coordinator: Coordinator) -> None:
+        self._coordinator = coordinator
+        self._waits: dict[Attempt, SagaWait] = {}
+        self._full_before: tuple[Attempt, ...] = ()  # attempts that had all slots at the last check
+
+    async def guard(self, attempt: Attempt, key: str, work: Coroutine[object, object, T]) -> T:
+        """Return the result of `work`, which waits for the saga with this key.
+
+        Raises `WouldWaitForever` if the wait can never end, also if that becomes true later.
+        """
+        try:
+            self._check(attempt, key)
+        except WouldWaitForever:
+            work.close()
+            raise
+        wait = SagaWait(key, asyncio.timeout(None))
+        self._waits[attempt] = wait
+        try:
+            async with wait.scope:
+                return await work
+        except TimeoutError:
+            if not wait.is_given_up:
+                raise
+            attempt.rare.gave_way = True
+            raise SlotsTaken(self._slots_taken(attempt, key)) from None
+        finally:
+            del self._waits[attempt]
+
+    def _check(self, attempt: Attempt, key: str) -> None:
+        """Raise `WouldWaitForever` if the saga can end only after this function."""
+        chain, last = [key], key
+        while last != attempt.instance.key:
+            waited_keys = [
+                wait.key for other, wait in self._waits.items() if other.instance.key == last
+            ]
+            following = next(
+                (waited_key for waited_key in waited_keys if waited_key not in chain), None
+            )
+            if following is None:
+                return
+            chain.append(following)
+            last = following
+        step = f"{attempt.name!r} of saga {attempt.instance.key!r}"
+        if len(chain) == 1:
+            raise WouldWaitForever(
+                f"step {step} waits for its own saga, which ends only after it. {REMEDY}"
+            )
+        chain_text = ", which waits for ".join(f"saga {waited_key!r}" for waited_key in chain)
+        raise WouldWaitForever(
+            f"step {step} waits for {chain_text}, so none of them would ever end. {REMEDY}"
+        )
+
+    def _slots_taken(self, attempt: Attempt, key: str) -> str:
+        limit = self._coordinator.slots.capacity
+        return (
+            f"step {attempt.name!r} of saga {attempt.instance.key!r} waits for saga "
+            f"{key!r}, and all {limit} slots of the store's concurrency are taken by steps "
+            "that wait like this. Open the store with a larger concurrency=, or let the "
+            "last step of the child complete an external step of the parent"
+        )
+
+    def look(self) -> None:
+        """End one wait if all slots are taken by waits for sagas that need a slot.
+
+        This has to be true at two checks in a row.
+        """
+        slots = self._coordinator.slots
+        if (
+            len(self._waits) < slots.capacity
+            or len(self._waits) < slots.running
+            or not all(map(self._needs_slot, self._waits.values()))
+        ):
+            self._full_before = ()
+            return
+        now = tuple(self._waits)
+        if self._full_before == now:
+            wait = self._waits[now[-1]]
+            wait.is_given_up = True
+            wait.scope.reschedule(self._coordinator.loop.time())
+            self._full_before = ()
+        else:
+            self._full_before = now
+
+    def _needs_slot(self, wait: SagaWait) -> bool:
+        """Return whether the awaited saga needs the slot of a waiting function."""
+        saga = self._coordinator.sagas.by_key.get(wait.key)
+        if saga is None or not saga.committed or saga.over or not self._is_quiet(saga):
+            return False
+        if not saga.busy:
+            runner = self._coordinator.shards.runner(saga.shard) if saga.shard else None
+            return runner is not None and self._coordinator.slots.is_shard_waiting(runner)
+        return any(
+            attempt in self._waits or self._coordinator.slots.is_waiting(attempt)
+            for attempt in saga.busy.values()
+        )
+
+    def _is_quiet(self, saga: SagaInstance) -> bool:
+        """Return whether nothing in progress in the saga's shard could end the saga."""
+        shard = saga.shard
+        is_here = shard is not None and shard.state in (ShardState.ACTIVE, ShardState.IDLE)
+        if shard is None or not is_here or shard.commits_in_flight or shard.unanswered:
+            return False
+        return not (shard.reports or shard.aborts)

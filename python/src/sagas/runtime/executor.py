@@ -1,20 +1,24 @@
-"""Carries out the decisions of `AttemptMachine`."""
+"""Carries out the decisions of `AttemptMachine`.
+
+It also stores reports that arrive before their steps start.
+"""
 
 from __future__ import annotations
 
 import asyncio
 import contextlib
-import functools
 import logging
 from collections.abc import Callable, Sequence
 from concurrent.futures import Executor as Threads
+from typing import TYPE_CHECKING
 
-from sagas.base.errors import Closed, ShardLost, SagaMoved, SagasError, StepNotWaiting
-from sagas.core import exhaustion, outcomes, spans
+from sagas.base.errors import Closed, SagaMoved, SagasError, ShardLost, StepNotWaiting
+from sagas.core import early_reports, exhaustion, outcomes, spans
 from sagas.core.attempts import AttemptMachine
 from sagas.core.batch import RequestRef
 from sagas.core.decisions import Decision, Do
 from sagas.core.declared_values import OptionCalls
+from sagas.core.early_reports import EarlyReport, Refusal
 from sagas.core.effects import Effects
 from sagas.core.limits import Slots
 from sagas.core.model import CLAIMED, FINISHED, QUEUED, SUSPENDED, Attempt, SagaInstance
@@ -23,15 +27,17 @@ from sagas.core.shard import ShardDriver
 from sagas.core.states import OutcomeKind, Suspension
 from sagas.core.suspensions import SuspensionRow
 from sagas.definition.blobs import BlobUnavailable
+from sagas.definition.compiled import ActionKey
 from sagas.definition.tracing import Tracer
-from sagas.runtime import remote_steps
 from sagas.runtime.calls import Calls
 from sagas.runtime.children import Children
-from sagas.runtime.early_reports import EarlyReports
-from sagas.runtime.executor_host import ExternalTasks, CoordinatorForExecutor, RunnerForExecutor
 from sagas.runtime.fleet_limits import Fleet
+from sagas.runtime.instances import Waiters
 from sagas.runtime.stored_values import ValueReader
-from sagas.runtime.waiters import Waiters
+
+if TYPE_CHECKING:
+    from sagas.runtime.coordinator import Coordinator
+    from sagas.runtime.shard_runner import ShardRunner
 
 UNDECIDED = (Do.READ, Do.ASK)
 """Decisions that need more data first."""
@@ -57,33 +63,26 @@ class Executor:
 
     def __init__(
         self,
-        coordinator: CoordinatorForExecutor,
-        external: ExternalTasks,
+        coordinator: Coordinator,
         concurrency: int,
         threads: Threads,
         tracer: Tracer | None = None,
     ) -> None:
-        self._coordinator, self._external = coordinator, external
-        self._loop, self._clock, self._teller = (
-            coordinator.loop,
-            coordinator.clock,
-            coordinator.teller,
-        )
+        self._coordinator, self._external = coordinator, coordinator.external
+        self._loop, self._clock = coordinator.loop, coordinator.clock
+        self._teller = coordinator.teller
         self.machine = AttemptMachine()
-        self.slots = Slots(concurrency, self._start, coordinator.feed)
-        self.fleet = Fleet(coordinator, self.slots.enter)
-        remote = functools.partial(remote_steps.call, external)
-        self.values = ValueReader(coordinator, self._unread)
-        self.calls = Calls(
-            self, coordinator, self.slots, self.fleet, threads, remote, tracer, self.values.fill
-        )
+        self.slots: Slots = Slots(concurrency, self._start, coordinator.feed)
+        self.fleet: Fleet = Fleet(coordinator, self.slots.enter)
+        self.values: ValueReader = ValueReader(coordinator.store, self._unread)
+        self.calls: Calls = Calls(self, coordinator, threads, tracer)
         self.changes: Waiters[Attempt] = Waiters(coordinator.loop)
         self.kept: Waiters[Attempt] = Waiters(coordinator.loop)
         self.children = Children(coordinator, self, self.values)
-        self.early = EarlyReports(coordinator, coordinator.clock)
+        self.early: EarlyReports = EarlyReports(coordinator)
         self._timers: dict[Attempt, asyncio.TimerHandle] = {}
         self._doubted: set[Attempt] = set()  # reports of their workers are being looked up
-        self.closing = False
+        self.closing: bool = False
 
     # -- begin
 
@@ -281,7 +280,7 @@ class Executor:
             assert shard
             shard.reports[attempt] = shards[shard] = None
         for shard in shards:
-            if runner := self._coordinator.runner(shard):
+            if runner := self._coordinator.shards.runner(shard):
                 runner.poke(at_once=True)
 
     def keep_progress(self) -> None:
@@ -294,7 +293,7 @@ class Executor:
                 effects = shards.setdefault(shard, shard.effects(now))
                 effects.batch.rare_rows.progress.append((*attempt.row, *control.progress, now))
         for shard, effects in shards.items():
-            if runner := self._coordinator.runner(shard):
+            if runner := self._coordinator.shards.runner(shard):
                 runner.keep(effects)
 
     def finish(self, attempt: Attempt, outcome: Outcome) -> None:
@@ -349,9 +348,9 @@ class Executor:
         if runner := self._runner(attempt):
             runner.report(attempt, at_once)
 
-    def _runner(self, attempt: Attempt) -> RunnerForExecutor | None:
+    def _runner(self, attempt: Attempt) -> ShardRunner | None:
         shard = attempt.instance.shard
-        return self._coordinator.runner(shard) if shard else None
+        return self._coordinator.shards.runner(shard) if shard else None
 
     # -- reports that were not stored
 
@@ -475,3 +474,62 @@ class Executor:
         self.changes.notify(attempt)
         attempt.forget()
         self.calls.forget(attempt)
+
+
+class EarlyReports:
+    """Writes early reports into their shards, and notifies the callers that wait.
+
+    A shard that has to be recovered does not write them. Then the callers check the store again.
+    """
+
+    def __init__(self, coordinator: Coordinator) -> None:
+        self._coordinator, self._clock = coordinator, coordinator.clock
+        self._waiting: dict[EarlyReport | Refusal, asyncio.Future[None]] = {}
+
+    def put(self, report: EarlyReport | Refusal) -> asyncio.Future[None]:
+        """Return a future that is done once a report is stored.
+
+        For a refusal, it is done once the state that justifies the refusal is stored. It fails with
+        `SagaMoved` if its caller has to check again.
+
+        Raises:
+            Moved: This program does not execute the saga.
+            NotSerializable: The codec failed.
+        """
+        shard = report.saga.shard
+        runner = self._coordinator.shards.runner(shard) if shard else None
+        if shard is None or runner is None:
+            raise SagaMoved(f"saga {report.saga.key!r}")
+        effects = early_reports.effects(shard, report, self._clock()) if shard.is_current else None
+        future = self._waiting[report] = self._coordinator.loop.create_future()
+        if effects:
+            runner.keep(effects)
+        return future
+
+    def waiting(self, saga: SagaInstance, word: ActionKey) -> asyncio.Future[None] | None:
+        """Return the future of a report of this step that is being stored, or None."""
+        for report, future in self._waiting.items():
+            if (
+                isinstance(report, EarlyReport)
+                and report.saga is saga
+                and report.action_key == word
+            ):
+                return future
+        return None
+
+    def stored(self, report: EarlyReport | Refusal) -> None:
+        """Complete the future of a report or a refusal."""
+        if (future := self._waiting.pop(report, None)) and not future.done():
+            future.set_result(None)
+
+    def look_again(self, shard: int, error: SagasError | None = None) -> None:
+        """Have callers check again: a shard was recovered, or moved to another node."""
+        for report in [report for report in self._waiting if _number(report) == shard]:
+            future = self._waiting.pop(report)
+            if not future.done():
+                future.set_exception(error or SagaMoved(f"saga {report.saga.key!r}"))
+                future.exception()  # the caller may have been cancelled
+
+
+def _number(report: EarlyReport | Refusal) -> int | None:
+    return report.saga.shard.number if report.saga.shard else None

@@ -1,35 +1,54 @@
-"""Attempts for external workers: offers, claims and leases.
+"""Attempts for external workers: offers, claims, leases and reports.
 
 Everything is stored in the table `external_attempts` (storage/external.py). Any node of the
 database claims a task, with a signed lease that cannot be guessed (lease_signature.py).
+
+*Done* counts under any lease of the attempt, because it is the same effect. *Failed* and *unknown*
+count only under the newest lease. A report is stored in the table. Then the node that owns the
+shard reports it there, and settles the row in the same commit.
+
+The row of an attempt is open from the commit that offers it until the attempt is reported. If it is
+not, after a failure or a manual change of the table, no worker would ever get the attempt. So
+attempts are compared with their rows from time to time, and are offered again.
 """
 
 from __future__ import annotations
 
 import asyncio
 import contextlib
-from collections.abc import Iterable, Sequence
-from typing import TYPE_CHECKING, Any
+import secrets
+from collections.abc import Callable, Iterable, Iterator, Sequence
+from typing import TYPE_CHECKING
 
-from sagas.base.errors import CannotDecode, LeaseLost, SagasError, StoreUnavailable
+from sagas.base.errors import (
+    CannotDecode,
+    ConflictingReport,
+    LeaseLost,
+    NoSuchTask,
+    OwnerUnavailable,
+    SagasError,
+    StoreUnavailable,
+)
 from sagas.base.logger import logger
+from sagas.core import outcomes
+from sagas.core.exhaustion import RETRYABLE
 from sagas.core.lease_signature import Signer
-from sagas.core.model import Attempt
-from sagas.core.offers import task_name, offered_task_name
+from sagas.core.model import FINISHED, SUSPENDED, Attempt
+from sagas.core.offers import offered_task_name, task_name
+from sagas.core.outcomes import CANNOT_DECODE, FAILED, PERMANENT, SUCCEEDED, UNKNOWN, Outcome
+from sagas.core.shard import ShardDriver
+from sagas.core.states import OutcomeKind, Suspension
 from sagas.core.suspensions import Lease
+from sagas.definition import compensation_task, report_undos, shape_validation, tokens, undo_text
 from sagas.definition.blobs import BlobUnavailable
-from sagas.definition.compiled import CompiledDefinition
+from sagas.definition.capacity import SHARD_CAPACITY
 from sagas.definition.control import Progress
-from sagas.definition import compensation_task, report_undos, shape_validation, undo_text
-from sagas.definition.shape_values import ShapeValues
-from sagas.definition.task import Task
-from sagas.definition.task_data import TaskSnapshot
-from sagas.runtime import given_values
-from sagas.runtime.external_reports import ExternalReports
+from sagas.definition.step import Manner
+from sagas.runtime import leased_tasks, remote_steps
 from sagas.runtime.leased_tasks import Heartbeat, LeasedTask, Queue, Word
-from sagas.runtime.offer_check import OfferCheck
+from sagas.runtime.stored_values import until_answered
 from sagas.storage import queries
-from sagas.storage.external import Claim
+from sagas.storage.external import Claim, Report, Row
 
 if TYPE_CHECKING:
     from sagas.runtime.coordinator import Coordinator
@@ -42,12 +61,25 @@ LOOK = 0.5
 """Seconds between checks for tasks and reports: a notification of another program may be lost."""
 LOOK_AT_FILE = 0.02
 """Seconds between checks of a file: a commit of a queue's worker sends no notification."""
-OF_SAGA = (
-    "SELECT s.key, s.input, s.deadline, s.traceparent, text, "
-    "(SELECT p.shape FROM shapes p WHERE p.id = s.id) "
-    f"FROM {queries.DEFINED} WHERE s.id = ?"
-)
-RESULTS = "SELECT step, value FROM attempts WHERE id = ? AND action = 'run' AND event = 'commit'"
+GOOD = ("commit", "undone")
+KNOWN = (SUCCEEDED, FAILED, PERMANENT)
+"""The outcomes of a report that says what the attempt did."""
+OF_TOKEN = f"""
+SELECT l.shard, s.id, s.phase, text FROM shards l
+JOIN sagas s ON s.id = l.shard * {SHARD_CAPACITY} + ? {queries.OF_SHARD}
+JOIN definitions USING (definition) WHERE l.name = ?
+"""
+EVENT = "SELECT event, value FROM attempts WHERE id = ? AND step = ? AND action = ? AND number = ?"
+CHECK_INTERVAL = 30.0
+"""Seconds between two checks."""
+OFFERED_AGAIN = "step_offered_again"
+REASONS = {
+    None: "its row was missing",
+    "withdrawn": "its row was withdrawn",
+    "suspended": "its row was closed as if its outcome was unknown",
+    "person": "its row was closed as if an operator had to decide",
+}
+"""Why no worker could get an attempt, by the outcome of its row; None if there is no row."""
 
 
 def _set(future: asyncio.Future[None]) -> None:
@@ -55,8 +87,15 @@ def _set(future: asyncio.Future[None]) -> None:
         future.set_result(None)
 
 
-class ExternalQueue(ExternalReports):
-    """Offers attempts to workers, and hands them out under leases.
+def awaits_worker(attempt: Attempt) -> bool:
+    """Return whether an attempt waits for a worker, or for the one that has it."""
+    return attempt.state is SUSPENDED and attempt.reason is Suspension.EXTERNAL
+
+
+class ExternalQueue:
+    """Offers attempts to workers, hands them out under leases, and accepts their reports.
+
+    Reports are also read that other nodes wrote into the table.
 
     Attributes:
         leased: Whether this program serves workers. If not, other nodes serve its tasks, or
@@ -65,7 +104,11 @@ class ExternalQueue(ExternalReports):
     """
 
     def __init__(self, coordinator: Coordinator) -> None:
-        super().__init__(coordinator)
+        self.coordinator = coordinator
+        self._table = coordinator.store.external
+        self._signer = Signer(secrets.token_bytes(32))
+        self._has_any = self._is_looking = self._looks_again = False
+        self._reports: dict[str, asyncio.Future[Outcome]] = {}
         self.leased = False
         self.takeovers = 0
         self._limited: set[str] = set()
@@ -103,6 +146,10 @@ class ExternalQueue(ExternalReports):
             for future in list(waiting):
                 _set(future)
 
+    def _raise_if_closed(self) -> None:
+        if self.coordinator.closed:
+            raise self.coordinator.closed
+
     # -- offers
 
     def offer(self, attempt: Attempt) -> None:
@@ -118,7 +165,7 @@ class ExternalQueue(ExternalReports):
 
     def _store_offer(self, attempt: Attempt) -> None:
         shard = attempt.instance.shard
-        if shard and (runner := self.coordinator.runner(shard)):
+        if shard and (runner := self.coordinator.shards.runner(shard)):
             runner.keep(shard.offered(attempt, self.coordinator.clock()))
 
     def offered(self, attempt: Attempt) -> None:
@@ -141,7 +188,7 @@ class ExternalQueue(ExternalReports):
         if self._is_moving(attempt):
             return  # the saga is drained again when the offer is stored
         shard = attempt.instance.shard
-        if shard and (runner := self.coordinator.runner(shard)):
+        if shard and (runner := self.coordinator.shards.runner(shard)):
             self._withdrawing.add(attempt)
             runner.keep(shard.withdrawn(attempt, self.coordinator.clock()))
 
@@ -164,6 +211,27 @@ class ExternalQueue(ExternalReports):
     def _offer(self, attempt: Attempt) -> None:
         self._offering.add(attempt)
         self._store_offer(attempt)
+
+    async def call(self, manner: Manner, attempt: Attempt) -> Outcome | None:
+        """Send an attempt to a worker of a queue, and wait for its report.
+
+        Returns:
+            The outcome. None if the call was cancelled here, and the outcome is unknown.
+        """
+        remote_queue = manner.queue
+        assert remote_queue
+        timeout = manner.timeout if manner.timeout is not None else remote_queue.timeout
+        try:
+            with self.reports(attempt) as report:
+                async with asyncio.timeout(timeout):
+                    lease = await self.dispatch(attempt)
+                    if not report.done():
+                        await remote_steps.send(remote_queue, remote_steps.order_of(attempt, lease))
+                    return await report
+        except asyncio.CancelledError:
+            return None
+        except TimeoutError:
+            return outcomes.unknown(f"no report within {timeout:g} s from {remote_queue!r}")
 
     async def dispatch(self, attempt: Attempt) -> int:
         """Store the row of an attempt; return the lease for its message.
@@ -317,7 +385,8 @@ class ExternalQueue(ExternalReports):
         """Return the task of a claim; None if its values cannot be computed here."""
         now, attempt = self.coordinator.clock(), self.find(claim.attempt)
         if attempt is None:
-            kind, task = await self._task(claim)
+            store, registry = self.coordinator.store, self.coordinator.registry
+            kind, task = await leased_tasks.stored_task(store, registry, claim)
         else:
             kind = attempt.instance.kind
             attempt.rare.lease = Lease(claim.lease, worker, now, now + claim.seconds)
@@ -343,50 +412,16 @@ class ExternalQueue(ExternalReports):
             task = compensation_task.of(task, kind.undoes, sees)
         lease = self._signer.issue(claim.attempt, claim.lease, holder)
         try:
-            given_text = given_values.text_of(task)
-        except given_values.DeclarationMissing as error:
+            given_text = leased_tasks.given_text(task)
+        except leased_tasks.DeclarationMissing as error:
             logger.warning("%s: %s", claim.attempt, error)
             await self._give_back(claim.attempt, claim.lease)
             return None
         except Exception as error:  # raised by the user's function
             with contextlib.suppress(SagasError):  # the lease expires, and the task is free again
-                await self.report(claim.attempt, lease, holder, given_values.failure(error))
+                await self.report(claim.attempt, lease, holder, leased_tasks.given_failure(error))
             return None
         return LeasedTask(claim.attempt, lease, now + claim.seconds, task, given_text)
-
-    async def _task(self, claim: Claim) -> tuple[CompiledDefinition, Task[Any]]:
-        """Return definition and task of an attempt that another node executes."""
-        read, undo = self.coordinator.store.read, claim.action == "undo"
-        rows = await read(OF_SAGA, claim.id)
-        ((key, text, deadline, traceparent, definition, shape),) = rows
-        kind: CompiledDefinition = self.coordinator.registry.kind(definition)
-        decode, text = kind.payloads.decode, kind.payloads.decode(text)
-        results: dict[int, str] = {
-            step: decode(value or "null") for step, value in await read(RESULTS, claim.id)
-        }
-        token, _, number = claim.attempt.rpartition("-")
-        name = kind.names[claim.step]
-        values = ShapeValues() if shape is None else ShapeValues.read(decode(shape))
-        location = kind.location(name, values, text)
-        hint = kind.actions[claim.action][claim.step].hint
-        data = TaskSnapshot(
-            kind.name,
-            key,
-            name,
-            undo,
-            int(number),
-            token.removesuffix(f"-{name}-{claim.action}"),
-            location.input if location else text,
-            {kind.names[step]: results.get(step) or "null" for step in kind.below[claim.step]},
-            results.get(claim.step) if undo else None,
-            hint,
-            kind.decoders,
-            deadline,
-            kind.actions[claim.action][claim.step].context,
-            traceparent=traceparent,
-            location=location,
-        )
-        return kind, Task(data)
 
     async def heartbeat(
         self, token: str, lease: str, holder: str, seconds: float, progress: Progress | None
@@ -419,6 +454,194 @@ class ExternalQueue(ExternalReports):
             counts.append(Queue(saga, step, action == "undo", ready, oldest, claimed))
         return counts
 
+    # -- reports
+
+    @contextlib.contextmanager
+    def reports(self, attempt: Attempt) -> Iterator[asyncio.Future[Outcome]]:
+        """Provide the future of the report of an attempt whose message is sent."""
+        token = attempt.token()
+        future = self._reports[token] = self.coordinator.loop.create_future()
+        try:
+            yield future
+        finally:
+            if self._reports.get(token) is future:
+                del self._reports[token]
+
+    def find(self, token: str) -> Attempt | None:
+        """Return the attempt with this id, if it is in progress here."""
+        parts = tokens.parse(token)
+        if not parts:
+            raise NoSuchTask(
+                f"{token!r} is not the attempt id of a task. Pass the attempt_id of a claimed task"
+            )
+        name, number, step, kind, count = parts
+        shard = self.coordinator.shards.named(name)
+        saga = shard.sagas.get(number) if shard else None
+        if shard is None or saga is None or step not in saga.kind.names:
+            return None
+        action_key = (saga.kind.names.index(step), kind)
+        busy = saga.busy.get(action_key)
+        if busy is not None and busy.attempt == count:
+            return busy
+        for candidate in shard.unstored_reports():  # finished
+            if (
+                candidate.instance is saga
+                and candidate.action_key == action_key
+                and candidate.attempt == count
+            ):
+                return candidate
+        return None
+
+    async def report(
+        self,
+        token: str,
+        lease: str,
+        holder: str,
+        outcome: Outcome,
+        stored: Callable[[], object] | None = None,
+    ) -> bool:
+        """Report a task. See `Workers.report`.
+
+        The lease is verified first, so that a caller without one learns nothing about the task.
+        """
+        number = self._signer.number(token, lease, holder)
+        self._raise_if_closed()
+        value = self._encoded(outcome)
+        shard = await self._table.report(token, number, str(outcome.kind), value)
+        if shard is None:
+            return await self._repeated(token, number, outcome)
+        if shard in self.coordinator.shards.runners:
+            if stored is not None:
+                stored()
+            await self._apply(Report(token, str(outcome.kind), value))
+        else:
+            await self._table.notify_owners()
+        return True
+
+    def _encoded(self, outcome: Outcome) -> str:
+        """Return the value of an outcome as the table stores it: a result is encoded."""
+        payloads = self.coordinator.registry.payloads
+        is_result = payloads.codec is not None and outcome.kind is SUCCEEDED
+        return outcomes.encode_result(payloads, outcome.value) if is_result else outcome.value
+
+    def _delivered(self, outcome: OutcomeKind, value: str) -> Outcome:
+        """Return the outcome of a stored report."""
+        reported = outcomes.read_report(outcome, value)
+        return reported._replace(encoded=self.coordinator.registry.payloads.is_encoded(value))
+
+    async def park(self, token: str, number: int, why: CannotDecode | BlobUnavailable) -> None:
+        """Set a claimed task aside whose values cannot be read.
+
+        It waits for a program that can read them, for an operator, or for the blob store.
+        """
+        logger.warning("task %s cannot be given to a worker: %s", token, why)
+        outcome = outcomes.unreadable(str(why), passes=isinstance(why, BlobUnavailable))
+        with contextlib.suppress(StoreUnavailable):  # the lease expires, and is claimed again
+            shard = await self._table.report(token, number, str(outcome.kind), outcome.value)
+            if shard in self.coordinator.shards.runners:
+                await self._apply(Report(token, str(outcome.kind), outcome.value))
+            elif shard is not None:
+                await self._table.notify_owners()
+
+    async def _apply(self, report: Report) -> None:
+        """Report an outcome into its shard if possible now, and wait until it is stored."""
+        attempt = self.find(report.attempt)
+        if attempt is None or not self._deliver(report, attempt):
+            return
+        if attempt.state is FINISHED:
+            with contextlib.suppress(SagasError):  # it is stored, and is checked again
+                await self.coordinator.executor.kept.wait(attempt)
+
+    def _deliver(self, report: Report, attempt: Attempt) -> bool:
+        """Deliver a report to an attempt in progress here; return whether that worked."""
+        outcome = self._delivered(OutcomeKind(report.outcome), report.value)
+        if attempt.pending_row:
+            return False
+        if (waiting := self._reports.get(report.attempt)) is not None:
+            if not waiting.done():
+                waiting.set_result(outcome)
+            return True
+        is_known = attempt.reason in RETRYABLE
+        if attempt.state is not SUSPENDED or not (is_known or awaits_worker(attempt)):
+            return False
+        if outcome.kind in (UNKNOWN, CANNOT_DECODE) and attempt.lease:
+            attempt.rare.lease = None  # the lease has ended: the next claim gets another
+        if outcome.kind is SUCCEEDED or not is_known:
+            self.coordinator.executor.ended(attempt, outcome)
+        elif outcome.kind is not UNKNOWN and attempt.reason is Suspension.UNKNOWN:
+            self.coordinator.executor.ended(attempt, outcome)
+        return True
+
+    def look(self) -> None:
+        """Read reports, because there may be some."""
+        self._looks_again = True
+        if not self._is_looking and not self.coordinator.closed and self._has_any:
+            self._is_looking = True
+            self.coordinator.spawn(self._look())
+
+    async def _look(self) -> None:
+        try:
+            while self._looks_again and not self.coordinator.closed:
+                self._looks_again = False
+                for report in await self._table.reported([*self.coordinator.shards.runners]):
+                    if attempt := self.find(report.attempt):
+                        self._deliver(report, attempt)
+        except StoreUnavailable:
+            pass  # the next check finds it
+        finally:
+            self._is_looking = False
+
+    async def find_done(self, token: str) -> Outcome | None:
+        """Return a worker's success of an attempt, or None; retry until the store answers."""
+        row = await until_answered(lambda: self._table.find(token))
+        is_done = row is not None and row.outcome == SUCCEEDED
+        return self._delivered(SUCCEEDED, row.value or "null") if row and is_done else None
+
+    async def _repeated(self, token: str, number: int, outcome: Outcome) -> bool:
+        """Return False if the same outcome was reported before; otherwise raise an error."""
+        row = await self._table.find(token)
+        if row is None or row.outcome == "settled":
+            return await self._settled(token, outcome)
+        subject = f"lease {number} of {token}"
+        if row.reported == number and row.value == outcome.value and row.outcome not in KNOWN:
+            return False
+        if row.outcome in KNOWN:
+            stored_value = row.value or "null"
+            is_same = stored_value == outcome.value or (
+                outcome.kind is SUCCEEDED
+                and self.coordinator.registry.payloads.is_same(self._encoded(outcome), stored_value)
+            )
+            if row.outcome != outcome.kind or not is_same:
+                raise ConflictingReport(f"{token} was reported before, with another outcome")
+            await self._apply(Report(token, str(outcome.kind), stored_value))
+            return False
+        _raise_lost(row, token, number, subject, outcome)
+        return False
+
+    async def _settled(self, token: str, outcome: Outcome) -> bool:
+        event, value = await self.outcome_of(token)
+        is_same = (event in GOOD) == (outcome.kind is SUCCEEDED) and value == outcome.value
+        if is_same and outcome.kind is not UNKNOWN:
+            return False
+        raise ConflictingReport(f"{token} was reported before, with another outcome ({event})")
+
+    async def outcome_of(self, token: str) -> tuple[str, str | None]:
+        """Return the event of a reported task, and its value.
+
+        Raises `NoSuchTask` and `OwnerUnavailable`.
+        """
+        parts, read = tokens.parse(token), self.coordinator.store.read
+        rows = await read(OF_TOKEN, parts.number, parts.shard) if parts else []
+        for _, id, phase, text in rows:
+            assert parts
+            names = self.coordinator.registry.kind(text).names
+            step = names.index(parts.step) if parts.step in names else -1
+            for event, value in await read(EVENT, id, step, parts.kind, parts.attempt):
+                return event, value and self.coordinator.registry.payloads.decode(value)
+            if phase is None and await self._table.find(token):
+                raise OwnerUnavailable(f"{token!r}: its outcome is being stored. Report it again")
+        raise NoSuchTask(f"no task that has started has the attempt id {token!r}")
+
     # -- periodic checks
 
     def _look_later(self) -> None:
@@ -436,3 +659,90 @@ class ExternalQueue(ExternalReports):
         with contextlib.suppress(StoreUnavailable):
             for task, ready, _, _ in await self._table.waiting():
                 self.wake(task, ready)
+
+
+def _raise_lost(row: Row, token: str, number: int, subject: str, outcome: Outcome) -> None:
+    """Raise why a report of an unfinished attempt does not count."""
+    if row.outcome == "person" and outcome.kind is SUCCEEDED:
+        raise LeaseLost(
+            f"{token}: its outcome is unknown, and an operator must report it. Ask an operator to "
+            "complete the step"
+        )
+    if row.reported == row.lease == number:
+        raise ConflictingReport(f"{subject} was reported as unknown before")
+    raise LeaseLost(f"{subject} is not the newest, so its report {outcome.kind} is rejected")
+
+
+class OfferCheck:
+    """Checks the attempts of this program's shards from time to time.
+
+    Args:
+        coordinator: The coordinator.
+        is_moving: Returns whether a row of an attempt is being stored.
+        offer: Offers an attempt again.
+    """
+
+    def __init__(
+        self,
+        coordinator: Coordinator,
+        is_moving: Callable[[Attempt], bool],
+        offer: Callable[[Attempt], None],
+    ) -> None:
+        self._coordinator, self._is_moving, self._offer = coordinator, is_moving, offer
+        self._due = coordinator.loop.time() + CHECK_INTERVAL
+        self._reasons: dict[Attempt, str] = {}
+
+    def look(self) -> None:
+        """Start a check if it is due."""
+        now = self._coordinator.loop.time()
+        if now >= self._due and not self._coordinator.closed:
+            self._due = now + CHECK_INTERVAL
+            self._coordinator.spawn(self.check())
+
+    async def check(self) -> None:
+        """Offer attempts again that wait for a worker and have no open row."""
+        for runner in list(self._coordinator.shards.runners.values()):
+            with contextlib.suppress(StoreUnavailable):  # the next check repeats it
+                await self._check(runner.driver)
+            await asyncio.sleep(0)
+
+    async def _check(self, shard: ShardDriver) -> None:
+        epoch = shard.epoch
+        attempts = {attempt.token(): attempt for attempt in self._waiting(shard)}
+        if not attempts:
+            return
+        outcomes = await self._coordinator.store.external.outcomes([*attempts])
+        if shard.epoch != epoch:
+            return  # its attempts were offered again, and may be claimed
+        waiting = set(self._waiting(shard))
+        for token, attempt in attempts.items():
+            outcome = outcomes.get(token)
+            is_closed = token not in outcomes or (outcome is not None and outcome in REASONS)
+            if is_closed and attempt in waiting:
+                self._reasons[attempt] = REASONS[outcome]
+                self._offer(attempt)
+
+    def _waiting(self, shard: ShardDriver) -> Iterator[Attempt]:
+        """Yield the attempts of a shard whose rows are open, as far as this program knows."""
+        if not shard.is_current:
+            return
+        for saga in shard.sagas.values():
+            if saga.kind.has_external:
+                for attempt in saga.busy.values():
+                    if (
+                        awaits_worker(attempt)
+                        and not attempt.pending_row
+                        and not self._is_moving(attempt)
+                    ):
+                        yield attempt
+
+    def offered(self, attempt: Attempt) -> None:
+        """Emit an event if the row of an attempt was missing, and is stored now."""
+        if reason := self._reasons.pop(attempt, None):
+            self._coordinator.executor.emit(
+                attempt, OFFERED_AGAIN, f"no worker could get it: {reason}"
+            )
+
+    def gone(self, attempt: Attempt) -> None:
+        """Forget an attempt that is over, or that another program has."""
+        self._reasons.pop(attempt, None)

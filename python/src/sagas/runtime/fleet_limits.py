@@ -13,10 +13,10 @@ from __future__ import annotations
 import asyncio
 import hashlib
 from collections import deque
-from collections.abc import Callable, Coroutine
-from typing import TYPE_CHECKING, Protocol
+from collections.abc import Callable
+from typing import TYPE_CHECKING
 
-from sagas.base.errors import SagasError, StoreUnavailable
+from sagas.base.errors import StoreUnavailable
 from sagas.base.logger import logger
 from sagas.core.batch import Grant
 from sagas.core.model import SUSPENDED, Attempt
@@ -24,7 +24,7 @@ from sagas.core.states import Action, Suspension
 from sagas.definition.step import Bounds
 
 if TYPE_CHECKING:
-    from sagas.storage.interface import Database
+    from sagas.runtime.coordinator import Coordinator
 
 LOOK = 1.0  # seconds between checks: a node that holds slots may stop without notice
 MAX_LOOK = 30.0  # seconds between checks at most: the database's clock may jump
@@ -38,17 +38,6 @@ def digest_of(name: str, key: str) -> str:
     return hashlib.sha256(f"{name} {key}".encode("utf-8", "surrogatepass")).hexdigest()[:40]
 
 
-class CoordinatorForLimits(Protocol):
-    """The coordinator, as the limits use it."""
-
-    loop: asyncio.AbstractEventLoop
-    store: Database
-    closed: SagasError | None
-
-    def spawn(self, work: Coroutine[None, None, None]) -> asyncio.Task[None]:
-        """Run a coroutine in the background."""
-
-
 class Gate:
     """The limit of a step, or of one key of it.
 
@@ -57,7 +46,7 @@ class Gate:
 
     def __init__(
         self,
-        coordinator: CoordinatorForLimits,
+        coordinator: Coordinator,
         name: str,
         key: str,
         bounds: Bounds,
@@ -202,7 +191,7 @@ class Gate:
 class Fleet:
     """The gates of a store's steps."""
 
-    def __init__(self, coordinator: CoordinatorForLimits, enter: Callable[[Attempt], None]) -> None:
+    def __init__(self, coordinator: Coordinator, enter: Callable[[Attempt], None]) -> None:
         self._coordinator, self._enter = coordinator, enter
         self._gates: dict[tuple[str, str, str], Gate] = {}
         self._max_gates = MAX_GATES

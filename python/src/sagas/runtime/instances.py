@@ -1,16 +1,83 @@
-"""The open sagas of this program, by key, and the callers that wait for them."""
+"""The open sagas of this program: by key, with the callers that wait and with their deadlines.
+
+A start whose key is used is the same saga, or a conflict.
+"""
 
 from __future__ import annotations
 
 import asyncio
+import heapq
+import itertools
 from collections.abc import Callable
+from typing import TYPE_CHECKING, Generic, TypeVar
 
-from sagas.base.errors import SagasError
+from sagas.base.errors import KeyConflict, SagasError
+from sagas.base.events import EventEmitter
 from sagas.core.effects import Abort
 from sagas.core.model import SagaInstance
+from sagas.definition import input_equality, mismatches
+from sagas.definition.blobs import Reference
 from sagas.definition.compiled import CompiledDefinition
+from sagas.definition.payloads import PLAIN, Payloads
 from sagas.definition.start_options import StartOptions
-from sagas.runtime.waiters import Waiters
+from sagas.storage.interface import Database
+
+if TYPE_CHECKING:
+    from sagas.definition.saga import Saga
+
+K = TypeVar("K")
+MANY = 64
+"""After each such number of callers of an event, cancelled ones are dropped."""
+MAX_ENTRIES = 1000
+"""Number of deadlines at which those of ended sagas are dropped."""
+INPUT = "SELECT input FROM sagas WHERE key = ?"
+
+
+class Waiters(Generic[K]):
+    """Callers that wait for one kind of event, by its subject.
+
+    Attributes:
+        futures: The futures of the callers. Only this class changes them.
+        before_notify: If set, called before callers are notified of success.
+    """
+
+    def __init__(self, loop: asyncio.AbstractEventLoop) -> None:
+        self._loop = loop
+        self.futures: dict[K, list[asyncio.Future[None]]] = {}
+        self.before_notify: Callable[[K], object] | None = None
+
+    def __contains__(self, key: K) -> bool:
+        return key in self.futures
+
+    def wait(self, key: K) -> asyncio.Future[None]:
+        """Return a future that is done when the event happens."""
+        future = self._loop.create_future()
+        waiting = self.futures.setdefault(key, [])
+        waiting.append(future)
+        if len(waiting) % MANY == 0:
+            waiting[:] = [waiter for waiter in waiting if not waiter.done()]
+        return future
+
+    def notify(self, key: K, error: Exception | None = None) -> bool:
+        """Notify the callers of success, or of an error; return whether there were any."""
+        if not self.futures:
+            return False
+        waiting = self.futures.pop(key, ())
+        if waiting and error is None and self.before_notify:
+            self.before_notify(key)
+        for future in waiting:
+            if not future.done():
+                if error is None:
+                    future.set_result(None)
+                else:
+                    future.set_exception(error)
+                    future.exception()  # the caller may have been cancelled
+        return bool(waiting)
+
+    def move(self, before: K, after: K) -> None:
+        """Move the callers of one subject to another."""
+        if waiting := self.futures.pop(before, None):
+            self.futures.setdefault(after, []).extend(waiting)
 
 
 class Instances:
@@ -135,3 +202,120 @@ class Instances:
         if self.by_key:
             self._left = error
             self._empty.set()
+
+
+class Deadlines:
+    """The deadlines of the open sagas of this program, the next one first.
+
+    They are stored with their sagas, so each node that executes a saga knows its deadline.
+    """
+
+    def __init__(
+        self,
+        sagas: Instances,
+        abort: Callable[[SagaInstance], asyncio.Future[bool]],
+        teller: EventEmitter,
+        clock: Callable[[], float],
+    ) -> None:
+        self._sagas, self._abort, self._teller, self._clock = sagas, abort, teller, clock
+        self._heap: list[tuple[float, int, SagaInstance]] = []
+        self._order = itertools.count()
+        self._max_entries = MAX_ENTRIES
+
+    def add(self, saga: SagaInstance) -> None:
+        """Add the deadline of a saga that this program executes from now on."""
+        if saga.options.deadline is not None:
+            if len(self._heap) >= self._max_entries:
+                self._drop()
+            heapq.heappush(self._heap, (saga.options.deadline, next(self._order), saga))
+
+    def _drop(self) -> None:
+        """Keep one entry for each open saga: most sagas end long before their deadlines."""
+        by_key = self._sagas.by_key
+        entries = {entry[2]: entry for entry in self._heap if by_key.get(entry[2].key) is entry[2]}
+        self._heap = [*entries.values()]
+        heapq.heapify(self._heap)
+        self._max_entries = max(MAX_ENTRIES, 2 * len(self._heap))
+
+    def look(self) -> None:
+        """Abort the open sagas of this program whose deadlines have passed."""
+        if not self._heap:
+            return
+        now = self._clock()
+        while self._heap and self._heap[0][0] <= now:
+            saga = heapq.heappop(self._heap)[2]
+            is_here = self._sagas.by_key.get(saga.key) is saga
+            if is_here and not saga.over and not saga.aborted:
+                self._teller.emit("saga_overdue", key=saga.key, saga=saga.kind.name)
+                self._abort(saga).add_done_callback(_ignore_result)
+
+
+def _ignore_result(aborted: asyncio.Future[bool]) -> None:
+    """Ignore the result of an abort.
+
+    Events report it, and another node aborts a saga that moved.
+    """
+    if not aborted.cancelled():
+        aborted.exception()
+
+
+def conflict(
+    key: str,
+    kind: CompiledDefinition | Saga,
+    text: str,
+    stored_name: str,
+    stored_input: str,
+    payloads: Payloads | None = None,
+) -> KeyConflict | None:
+    """Return the error of a start whose key is used; None if it is the same saga.
+
+    Args:
+        key: The key.
+        kind: The saga of the start.
+        text: The input of the start.
+        stored_name: The name of the saga that has the key.
+        stored_input: The input of the saga that has the key.
+        payloads: How inputs are stored (default: those of `kind`).
+    """
+    saga = kind.name
+    if stored_name != saga:
+        return KeyConflict(
+            f"key {key!r} belongs to a saga {stored_name!r}, not {saga!r}. Use another key"
+        )
+    if stored_input != text:
+        kind_payloads: Payloads = getattr(kind, "payloads", PLAIN)
+        stored = payloads or kind_payloads
+        text = stored.decode(text)
+        if reference := Reference.of(stored_input):
+            if reference.is_of(text):
+                return None
+            return KeyConflict(f"key {key!r} belongs to a saga with another input. Use another key")
+        stored_input = stored.decode(stored_input)
+    if stored_input != text and (differ := input_equality.differences(kind, stored_input, text)):
+        paths = mismatches.joined_paths(differ)
+        return KeyConflict(
+            f"key {key!r} belongs to a saga with another input, which differs at {paths}. "
+            "Use another key"
+        )
+    return None
+
+
+async def conflict_with_stored(
+    store: Database,
+    key: str,
+    kind: CompiledDefinition | Saga,
+    text: str,
+    stored_name: str,
+    stored_input: str,
+    payloads: Payloads | None = None,
+) -> KeyConflict | None:
+    """Return the error of a start whose key is used, as `conflict`.
+
+    An input outside of the database is read if its digest differs: it may be equal with other
+    types. Raises `StoreUnavailable`.
+    """
+    error = conflict(key, kind, text, stored_name, stored_input, payloads)
+    if error and stored_name == kind.name and Reference.of(stored_input):
+        for (whole,) in await store.read(INPUT, key):
+            error = conflict(key, kind, text, stored_name, whole, payloads)
+    return error

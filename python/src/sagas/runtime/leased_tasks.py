@@ -5,8 +5,25 @@ from __future__ import annotations
 import dataclasses
 from typing import Any
 
+from sagas.base.errors import Fail
+from sagas.core import outcomes
+from sagas.core.outcomes import Outcome
+from sagas.definition import serialization
+from sagas.definition.compiled import CompiledDefinition
+from sagas.definition.shape_values import ShapeValues
+from sagas.definition.shelf import DefinitionRegistry
 from sagas.definition.task import Task
+from sagas.definition.task_data import TaskSnapshot
+from sagas.storage import queries
+from sagas.storage.external import Claim
+from sagas.storage.interface import Database
 
+OF_SAGA = (
+    "SELECT s.key, s.input, s.deadline, s.traceparent, text, "
+    "(SELECT p.shape FROM shapes p WHERE p.id = s.id) "
+    f"FROM {queries.DEFINED} WHERE s.id = ?"
+)
+RESULTS = "SELECT step, value FROM attempts WHERE id = ? AND action = 'run' AND event = 'commit'"
 Word = tuple[str, str, str]
 """The name of a saga, the name of a step, and `run` or `undo`."""
 
@@ -70,3 +87,66 @@ class Queue:
     ready: int
     oldest: float | None
     claimed: int
+
+
+class DeclarationMissing(LookupError):
+    """This program does not have the function that `given=` names."""
+
+
+def given_text(task: Task[Any]) -> str:
+    """Return `task.given` as JSON. It is computed at each claim.
+
+    Raises:
+        DeclarationMissing: The program does not have this version of the saga.
+        Exception: What the function raises.
+    """
+    if task.lacks_given:
+        raise DeclarationMissing(
+            f"step {task.step!r} of saga {task.saga!r} cannot be claimed here, because this "
+            "program does not have the version that the saga was started with. Claim it at a node "
+            "that has the version"
+        )
+    return serialization.write_value(task.given, "what given= returned")
+
+
+def given_failure(error: Exception) -> Outcome:
+    """Return the outcome of an attempt whose `given=` function raised."""
+    message = f"given= raised {outcomes.describe_error(error)}"
+    return outcomes.failure(message, final=isinstance(error, Fail))
+
+
+async def stored_task(
+    store: Database, registry: DefinitionRegistry, claim: Claim
+) -> tuple[CompiledDefinition, Task[Any]]:
+    """Return definition and task of an attempt that another node executes."""
+    read, undo = store.read, claim.action == "undo"
+    rows = await read(OF_SAGA, claim.id)
+    ((key, text, deadline, traceparent, definition, shape),) = rows
+    kind: CompiledDefinition = registry.kind(definition)
+    decode, text = kind.payloads.decode, kind.payloads.decode(text)
+    results: dict[int, str] = {
+        step: decode(value or "null") for step, value in await read(RESULTS, claim.id)
+    }
+    token, _, number = claim.attempt.rpartition("-")
+    name = kind.names[claim.step]
+    values = ShapeValues() if shape is None else ShapeValues.read(decode(shape))
+    location = kind.location(name, values, text)
+    hint = kind.actions[claim.action][claim.step].hint
+    data = TaskSnapshot(
+        kind.name,
+        key,
+        name,
+        undo,
+        int(number),
+        token.removesuffix(f"-{name}-{claim.action}"),
+        location.input if location else text,
+        {kind.names[step]: results.get(step) or "null" for step in kind.below[claim.step]},
+        results.get(claim.step) if undo else None,
+        hint,
+        kind.decoders,
+        deadline,
+        kind.actions[claim.action][claim.step].context,
+        traceparent=traceparent,
+        location=location,
+    )
+    return kind, Task(data)

@@ -1,7 +1,6 @@
-"""Steps on workers of a queue: the message out, the report back.
+"""Messages to workers of a queue: an attempt as an order, and how it is sent.
 
-Workers of a queue call the functions of these steps. An attempt is sent as a message, and its
-report returns through the store.
+Workers of a queue call the functions of these steps. The report returns through the store.
 """
 
 from __future__ import annotations
@@ -11,16 +10,13 @@ from collections.abc import Iterable
 from typing import TYPE_CHECKING, Any
 
 from sagas.base.errors import SagasError
-from sagas.core import outcomes
 from sagas.core.dispatch import Declared, Order, Position
-from sagas.core.outcomes import Outcome
 from sagas.definition.payloads import ABSENT
 
 if TYPE_CHECKING:
     from sagas.core.model import Attempt
     from sagas.definition.saga import Saga
-    from sagas.definition.step import Manner, RemoteQueue, Step
-    from sagas.runtime.executor_host import ExternalTasks
+    from sagas.definition.step import RemoteQueue, Step
     from sagas.storage.interface import Database
 
 MAX_CARRIED = 64 << 10
@@ -96,29 +92,7 @@ async def check(database: Database, sagas: Iterable[Saga]) -> None:
         await queue.check(database, steps)
 
 
-async def call(external: ExternalTasks, manner: Manner, attempt: Attempt) -> Outcome | None:
-    """Send an attempt, and wait for its report.
-
-    Returns:
-        The outcome. None if the call was cancelled here, and the outcome is unknown.
-    """
-    remote_queue = manner.queue
-    assert remote_queue
-    timeout = manner.timeout if manner.timeout is not None else remote_queue.timeout
-    try:
-        with external.reports(attempt) as report:
-            async with asyncio.timeout(timeout):
-                lease = await external.dispatch(attempt)
-                if not report.done():
-                    await _send(remote_queue, order_of(attempt, lease))
-                return await report
-    except asyncio.CancelledError:
-        return None
-    except TimeoutError:
-        return outcomes.unknown(f"no report within {timeout:g} s from {remote_queue!r}")
-
-
-async def _send(queue: RemoteQueue, order: Order) -> None:
+async def send(queue: RemoteQueue, order: Order) -> None:
     """Send an order, with retries until it is sent. The caller limits the time."""
     pause = FIRST_PAUSE
     while True:

@@ -1,4 +1,4 @@
-"""Deletes ended sagas after their retention.
+"""Deletes ended sagas after their retention, and large values that no row refers to any more.
 
 A whole closed shard is deleted when the retention of all its sagas is over. If an archive directory
 is given, the shard is exported first.
@@ -31,6 +31,7 @@ from sagas.storage.queries import RESOLVABLE
 
 if TYPE_CHECKING:
     from sagas.runtime.coordinator import Coordinator
+    from sagas.storage.blob_layer import BlobDatabase
 
 MAX_SAGAS = 100_000
 """Maximum number of sagas that one run deletes."""
@@ -69,6 +70,13 @@ IS_DAMAGED = "(closed = 2 OR (closed = 0 AND audit IS NOT NULL))"
 OF_LOG = (
     "DELETE FROM event_log WHERE shard = ?",
     "DELETE FROM shard_definitions WHERE shard = ?",
+)
+DAY = 86_400.0
+"""Seconds between two sweeps of blobs. Between two checks of the blob store's owner is an hour."""
+COPY = (
+    "%s: the values in the blob store belong to %s, and this store is a copy of it. No value is "
+    "deleted. Give this store its own blob store, with a copy of the values. Or run `sagas store "
+    "STORE own-blobs --blobs ...` if this store replaces the original"
 )
 
 
@@ -240,3 +248,28 @@ async def keep(
             )
             pause = HOUR
         await asyncio.sleep(min(pause, max(1.0, seconds / 24)))
+
+
+async def sweep_blobs(database: BlobDatabase) -> None:
+    """Delete orphaned blobs when the store opens, and then once a day.
+
+    Each hour it checks whether the blob store belongs to this store or to the original of a copy.
+    It runs until it is cancelled.
+    """
+    loop, blobs, warned_name = asyncio.get_running_loop(), database.blobs, ""
+    due = loop.time()
+    while True:
+        try:
+            if loop.time() < due:
+                await blobs.is_own()
+            else:
+                count = await database.swept()
+                due = loop.time() + (DAY if blobs.other is None else 0)
+                if count:
+                    logger.info("deleted %s without a row", number(count, "blob"))
+            if blobs.other is not None and blobs.other.name != warned_name:
+                warned_name = blobs.other.name
+                logger.warning(COPY, database.path, warned_name)
+        except SagasError as error:
+            logger.warning("blobs without a row could not be deleted: %s", error)
+        await asyncio.sleep(HOUR)

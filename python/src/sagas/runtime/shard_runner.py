@@ -1,22 +1,30 @@
-"""Runs one shard: driver, engine process, commits."""
+"""Runs one shard: driver, engine process, commits, and the effects of its decisions."""
 
 from __future__ import annotations
 
 import time
+from collections.abc import Collection, Sequence
+from typing import TYPE_CHECKING
 
 from sagas.base.errors import DamagedShard, SagasError
 from sagas.base.logger import logger
-from sagas.core import recovery
+from sagas.core import early_reports, recovery
 from sagas.core.batch import LoadedShard
-from sagas.core.effects import Abort, Effects
-from sagas.core.model import Attempt
+from sagas.core.effects import NO_RARE_EFFECTS, Abort, Effects, RareEffects
+from sagas.core.model import Attempt, SagaInstance
+from sagas.core.recovery import Recovery
 from sagas.core.replies import EngineDisagrees
 from sagas.core.shard import MAX_REPORTS, ShardDriver
-from sagas.core.states import ShardState
+from sagas.core.states import ShardState, saga_phase, undo_failures
 from sagas.core.suspensions import SuspensionRow
-from sagas.engine.process import EngineProcess
-from sagas.runtime import decode_check
-from sagas.runtime.shard_parts import Parts, ShardsForRunner, engine_on, named, not_understood
+from sagas.definition.payloads import ABSENT
+from sagas.engine.process import EngineProcess, Listener
+from sagas.runtime import stored_values
+from sagas.runtime.instances import conflict
+
+if TYPE_CHECKING:
+    from sagas.runtime.coordinator import Coordinator
+    from sagas.runtime.shards import Shards
 
 FEW = 64  # number of requests that are answered quickly
 TURN = 0.1  # seconds for which a shard keeps its engine while other shards wait for one
@@ -39,7 +47,7 @@ class ShardRunner:
         used: When its engine was last asked, by the monotonic clock.
     """
 
-    def __init__(self, driver: ShardDriver, parts: Parts, shards: ShardsForRunner) -> None:
+    def __init__(self, driver: ShardDriver, coordinator: Coordinator, shards: Shards) -> None:
         self.driver = driver
         self.engine: EngineProcess | None = None
         self.fault: BaseException | None = None
@@ -47,9 +55,10 @@ class ShardRunner:
         self.note: str | None = None
         self.has_unread = False
         self.used = 0.0
-        self._parts, self._shards = parts, shards
-        self._slots, self._engines, self._commits = parts.slots, parts.engines, parts.commits
-        self._effects, self._clock, self._loop = parts.effects, parts.clock, parts.loop
+        self._coordinator, self._store, self._shards = coordinator, coordinator.store, shards
+        self._slots, self._engines = coordinator.executor.slots, shards.engines
+        self._commits, self._effects = coordinator.commits, shards.effects
+        self._clock, self._loop = coordinator.clock, coordinator.loop
         self._woke = self._pause = 0.0
         self._is_scheduled = self._is_coming = False
         self._rows: LoadedShard | None = None  # the rows that it is recovered from
@@ -102,8 +111,9 @@ class ShardRunner:
             self._loop.call_soon(self.give_up_engine)
             if not self.driver.commits_in_flight:
                 return
-        self._shards.abort_overdue()
-        self._shards.fill(self)
+        self._shards.deadlines.look()
+        if self._shards.placement.waiting:
+            self._shards.placement.fill(self)
         if self.driver.state is not ACTIVE or engine.unanswered:  # another shard took its engine
             return
         lines = [] if self.driver.needs_new_engine else self._requests()
@@ -128,7 +138,7 @@ class ShardRunner:
             self.engine = None
             self.driver.set_state(IDLE)
             self.driver.set_state(STARTING)
-            self._parts.spawn(self._start())
+            self._coordinator.spawn(self._start())
 
     def _requests(self) -> list[str]:
         is_closing, driver = self._shards.is_closing, self.driver
@@ -278,10 +288,10 @@ class ShardRunner:
         """Start an engine, which the pool has granted."""
         if self.driver.state is STALE:
             self.driver.set_state(LOADING)
-            self._parts.spawn(self._load())
+            self._coordinator.spawn(self._load())
         elif self.driver.state is IDLE:
             self.driver.set_state(STARTING)
-            self._parts.spawn(self._start())
+            self._coordinator.spawn(self._start())
         else:
             self._engines.release(self)
 
@@ -289,14 +299,14 @@ class ShardRunner:
         """Start an engine on the shard, unless another node has written the shard."""
         driver = self.driver
         try:
-            taken = await self._parts.store.take_up(driver.number, driver.epoch)
+            taken = await self._store.take_up(driver.number, driver.epoch)
             if driver.state is not STARTING:
                 return
             if taken is None:  # another node may own it: load it again, as after a failure
                 self.fail(None)
                 return
             text, driver.events = taken
-            self.engine = engine_on(self._parts, driver, text, self)
+            self.engine = engine_on(self._shards.program, driver, text, self)
         except Exception as error:
             self.fail(named(error))
             return
@@ -314,7 +324,7 @@ class ShardRunner:
             return
         if self.driver.state is ACTIVE:
             detail = f"shard {self.driver.name}: {last}"
-            self._parts.teller.emit("engine_died", detail=detail)
+            self._coordinator.teller.emit("engine_died", detail=detail)
             self.fail(None)
         else:  # while the shard was loaded
             self.engine = self._rows = None
@@ -368,23 +378,23 @@ class ShardRunner:
         """Read the shard from the store, and start an engine on it."""
         driver = self.driver
         try:
-            rows = await self._parts.store.load(driver.number, driver.epoch, driver.new_shard)
+            rows = await self._store.load(driver.number, driver.epoch, driver.new_shard)
             if driver.state is not LOADING:
                 return
             if rows is not None and (damage := recovery.damage_of(rows, driver)):
                 driver.loaded(rows)
                 raise DamagedShard(damage)
-            if rows is None or await decode_check.is_left(self, rows, self._parts.store):
+            if rows is None or await self._is_left(rows):
                 self._shards.lose(self)
                 return
             if driver.state is not LOADING:
                 return
             driver.loaded(rows)
-            await self._shards.find_elsewhere(driver, rows)
+            await self._shards.relocation.find_elsewhere(driver, rows)
             if driver.state is not LOADING:
                 return
             self._shards.reopen(driver, rows, self.fault)
-            self.engine = engine_on(self._parts, driver, rows.text, self)
+            self.engine = engine_on(self._shards.program, driver, rows.text, self)
         except Exception as error:
             if driver.state is LOADING:
                 self._shards.reopen(driver, None, fault := named(error))
@@ -393,10 +403,35 @@ class ShardRunner:
         self._rows, self._overdue = rows, recovery.overdue(rows, self._clock())
         self.engine.ask(recovery.requests(rows, self._overdue))
 
+    async def _is_left(self, rows: LoadedShard) -> bool:
+        """Return whether the shard is left to another node, because values cannot be read.
+
+        If no other node takes it, this program logs a warning once.
+        """
+        driver, store = self.driver, self._store
+        kinds = driver.identity.definitions.kinds
+        errors = [error async for error in stored_values.unreadable_sagas(kinds, rows, store)]
+        if not errors:
+            return False
+        if not stored_values.is_at_work(driver) and await store.spare(driver.number):
+            logger.info("left shard %s to other nodes: %s", driver.name, errors[0])
+            return True
+        if not self.has_unread:
+            count = "1 open saga" if len(errors) == 1 else f"{len(errors)} open sagas"
+            logger.warning(
+                "shard %s: this program cannot read %s: %s. The first one: %s",
+                driver.name,
+                count,
+                stored_values.REMEDY,
+                errors[0],
+            )
+        self.has_unread = True
+        return False
+
     def _recover(self, rows: LoadedShard, replies: list[str], log_text: str) -> None:
         """Set the driver to the stored state, and continue what was started."""
-        self._rows, driver, store = None, self.driver, self._parts.store
-        known = self._parts.sagas.by_key
+        self._rows, driver, store = None, self.driver, self._store
+        known = self._coordinator.sagas.by_key
         try:
             recovered = recovery.recover(
                 rows, replies, self._clock(), driver, known, store.shared, self._overdue, log_text
@@ -426,3 +461,203 @@ class ShardRunner:
         self._shards.trouble(self, fault)
         self.driver.set_state(STALE)
         self._recover_soon()
+
+
+class EffectHandler:
+    """Carries out effects: some at once, others after their batch is durable."""
+
+    def __init__(self, coordinator: Coordinator, shards: Shards) -> None:
+        self._executor, self._slots = coordinator.executor, coordinator.executor.slots
+        self._sagas, self._teller = coordinator.sagas, coordinator.teller
+        self._shards, self._offers = shards, coordinator.external
+        self._acknowledgements = coordinator.executor.calls.acknowledgements
+
+    def at_once(self, effects: Effects) -> None:
+        """Carry out the effects that do not wait for the commit."""
+        if self._acknowledgements is not None:
+            self._acknowledgements.decided(effects)
+        if effects.unclaimed:
+            self._slots.release(effects.unclaimed)
+        for saga in effects.rare.displaced:
+            self._shards.assign(saga)
+
+    def lost(self, effects: Effects) -> None:
+        """Discard the effects, because the batch is not durable."""
+        if self._acknowledgements is not None:
+            self._acknowledgements.lost(effects)
+        self._slots.release(len(effects.dispatch))
+
+    def committed(self, effects: Effects) -> None:
+        """Carry out the effects that wait for the commit."""
+        rare = effects.rare
+        if effects.reported:
+            self._executor.reported(effects.reported)
+        if rare is not NO_RARE_EFFECTS:
+            self._kept(rare)
+        if effects.opened:
+            self._opened(effects.opened)
+        for saga in rare.overdue:
+            self._overdue(saga)
+        for saga in rare.planned:
+            self._executor.planned(saga)
+        if effects.ended:
+            self._ended(effects.ended)
+            if self._acknowledgements is not None:
+                self._acknowledgements.over(effects.ended)
+        if dispatch := effects.dispatch:
+            self._slots.release(len(dispatch))
+            self._executor.begin_all(dispatch)
+        for saga in effects.opened:
+            if saga.is_large:  # it may wait for a slot
+                saga.release()
+        for attempt in effects.reported:
+            if attempt.instance.is_large and not attempt.instance.over:
+                attempt.instance.release()
+
+    def _kept(self, rare: RareEffects) -> None:
+        """Carry out what follows from stored rows, offers, reports and answers."""
+        if rare.taken:
+            self._executor.reported(rare.taken)
+        for attempt, row in rare.suspended:
+            self._executor.stored(attempt, row)
+        for attempt in rare.offered:
+            self._offers.offered(attempt)
+        for attempt, withdrawal in rare.withdrawn:
+            self._offers.withdrawn(attempt, withdrawal.is_done)
+        for saga in rare.draining:
+            self._executor.drain(saga)
+        for report in rare.early:
+            self._executor.early.stored(report)
+        for abort in rare.aborted:
+            self._aborted(abort)
+
+    def over(self, sagas: Collection[SagaInstance]) -> None:
+        """Forget the acknowledgements of these sagas."""
+        if self._acknowledgements is not None:
+            self._acknowledgements.over(sagas)
+
+    # -- recovery
+
+    def recovered(self, recovery: Recovery) -> None:
+        """Apply the recovered state of a shard to its sagas."""
+        if self._acknowledgements is not None:
+            self._acknowledgements.recovered(recovery)
+        for before, saga in recovery.replaced:
+            kind = saga.kind
+            if saga.text == ABSENT:
+                self._shards.withdraw(before)
+                self._shards.relocation.compare_with_stored(before)
+                continue
+            if error := conflict(saga.key, before.kind, before.text, kind.name, saga.text):
+                self._sagas.starts.notify(before, error)
+                self._sagas.ends.notify(before, error)
+            self._shards.withdraw(before)
+            self._sagas.replace(before, saga)
+        for saga in recovery.restored:
+            self._sagas.by_key[saga.key] = saga
+            self._sagas.notify_started(saga)
+        for saga in recovery.gone:
+            self._shards.relocation.leave(saga, None)
+            if saga.client_start is not None:
+                self._shards.doubt()
+        for attempt in recovery.forgotten:
+            self._executor.forget(attempt)
+        for abort in recovery.aborted:
+            self._sagas.answer_abort(abort)
+        self._executor.early.look_again(recovery.effects.batch.shard)
+
+    def resume(self, recovery: Recovery) -> None:
+        """Resume the attempts of a recovered shard."""
+        for attempt in recovery.resumed:
+            self._executor.resume(attempt)
+        for saga in recovery.draining:
+            self._executor.drain(saga)
+        self._offers.look()
+
+    # -- events
+
+    def _aborted(self, abort: Abort) -> None:
+        saga = abort.saga
+        if abort.done:
+            self._executor.drain(saga)
+            self._teller.emit("saga_aborted", key=saga.key, saga=saga.kind.name)
+        self._sagas.answer_abort(abort)
+
+    def _overdue(self, saga: SagaInstance) -> None:
+        """Emit that a saga was aborted because its deadline had passed, and drain it."""
+        self._teller.emit("saga_overdue", key=saga.key, saga=saga.kind.name)
+        self._executor.drain(saga)
+        self._teller.emit("saga_aborted", key=saga.key, saga=saga.kind.name)
+
+    def _opened(self, sagas: Sequence[SagaInstance]) -> None:
+        is_wanted = self._teller.is_wanted("saga_started")
+        for saga in sagas:
+            self._sagas.notify_started(saga)
+            if is_wanted:
+                self._teller.emit("saga_started", key=saga.key, saga=saga.kind.name)
+
+    def _ended(self, sagas: Sequence[SagaInstance]) -> None:
+        is_wanted = self._teller.is_wanted("saga_ended")
+        for saga in sagas:
+            self._sagas.notify_ended(saga)
+            if is_wanted or saga.phase != "ended":
+                self._emit_end(saga)
+            if saga.has_deviated and saga.phase == "ended" and (steps := undo_failures(saga.end)):
+                self._emit_undo_failed(saga, steps)
+            if unused := early_reports.unused(saga):
+                self._emit_unused(saga, unused)
+
+    def _emit_end(self, saga: SagaInstance) -> None:
+        """Emit how a saga ended: its phase, and the blocking steps of a stuck one."""
+        chain = (saga.answer or {}).get("chain", ()) if saga.phase == "stuck" else ()
+        names = " and ".join(saga.kind.names[step] for step in chain)
+        detail = f"because of {names}" if names else None
+        if saga.phase != "stuck":
+            recovered = (saga.answer or {}).get("kind") == "plan"
+            detail = saga_phase(saga.phase, recovered, None).value
+        self._teller.emit(f"saga_{saga.phase}", key=saga.key, saga=saga.kind.name, detail=detail)
+
+    def _emit_unused(self, saga: SagaInstance, steps: Sequence[int]) -> None:
+        """Emit that a saga ended without using successes that were reported early."""
+        names = " and ".join(saga.kind.names[step] for step in steps)
+        detail = f"{names}: a success was reported before the step began, and was not used"
+        self._teller.emit("saga_unused_report", key=saga.key, saga=saga.kind.name, detail=detail)
+        self._sagas.on_unused_report()
+
+    def _emit_undo_failed(self, saga: SagaInstance, steps: Sequence[int]) -> None:
+        """Emit that a saga ended, but effects of these steps remain against its plan."""
+        stands = [saga.kind.names[step] for step in steps]
+        remedy = (
+            "the compensation failed permanently. Repair the effect, then mark the saga "
+            "as resolved"
+        )
+        detail = f"{' and '.join(stands)}: {remedy}"
+        self._teller.emit("saga_undo_failed", key=saga.key, saga=saga.kind.name, detail=detail)
+
+
+def engine_on(
+    program: str, driver: ShardDriver, log_text: str, listener: Listener
+) -> EngineProcess:
+    """Start an engine on a shard's event log, with all definitions of the shard."""
+    definitions = driver.identity.definitions
+    engine = EngineProcess(program, definitions.texts, log_text, listener)
+    definitions.started()
+    return engine
+
+
+def named(error: Exception) -> SagasError:
+    """Return why a shard could not be loaded.
+
+    An error of another type is caused by the rows of the shard.
+    """
+    return error if isinstance(error, SagasError) else not_understood(error)
+
+
+def not_understood(error: Exception) -> DamagedShard:
+    """Return the error of a shard whose rows raised `error`, without its text.
+
+    The text of the error may contain values of the rows.
+    """
+    damaged = DamagedShard(f"its data could not be parsed ({type(error).__name__})")
+    damaged.__cause__ = error
+    return damaged

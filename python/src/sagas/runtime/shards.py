@@ -1,41 +1,66 @@
-"""Creates, loads, loses and closes shards."""
+"""The shards of this program: created, loaded, lost and closed, with the placement of new sagas.
+
+A saga whose key another shard has, or whose shard moved to another node, is moved too.
+"""
 
 from __future__ import annotations
 
 import asyncio
 import contextlib
+import secrets
 import time
-from collections.abc import Callable, Coroutine
+from collections.abc import Callable
+from typing import TYPE_CHECKING
 
 from sagas.base.errors import DamagedShard, EngineError, SagaMoved, SagasError, StoreUnavailable
-from sagas.base.events import EventEmitter
 from sagas.base.logger import logger
 from sagas.core import recovery
-from sagas.core.batch import Batch, LoadedShard, ShardRow, SagaRow, RequestRef
+from sagas.core.batch import Batch, LoadedShard, RequestRef, SagaRow, ShardRow
 from sagas.core.effects import Abort
 from sagas.core.model import SagaInstance
 from sagas.core.shard import ShardDriver, ShardIdentity
 from sagas.core.shard_definitions import ShardDefinitions
 from sagas.core.states import ShardState
+from sagas.definition.blobs import Reference
 from sagas.definition.compiled import CompiledDefinition
-from sagas.definition.shelf import DefinitionRegistry
+from sagas.definition.shelf import DefinitionSet
 from sagas.engine.pool import EnginePool
 from sagas.engine.process import EngineProcess
-from sagas.runtime import decode_check
+from sagas.runtime import stored_values
 from sagas.runtime.audits import Auditor
-from sagas.runtime.client_starts import StartDoubt
-from sagas.runtime.commit_queue import CommitQueue
-from sagas.runtime.effects import EffectHandler, ExternalOffers
-from sagas.runtime.executor import Executor
-from sagas.runtime.instances import Instances
-from sagas.runtime.placement import Placement
-from sagas.runtime.relocation import Relocation
-from sagas.runtime.shard_parts import Opening, Parts
-from sagas.runtime.shard_runner import ShardRunner
-from sagas.storage.interface import Database
+from sagas.runtime.instances import INPUT, Deadlines, conflict
+from sagas.runtime.shard_runner import EffectHandler, ShardRunner
+from sagas.runtime.stored_values import until_answered
+
+if TYPE_CHECKING:
+    from sagas.runtime.coordinator import Coordinator
 
 STALE, ACTIVE, IDLE = ShardState.STALE, ShardState.ACTIVE, ShardState.IDLE
+RETRY_DELAY = 1.0
+"""Seconds after which failed starts are read again."""
 REMEDY = "The other shards are served. See the guide on damaged shards"
+
+
+class StartDoubt:
+    """Whether starts that this node has claimed may have been lost.
+
+    No other node takes such starts, so this node reads them again.
+    """
+
+    def __init__(self, loop: asyncio.AbstractEventLoop, look: Callable[[], None]) -> None:
+        self._loop, self._look = loop, look
+        self._is_set = False
+
+    def doubt(self, looks: bool = True) -> None:
+        """Mark that some may be lost. With `looks`, they are read again after a delay."""
+        self._is_set = True
+        if looks:
+            self._loop.call_later(RETRY_DELAY, self._look)
+
+    def settle(self) -> bool:
+        """Return whether some may be lost, and clear the mark."""
+        was_set, self._is_set = self._is_set, False
+        return was_set
 
 
 class Shards:
@@ -43,57 +68,39 @@ class Shards:
 
     Attributes:
         runners: The shards, by number.
+        program: The program `sagas`.
         engines: Their engine processes.
         auditor: Audits finished shards.
+        placement: Assigns new sagas to shards.
+        relocation: Moves sagas between shards and nodes.
+        effects: Carries out the effects of the shards.
         closed: Why nothing starts any more.
         is_closing: Whether nothing starts any more.
         start_doubt: Whether claimed starts of clients may be lost.
-        abort_overdue: Aborts the sagas whose deadlines have passed.
+        deadlines: Aborts the sagas whose deadlines have passed.
     """
 
     def __init__(
-        self,
-        store: Database,
-        definitions: DefinitionRegistry,
-        program: str,
-        engines: int,
-        sagas: Instances,
-        executor: Executor,
-        commits: CommitQueue,
-        offers: ExternalOffers,
-        clock: Callable[[], float],
-        teller: EventEmitter,
-        spawn: Callable[[Coroutine[None, None, None]], asyncio.Task[None]],
-        look: Callable[[], None],
-        idle: float,
+        self, coordinator: Coordinator, program: str, engine_processes: int, idle: float
     ) -> None:
-        self._store, self._definitions, self._sagas = store, definitions, sagas
-        self._teller, self._spawn, self._commits = teller, spawn, commits
-        self._loop = asyncio.get_running_loop()
-        self.runners: dict[int, ShardRunner] = {}
-        self.engines: EnginePool[ShardRunner] = EnginePool(engines)
-        self.auditor = Auditor(store, program, commits, clock, teller)
-        self.closed: SagasError | None = None
-        self.is_closing = False
-        self.abort_overdue: Callable[[], None] = lambda: None
-        self.start_doubt = StartDoubt(self._loop, look)
+        self._store, self._definitions = coordinator.store, coordinator.registry
+        self._sagas, self._commits = coordinator.sagas, coordinator.commits
+        self._clock, self._teller = coordinator.clock, coordinator.teller
+        self._spawn = coordinator.spawn
+        self._coordinator, self._loop = coordinator, coordinator.loop
+        self.program: str = program
         self._idle = idle
-        self._placement = Placement(store, definitions, sagas, self._loop, self)
-        self._relocation = Relocation(store, sagas, executor, commits, clock, spawn, self)
-        effects = EffectHandler(executor, sagas, teller, self, offers)
-        self._parts = Parts(
-            store,
-            program,
-            self._loop,
-            clock,
-            teller,
-            sagas,
-            executor.slots,
-            commits,
-            self.engines,
-            effects,
-            spawn,
-        )
+        self.runners: dict[int, ShardRunner] = {}
+        self.engines: EnginePool[ShardRunner] = EnginePool(engine_processes)
+        self.auditor = Auditor(self._store, program, self._commits, self._clock, self._teller)
+        self.closed: SagasError | None = None
+        self.is_closing: bool = False
+        self.start_doubt = StartDoubt(self._loop, coordinator.look)
+        self.deadlines: Deadlines = Deadlines(self._sagas, self.abort, self._teller, self._clock)
+        self._sagas.on_executed = self.deadlines.add
+        self.placement: Placement = Placement(coordinator, self)
+        self.relocation: Relocation = Relocation(coordinator, self)
+        self.effects: EffectHandler = EffectHandler(coordinator, self)
         self._opening = Opening()
         self._closing: dict[int, asyncio.Task[None]] = {}  # finished, and not marked as closed
         self._change: asyncio.Future[None] | None = None
@@ -143,7 +150,7 @@ class Shards:
 
     def run(self, driver: ShardDriver) -> ShardRunner:
         """Execute a shard from now on."""
-        runner = self.runners[driver.number] = ShardRunner(driver, self._parts, self)
+        runner = self.runners[driver.number] = ShardRunner(driver, self._coordinator, self)
         return runner
 
     def taken(self, rows: list[ShardRow]) -> None:
@@ -176,7 +183,7 @@ class Shards:
             return
         runner.is_set_aside, driver = True, runner.driver
         self._spawn(self._report(runner, error))
-        self._placement.forget(runner)
+        self.placement.forget(runner)
         driver.is_full = True
         sent, unsent = recovery.take_unopened(driver, None, self._sagas.by_key)
         for saga in sent:
@@ -200,7 +207,7 @@ class Shards:
     async def _note(self, runner: ShardRunner, why: str | None) -> None:
         """Store why no program can open a shard. If that fails, the next try stores it."""
         driver = runner.driver
-        batch = Batch(driver.number, self._parts.clock(), epoch=driver.epoch)
+        batch = Batch(driver.number, self._clock(), epoch=driver.epoch)
         batch.rare_rows.set_aside = (why,)
         with contextlib.suppress(SagasError):
             await self._commits.kept(batch)
@@ -253,7 +260,7 @@ class Shards:
     def coming(self) -> int:
         """Return how many replies of engines, and how many new sagas, are expected."""
         pending = sum(runner.pending_answers() for runner in self.engines.borrowers())
-        return pending + len(self._placement.waiting)
+        return pending + len(self.placement.waiting)
 
     def abort(self, saga: SagaInstance, command: RequestRef = None) -> asyncio.Future[bool]:
         """Ask to abort a saga; return a future of whether this command aborts it."""
@@ -269,21 +276,12 @@ class Shards:
 
     def assign(self, saga: SagaInstance) -> None:
         """Open a saga in a shard."""
-        self._placement.assign(saga)
-
-    def fill(self, asker: ShardRunner) -> None:
-        """Assign waiting sagas to shards. `asker` is about to ask its engine."""
-        if self._placement.waiting:
-            self._placement.fill(asker)
+        self.placement.assign(saga)
 
     def withdraw(self, saga: SagaInstance) -> None:
         """Do not open a saga in any shard."""
         for runner in self.runners.values():
             runner.driver.withdraw(saga)
-
-    def compare_with_stored(self, saga: SagaInstance) -> None:
-        """Compare a saga with the stored one of its key, and notify its callers."""
-        self._relocation.compare_with_stored(saga)
 
     def refuse(self, saga: SagaInstance, error: SagasError) -> None:
         """Refuse the start of a saga, and notify its callers."""
@@ -298,19 +296,7 @@ class Shards:
         """
         self.start_doubt.doubt(not self.closed)
 
-    def leave(self, saga: SagaInstance, error: SagasError | None) -> None:
-        """Stop executing a saga here."""
-        self._relocation.leave(saga, error)
-
-    def key_taken(self, saga: SagaInstance, row: SagaRow) -> None:
-        """Handle that another shard has the key of a saga."""
-        self._relocation.key_taken(saga, row)
-
     # -- recovery
-
-    async def find_elsewhere(self, driver: ShardDriver, rows: LoadedShard) -> None:
-        """Withdraw unconfirmed starts whose keys other sagas have."""
-        await self._relocation.find_elsewhere(driver, rows)
 
     def reopen(
         self, driver: ShardDriver, rows: LoadedShard | None, fault: BaseException | None
@@ -350,7 +336,7 @@ class Shards:
         """
         self._teller.emit("lease_expired")
         if is_older:
-            self._placement.current.clear()
+            self.placement.current.clear()
             self._forget_closing()
             for runner in self.runners.values():
                 runner.driver.is_full = True
@@ -378,15 +364,15 @@ class Shards:
         for abort in (*driver.aborts, *driver.aborts_sent):
             self._sagas.fail_abort(abort, moved)
         self._stop(runner)
-        self._relocation.stop_shard(driver)
+        self.relocation.stop_shard(driver)
         self._notify_change()
         self.ready(runner)
 
     def _stop(self, runner: ShardRunner) -> None:
         runner.stop()
-        self._parts.effects.over(runner.driver.sagas.values())
+        self.effects.over(runner.driver.sagas.values())
         self.runners.pop(runner.driver.number, None)
-        self._placement.forget(runner)
+        self.placement.forget(runner)
 
     # -- end
 
@@ -402,7 +388,7 @@ class Shards:
         driver = runner.driver
         if not driver.is_over or driver.state not in (ACTIVE, IDLE):
             return
-        is_current = self._placement.is_current(runner)
+        is_current = self.placement.is_current(runner)
         takes_more = is_current and not driver.is_full and driver.opened < self._definitions.room
         if self.closed or driver.new_shard or takes_more:
             return
@@ -441,7 +427,7 @@ class Shards:
         """Offer shards with unreadable values to other nodes."""
         for runner in self.runners.values():
             is_here = runner.driver.state in (ACTIVE, IDLE)
-            if runner.has_unread and is_here and not decode_check.is_at_work(runner.driver):
+            if runner.has_unread and is_here and not stored_values.is_at_work(runner.driver):
                 self._spawn(self._offer(runner))
 
     async def _offer(self, runner: ShardRunner) -> None:
@@ -483,6 +469,248 @@ class Shards:
         engines = [runner.engine for runner in self.runners.values() if runner.engine]
         for runner in self.runners.values():
             runner.stop()
-            self._relocation.notify_closed(runner.driver, error)
+            self.relocation.notify_closed(runner.driver, error)
         self._sagas.fail_aborts(error)
         return engines
+
+
+class Opening:
+    """The shards that are loaded while the store opens."""
+
+    def __init__(self) -> None:
+        self._loading: set[ShardRunner] = set()
+        self._over: asyncio.Future[None] | None = None
+
+    def begin(self, runners: list[ShardRunner]) -> None:
+        """Set the shards that are to be loaded."""
+        self._loading = {*runners}
+        if runners:
+            self._over = asyncio.get_running_loop().create_future()
+
+    async def over(self) -> None:
+        """Wait until all are loaded."""
+        if self._over:
+            await self._over
+
+    def ready(self, runner: ShardRunner) -> None:
+        """Handle that a shard is loaded or lost."""
+        self._loading.discard(runner)
+        if not self._loading and self._over and not self._over.done():
+            self._over.set_result(None)
+
+    def fail(self, error: SagasError) -> None:
+        """Fail the opening, because a shard could not be loaded."""
+        if self._over and not self._over.done():
+            self._over.set_exception(error)
+
+
+class Placement:
+    """Assigns sagas to shards.
+
+    Attributes:
+        current: The shards that accept sagas, by the digest of their definitions.
+        waiting: Sagas that are assigned in this turn of the loop.
+    """
+
+    def __init__(self, coordinator: Coordinator, shards: Shards) -> None:
+        self._store, self._definitions = coordinator.store, coordinator.registry
+        self._sagas, self._loop, self._shards = coordinator.sagas, coordinator.loop, shards
+        self.current: dict[str, ShardRunner] = {}
+        self.waiting: list[SagaInstance] = []
+
+    def assign(self, saga: SagaInstance) -> None:
+        """Assign a saga to a shard, together with others of this turn of the loop.
+
+        If the store is a file, the key is looked up first. If the key is taken, callers receive the
+        reason in a later turn, so that they can wait for it.
+        """
+        self.waiting.append(saga)
+        if len(self._sagas.by_key) == 1:
+            self.fill()
+        elif len(self.waiting) == 1:
+            self._loop.call_soon(self.fill)
+
+    def fill(self, asker: ShardRunner | None = None) -> None:
+        """Assign all waiting sagas. `asker` is a shard that is about to ask its engine."""
+        if not self.waiting:
+            return
+        waiting, self.waiting = self.waiting, []
+        stored_rows: dict[str, SagaRow] = {}
+        try:
+            if self._shards.closed:
+                raise self._shards.closed
+            if not self._store.shared:
+                stored_rows = self._store.find_many(
+                    [saga.key for saga in waiting if not saga.guessed]
+                )
+        except SagasError as error:
+            for saga in waiting:
+                self._loop.call_soon(self._shards.refuse, saga, error)
+            return
+        filled: dict[ShardRunner, None] = {}
+        for saga in waiting:
+            if saga.key in stored_rows:
+                self._loop.call_soon(self._shards.relocation.key_taken, saga, stored_rows[saga.key])
+            elif runner := self._put(saga):
+                filled[runner] = None
+        for runner in filled:
+            if runner is not asker:
+                runner.poke(at_once=True)
+
+    def forget(self, runner: ShardRunner) -> None:
+        """Have a shard accept no more sagas."""
+        if self.is_current(runner):
+            del self.current[runner.driver.identity.definitions.digest]
+
+    def is_current(self, runner: ShardRunner) -> bool:
+        """Return whether a shard accepts sagas."""
+        return self.current.get(runner.driver.identity.definitions.digest) is runner
+
+    def _put(self, saga: SagaInstance) -> ShardRunner | None:
+        definitions, kind = self._definitions.set_of(saga.kind), saga.kind
+        runner = self.current.get(definitions.digest)
+        if runner is None or not self._takes(runner, kind):
+            try:
+                runner = self._create(definitions, kind)
+            except SagasError as error:
+                self._loop.call_soon(self._shards.refuse, saga, error)
+                return None
+        saga.definition_index = runner.driver.identity.definitions.definition_index(kind)
+        runner.driver.open(saga)
+        return runner
+
+    def _takes(self, runner: ShardRunner, kind: CompiledDefinition) -> bool:
+        """Return whether a shard has room for one more saga of this definition."""
+        has_room = runner.driver.identity.definitions.has_room(kind)
+        return has_room and runner.driver.has_room(self._definitions.room)
+
+    def _create(self, definitions: DefinitionSet, kind: CompiledDefinition) -> ShardRunner:
+        """Create a shard. It has at least one definition, because an audit needs one."""
+        before = self.current.get(definitions.digest)
+        number, name = self._store.new_shard(), secrets.token_hex(8)
+        of = ShardDefinitions(definitions.kinds or [kind], definitions.digest)
+        identity = ShardIdentity(number, name, of)
+        runner = self._shards.run(ShardDriver.created(identity, self._store.timeline))
+        self.current[definitions.digest] = runner
+        if before:
+            self._loop.call_soon(self._shards.close_if_over, before)
+        return runner
+
+
+class Relocation:
+    """Releases sagas that other nodes execute, and opens sagas in another shard."""
+
+    def __init__(self, coordinator: Coordinator, shards: Shards) -> None:
+        self._store, self._sagas = coordinator.store, coordinator.sagas
+        self._executor, self._commits = coordinator.executor, coordinator.commits
+        self._clock, self._spawn, self._shards = coordinator.clock, coordinator.spawn, shards
+
+    def leave(self, saga: SagaInstance, error: SagasError | None) -> None:
+        """Stop executing a saga here.
+
+        Callers that wait for its end check the store. Callers that started it receive `error`.
+        """
+        self._sagas.leave(saga, error, SagaMoved("this node does not execute the saga"))
+        for attempt in saga.busy.values():
+            self._executor.changes.notify(attempt)
+
+    def key_taken(self, saga: SagaInstance, row: SagaRow, is_whole: bool = False) -> None:
+        """Handle that another shard has the key: with the same saga, or with a conflict.
+
+        With `is_whole`, a large input was read from the blob store.
+        """
+        error = conflict(saga.key, saga.kind, saga.text, row.saga, row.input)
+        # a large input may be equal with other types
+        if error and Reference.of(row.input) and not is_whole:
+            self._spawn(self._move(saga))
+            return
+        if saga.client_start is not None:
+            self._spawn(self._begun(saga.client_start, None if error else row.id))
+        self.leave(saga, error)
+
+    def compare_with_stored(self, saga: SagaInstance) -> None:
+        """Read the stored saga of the same key, and compare it with this one."""
+        self._spawn(self._compare_with_stored(saga))
+
+    async def _compare_with_stored(self, saga: SagaInstance) -> None:
+        row = await until_answered(lambda: self._whole(saga.key))
+        if row is not None and row.id >= 0:
+            self.key_taken(saga, row, is_whole=True)
+        else:
+            self.leave(saga, None)
+
+    async def _whole(self, key: str) -> SagaRow | None:
+        """Return the saga with this key, with its whole input."""
+        row = await self._store.find(key)
+        if row is not None and Reference.of(row.input):
+            for (text,) in await self._store.read(INPUT, key):
+                row = row._replace(input=text)
+        return row
+
+    async def _begun(self, start: int, saga: int | None) -> None:
+        """Mark a client's start as done, with its saga or None, so that no node opens it."""
+        batch = Batch(-1, self._clock())
+        batch.rare_rows.begun.append((start, saga))
+        try:
+            await self._commits.kept(batch)
+        except SagasError:
+            self._shards.doubt()
+
+    async def find_elsewhere(self, driver: ShardDriver, rows: LoadedShard) -> None:
+        """Withdraw unconfirmed starts in a shard whose keys other sagas have.
+
+        These sagas are in another shard, or have ended in this one.
+        """
+        open_keys = {key for _, key, *_ in rows.open}
+        unconfirmed = [
+            saga for saga in driver.opens_sent if not saga.committed and saga.key not in open_keys
+        ]
+        others = await asyncio.gather(*(self._store.find(saga.key) for saga in unconfirmed))
+        for saga, other in zip(unconfirmed, others):
+            if other is not None and (other.id >= 0 or saga.guessed):
+                driver.opens_sent.pop(saga, None)
+                saga.number, saga.shard = -1, None
+                self.key_taken(saga, other)
+
+    def stop_shard(self, driver: ShardDriver) -> None:
+        """Stop what was started in a shard that another node has now.
+
+        Callers that wait check the store.
+        """
+        moved = SagaMoved("the saga moved to another node")
+        sagas, opens = list(driver.sagas.values()), [*driver.opens_sent, *driver.opens]
+        attempts = dict.fromkeys(driver.unstored_reports())
+        attempts |= {attempt: None for saga in sagas for attempt in saga.busy.values()}
+        for attempt in attempts:
+            self._executor.kept.notify(attempt, moved)
+            self._executor.forget(attempt)
+        self._executor.early.look_again(driver.number, moved)
+        for saga in sagas:
+            if saga.committed:
+                self.leave(saga, None)
+        driver.clear_opens()
+        for saga in opens:
+            if not saga.committed:
+                saga.forget()
+                saga.number, saga.shard = -1, None
+                self._spawn(self._move(saga))
+
+    def notify_closed(self, driver: ShardDriver, error: SagasError) -> None:
+        """Notify callers that wait for steps of a shard that the store is closed."""
+        self._executor.early.look_again(driver.number, error)
+        for attempt in driver.unstored_reports():
+            self._executor.kept.notify(attempt, error)
+        for saga in driver.sagas.values():
+            for attempt in saga.busy.values():
+                self._executor.kept.notify(attempt, error)  # a retry was requested
+                self._executor.changes.notify(attempt)
+
+    async def _move(self, saga: SagaInstance) -> None:
+        """Open a saga of a lost shard elsewhere, unless it is stored already."""
+        row = await until_answered(lambda: self._whole(saga.key))
+        if self._sagas.by_key.get(saga.key) is not saga:
+            return
+        if row is not None and (row.id >= 0 or saga.client_start is None):
+            self.key_taken(saga, row, is_whole=True)
+        else:
+            self._shards.assign(saga)

@@ -1,17 +1,29 @@
-"""Reads values of open sagas that are not in memory, when a function needs them."""
+"""Values of open sagas that are not in memory: they are read when a function needs them.
+
+When a shard is loaded, the stored values of its open sagas are checked. The shard is left to
+another node if this program cannot decode them. If no other node takes it, the program logs that,
+and offers the shard again from time to time.
+"""
 
 from __future__ import annotations
 
 import asyncio
-from collections.abc import Callable, Sequence
+from collections.abc import AsyncIterator, Awaitable, Callable, Sequence
+from typing import TypeVar, cast
 
+from sagas.base.errors import StoreUnavailable
+from sagas.core.batch import LoadedShard
 from sagas.core.held_values import StoredValues
-from sagas.core.model import Attempt
+from sagas.core.model import RUNNING, Attempt
+from sagas.core.shard import ShardDriver
 from sagas.definition.blobs import BlobUnavailable, Reference
-from sagas.runtime.executor_host import CoordinatorForExecutor
-from sagas.runtime.retries import until_answered
+from sagas.definition.compiled import CompiledDefinition
+from sagas.definition.payloads import ABSENT
 from sagas.storage.interface import Database
 
+T = TypeVar("T")
+FIRST_PAUSE, MAX_PAUSE = 0.02, 2.0
+"""Seconds until the store is asked again: the first and the longest pause."""
 AT_ONCE = 4
 """Maximum number of attempts whose values are read at once, to limit the memory."""
 INPUT = """
@@ -20,9 +32,33 @@ SELECT s.input, (SELECT p.shape FROM shapes p WHERE p.id = s.id) FROM sagas s WH
 RESULTS = """
 SELECT step, value FROM attempts WHERE id = ? AND action = 'run' AND event = 'commit' AND step IN
 """
+MANY = 32
+"""Number of sagas that are checked in one turn of the loop."""
+OFFER_PAUSE = 2.0
+"""Seconds between checks whether another node can take the shard."""
+REMEDY = "they wait for a program that can. Give new fields a default"
 
 
-async def of(
+async def until_answered(ask: Callable[[], Awaitable[T]], with_blobs: bool = True) -> T:
+    """Repeat a read until the store answers.
+
+    Args:
+        ask: The read.
+        with_blobs: Whether to retry also if a large value cannot be read. If not, `BlobUnavailable`
+            is raised.
+    """
+    pause = FIRST_PAUSE
+    while True:
+        try:
+            return await ask()
+        except StoreUnavailable as error:
+            if isinstance(error, BlobUnavailable) and not with_blobs:
+                raise
+            await asyncio.sleep(pause)
+            pause = min(MAX_PAUSE, 2 * pause)
+
+
+async def values_of(
     store: Database, id: int, steps: Sequence[int], with_blobs: bool = True
 ) -> StoredValues | None:
     """Return the stored values of a saga with the results of these steps, or None.
@@ -45,7 +81,7 @@ async def input_of(store: Database, id: int, text: str) -> str:
 
     The text may be a reference to a blob. Raises `BlobUnavailable`.
     """
-    stored = await of(store, id, ()) if Reference.of(text) else None
+    stored = await values_of(store, id, ()) if Reference.of(text) else None
     return text if stored is None else stored.text
 
 
@@ -60,11 +96,11 @@ class ValueReader:
 
     def __init__(
         self,
-        coordinator: CoordinatorForExecutor,
+        store: Database,
         unread: Callable[[Attempt, BlobUnavailable], None],
     ) -> None:
         """Make a reader. `unread` is called if the blob store does not return a value."""
-        self._coordinator, self._slots = coordinator, asyncio.Semaphore(AT_ONCE)
+        self._store, self._slots = store, asyncio.Semaphore(AT_ONCE)
         self._unread = unread
         self.count = 0
 
@@ -95,7 +131,43 @@ class ValueReader:
         instance = attempt.instance
         steps = [number for number, _ in attempt.action.needed_results] + [attempt.step]
         stored = await until_answered(
-            lambda: of(self._coordinator.store, instance.id, steps), with_blobs=False
+            lambda: values_of(self._store, instance.id, steps), with_blobs=False
         )
         if stored is not None:  # otherwise the saga and the attempt are gone
             instance.fill(stored, attempt.results)
+
+
+async def unreadable_sagas(
+    kinds: Sequence[CompiledDefinition], rows: LoadedShard, store: Database
+) -> AsyncIterator[str]:
+    """Yield the first unreadable value of each open saga of a shard.
+
+    Values in a blob store are not checked. They are read when a function needs them.
+    """
+    results: dict[int, dict[int, str]] = {}
+    for id, step, word, _, outcome, value, _ in rows.results:
+        if outcome in ("commit", "ok") and word == "run":
+            results.setdefault(id, {})[step] = value or "null"
+    for count, (id, key, index, input, *_) in enumerate(rows.open):
+        kind, text = kinds[index], cast("str | None", input)
+        if count % MANY == MANY - 1:
+            await asyncio.sleep(0)
+        if not kind.reads:
+            continue
+        known = results.get(id, {})
+        if ABSENT in (text, *known.values()):
+            lacking = [step for step, value in known.items() if value == ABSENT]
+            stored = await until_answered(lambda: values_of(store, id, lacking, with_blobs=False))
+            if stored is None:
+                continue
+            text = None if Reference.of(stored.text) else stored.text
+            known = {**known, **stored.results}
+            known = {step: value for step, value in known.items() if not Reference.of(value)}
+        if why := kind.unread(text, known):
+            yield f"saga {kind.name!r}, key {key!r}, {why}"
+
+
+def is_at_work(driver: ShardDriver) -> bool:
+    """Return whether a function runs that another node would call again."""
+    attempts = (attempt for saga in driver.sagas.values() for attempt in saga.busy.values())
+    return any(attempt.state is RUNNING for attempt in attempts)
