@@ -17,14 +17,12 @@ from sagas.api.schedules import Schedules
 from sagas.base.errors import Closed, InvalidStore, NoSuchSaga
 from sagas.base.fork_guard import OpenState
 
-from sagas.core import pending
-from sagas.core import attention, history, step_reports
+from sagas.core import attention, history, step_reports, waits
 from sagas.core.batch import StoredSaga, SagaRow
 from sagas.core.outcomes import Outcome, reported_outcome
 from sagas.core.results import HistoryEvent, SagaResult
 from sagas.definition import arguments, children, payloads, serialization
-from sagas.definition.blobs import LEAST, BlobStore
-from sagas.definition.blobs import check as check_blobs
+from sagas.definition.blobs import BlobStore, LEAST, check as check_blobs
 from sagas.definition.compiled import CompiledDefinition, version_of
 from sagas.definition.labels import Labels
 from sagas.definition.payloads import Codec, Payloads
@@ -38,9 +36,15 @@ from sagas.runtime import operator_commands, retries
 from sagas.storage import operator_requests, queries
 from sagas.storage.blob_layer import Blobs
 from sagas.storage.factory import FORM
-from sagas.storage.postgresql import caller_connection, codec_note
-from sagas.storage.postgresql import connections as connections_module
-from sagas.storage.postgresql import key_finder, notifications, saga_requests, schema
+from sagas.storage.postgresql import (
+    caller_connection,
+    codec_note,
+    connections as connections_module,
+    key_finder,
+    notifications,
+    saga_requests,
+    schema,
+)
 from sagas.storage.record_file import RecordFile, record_path
 
 if TYPE_CHECKING:
@@ -279,7 +283,7 @@ class Client(Schedules):
                 if self._record:
                     self._record.seen(row.id, "client")
                 return await self._end(row)
-            pending.check_refused(row)
+            waits.check_refused(row)
             turn, before = (turn + 1 if row.id == before else 0), row.id
             await self._open_notifier.of(row.id, turn)
 
@@ -409,15 +413,13 @@ class Client(Schedules):
             holders = await self._ask(LEFT_BY, id=-row.id)
             is_left = holders and holders[0][1]
             return [
-                pending.missing_definition(row.saga, *holders[0])
-                if is_left
-                else pending.NO_NODE_YET
+                waits.missing_definition(row.saga, *holders[0]) if is_left else waits.NO_NODE_YET
             ]
         rows = await self._read(WAITS, row.id)
         if not rows:
             return []
         known = await self._known(row)
-        return pending.stored_waits(self._kind(row, known.definition).names, rows)
+        return waits.stored_waits(self._kind(row, known.definition).names, rows)
 
     async def _ask(self, query: str, **parameters: Any) -> builtins.list[Row]:
         self._open_notifier

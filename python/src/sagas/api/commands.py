@@ -19,7 +19,7 @@ from sagas.base.errors import (
     StepNotWaiting,
     WouldWaitForever,
 )
-from sagas.core import attempts, attention, early_reports, exhaustion, progress, step_reports
+from sagas.core import attempts, attention, early_reports, exhaustion, step_reports, waits
 from sagas.core.batch import AnsweredRequest, Batch, SagaRow, RequestRef
 from sagas.core.early_reports import EarlyReport, Refusal
 from sagas.core.model import Attempt, SagaInstance
@@ -175,7 +175,7 @@ class Commands:
             if attempt is None or not exhaustion.may_retry(attempt):
                 why = "it has no failed attempt that waits for a retry"
                 if attempt is not None:
-                    why = progress.describe_attempt(attempt, self._access.coordinator.clock())
+                    why = waits.describe_attempt(attempt, self._access.coordinator.clock())
                 raise StepNotWaiting(f"saga {key!r}, step {step!r} cannot be retried: {why}")
             try:
                 await self._access.coordinator.executor.retry(attempt, request)
@@ -208,7 +208,7 @@ class Commands:
                     "Return sagas.Approved(result) or sagas.Rejected(why) instead"
                 )
             if not attempts.becomes_reportable(attempt):
-                why = progress.describe_attempt(attempt, coordinator.clock())
+                why = waits.describe_attempt(attempt, coordinator.clock())
                 raise StepNotWaiting(
                     f"saga {key!r}, step {step!r} does not wait for a report: {why}"
                 )

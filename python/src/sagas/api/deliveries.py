@@ -6,7 +6,7 @@ import builtins
 from collections.abc import Callable
 
 from sagas.api.store_access import StoreAccess
-from sagas.core.announcements import ENDS
+from sagas.core.deliveries import ENDS
 from sagas.definition.compiled import Hooks
 from sagas.definition.shelf import DefinitionRegistry
 from sagas.storage import deliveries as table

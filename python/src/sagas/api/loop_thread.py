@@ -11,7 +11,7 @@ from typing import Any, TypeVar
 
 from sagas.base.errors import Closed
 from sagas.base.fork_guard import OpenState
-from sagas.core import pending
+from sagas.core import waits as waits_module
 from sagas.runtime import current_step
 
 T = TypeVar("T")
@@ -116,7 +116,7 @@ class Loop:
         waited_for: list[str] = []
         with contextlib.suppress(Exception):  # the loop may be blocked
             waited_for = self.do(waits(), SOON)
-        raise pending.timeout_error(key, timeout, waited_for)
+        raise waits_module.timeout_error(key, timeout, waited_for)
 
 
 async def _finish(loop: asyncio.AbstractEventLoop) -> None:

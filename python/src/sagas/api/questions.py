@@ -12,12 +12,11 @@ from sagas.api.store_access import StoreAccess
 from sagas.base import program
 from sagas.base.errors import NoSuchSaga
 from sagas.core.batch import SagaRow
-from sagas.core.progress import active_attempts
+from sagas.core.waits import active_attempts
 from sagas.core.results import ActiveAttempt, HistoryEvent, SagaResult, UnknownAttempt
 from sagas.definition import arguments, folded_drawing
 from sagas.engine.plan import Plan
-from sagas.inspection import lists
-from sagas.inspection import saga as one_saga
+from sagas.inspection import lists, saga as one_saga
 from sagas.inspection.question import AsyncStoreReader, Question
 from sagas.storage.interface import Reader
 

@@ -12,7 +12,7 @@ from typing import Any
 from sagas.api import timeouts
 from sagas.api.store_access import StoreAccess
 from sagas.base.errors import SagaMoved, NoSuchSaga, SagasError
-from sagas.core import history, pending
+from sagas.core import history, waits
 from sagas.core.batch import SagaRow
 from sagas.core.key_lookup import KeyLookupPolicy
 from sagas.core.model import SagaInstance
@@ -124,7 +124,7 @@ class SagaLookup:
                     if record := coordinator.store.record:
                         record.seen(row.id, "wake")
                     return row
-                pending.check_refused(row)
+                waits.check_refused(row)
                 if key not in self._access.coordinator.sagas.by_key:
                     await coordinator.store.wait_for_end(row.id, turn)
                     turn += 1
@@ -143,5 +143,5 @@ class SagaLookup:
         """
         live = self._access.coordinator.sagas.by_key.get(key)
         if live is None and (row := await self._access.coordinator.store.find(key)) and row.id < 0:
-            return [pending.NO_NODE_YET]
-        return pending.live_waits(live)
+            return [waits.NO_NODE_YET]
+        return waits.live_waits(live)

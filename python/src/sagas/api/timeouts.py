@@ -7,7 +7,7 @@ from collections.abc import Awaitable, Callable, Coroutine
 from typing import Any, TypeVar
 
 from sagas.base.errors import SagasError
-from sagas.core.pending import timeout_error
+from sagas.core.waits import timeout_error
 
 T = TypeVar("T")
 SOON = 2.0

@@ -6,7 +6,7 @@ import argparse
 from typing import Any
 
 from sagas.base.errors import CannotDecode
-from sagas.base.module_values import load_reference
+from sagas.base.options import load_reference
 from sagas.definition.payloads import PLAIN, Payloads, checked
 from sagas.inspection.saga import Read
 from sagas.storage.admin import CANNOT, Trouble

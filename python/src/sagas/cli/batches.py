@@ -5,7 +5,7 @@ from __future__ import annotations
 import argparse
 
 from sagas.base.errors import InvalidLabel
-from sagas.base.option_values import integer_from
+from sagas.base.options import integer_from
 from sagas.base.wording import escaped, number
 from sagas.cli.formatting import GOOD, NO, complain, show_json
 from sagas.cli.snapshot import Snapshot

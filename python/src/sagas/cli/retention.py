@@ -5,7 +5,7 @@ from __future__ import annotations
 import argparse
 import sys
 
-from sagas.base.option_values import age, integer_from
+from sagas.base.options import age, integer_from
 from sagas.base.wording import number
 from sagas.cli.formatting import CANNOT, GOOD, show_json
 from sagas.runtime import retention

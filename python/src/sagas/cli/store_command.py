@@ -13,7 +13,7 @@ import sys
 from collections.abc import Callable
 
 from sagas.base.errors import SagasError
-from sagas.base.option_values import not_negative
+from sagas.base.options import not_negative
 from sagas.cli import nodes as nodes_module
 from sagas.cli.actions import abort, compensate, complete, fail, retry
 from sagas.cli.app_option import add_app_option

@@ -6,15 +6,14 @@ import json
 from collections.abc import Iterator, Sequence
 from typing import TYPE_CHECKING
 
-from sagas.core import announcements, protocol, spans
+from sagas.core import deliveries, protocol, spans
 from sagas.core.attempts import PARKED
 from sagas.core.batch import OpenedRow, ResultRow
 from sagas.core.collection import has_nothing_to_undo, needs_stored_value
-from sagas.core.early_reports import stored as stored_report
-from sagas.core.early_reports import steps_without_effect
+from sagas.core.early_reports import steps_without_effect, stored as stored_report
 from sagas.core.effects import Abort, Effects, EngineRequest
 from sagas.core.model import Attempt, SagaInstance
-from sagas.core.offers import first_offer_row
+from sagas.core.external_work import first_offer_row
 from sagas.core.outcomes import SUCCEEDED, Outcome, encode_result
 from sagas.core.states import UNDO_FAILED, EnginePhase
 from sagas.definition import serialization
@@ -345,7 +344,7 @@ class ReplyReader:
         batch, id = self._batch, self._first + saga.number
         batch.ended.append((phase, end, recovered, undo_failed, batch.at, id))
         if saga.kind.hooks:
-            rows = announcements.end_deliveries(saga, id, phase, recovered, batch.at)
+            rows = deliveries.end_deliveries(saga, id, phase, recovered, batch.at)
             batch.rare_rows.deliveries += rows
         if saga.has_due:  # a retried wait kept its row for an attempt that never started
             freed = [(id, step, kind, LAST_ATTEMPT) for step, kind in saga.rare.wait_ends]

@@ -26,7 +26,7 @@ import itertools
 from collections import deque
 from collections.abc import Iterable, Sequence
 
-from sagas.core import early_reports, endings, offers, protocol, suspension_rows
+from sagas.core import early_reports, endings, external_work, protocol, suspension_rows
 from sagas.core.batch import Batch, NewShard, LoadedShard, Withdrawal
 from sagas.core.effects import Abort, Effects, EngineRequest
 from sagas.core.model import Attempt, SagaInstance
@@ -228,7 +228,7 @@ class ShardDriver:
     def offered(self, attempt: Attempt, now: float) -> Effects:
         """Return effects that offer an attempt to external workers."""
         effects = self.effects(now)
-        effects.batch.rare_rows.offers.append(offers.offer_row(attempt, self.number, now))
+        effects.batch.rare_rows.offers.append(external_work.offer_row(attempt, self.number, now))
         effects.rare_effects.offered.append(attempt)
         return effects
 

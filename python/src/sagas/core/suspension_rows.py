@@ -2,7 +2,7 @@
 
 from __future__ import annotations
 
-from sagas.core import announcements, spans
+from sagas.core import deliveries, spans
 from sagas.core.batch import Batch
 from sagas.core.exhaustion import COUNTS_FAILURES, RETRYABLE
 from sagas.core.model import Attempt
@@ -27,4 +27,4 @@ def put(batch: Batch, attempt: Attempt, row: SuspensionRow, shard: int) -> None:
         batch.answer(attempt.request, "true")
         attempt.rare.request = None
     if attempt.instance.kind.hooks:
-        rows.deliveries += announcements.suspension_deliveries(attempt, row, batch.at)
+        rows.deliveries += deliveries.suspension_deliveries(attempt, row, batch.at)

@@ -14,11 +14,11 @@ from sagas.base.errors import Closed, InvalidStore, SagasError
 from sagas.base.events import EventEmitter
 from sagas.base.fork_guard import private_descriptors
 from sagas.base.logger import logger
-from sagas.core import undo_check
+from sagas.core import children
 from sagas.core.batch import Batch, ShardRow
 from sagas.core.limits import Slots
 from sagas.core.shard import ShardDriver
-from sagas.core.undo_check import CompletedChild
+from sagas.core.children import CompletedChild
 from sagas.definition.shelf import DefinitionRegistry
 from sagas.definition.tracing import Tracer
 from sagas.runtime import decode_check, remote_steps
@@ -170,7 +170,7 @@ class Coordinator:
             if missing:
                 return f"saga {kind.name!r} (version {kind.version}) has open sagas, but {missing}"
         try:
-            return undo_check.missing_compensation(self.registry.kind, completed)
+            return children.missing_compensation(self.registry.kind, completed)
         except (ValueError, LookupError, TypeError, SagasError):  # an invalid definition
             return None
 

@@ -1,7 +1,7 @@
 """Attempts for external workers: offers, claims and leases.
 
 Everything is stored in the table `external_attempts` (storage/external.py). Any node of the
-database claims a task, with a signed lease that cannot be guessed (lease_signature.py).
+database claims a task, with a signed lease that cannot be guessed (`core.external_work`).
 """
 
 from __future__ import annotations
@@ -13,9 +13,8 @@ from typing import TYPE_CHECKING, Any
 
 from sagas.base.errors import CannotDecode, LeaseLost, SagasError, StoreUnavailable
 from sagas.base.logger import logger
-from sagas.core.lease_signature import Signer
+from sagas.core.external_work import Signer, offered_task_name, task_name
 from sagas.core.model import Attempt
-from sagas.core.offers import task_name, offered_task_name
 from sagas.core.suspensions import Lease
 from sagas.definition.blobs import BlobUnavailable
 from sagas.definition.compiled import CompiledDefinition

@@ -25,7 +25,7 @@ from sagas.base.errors import (
 from sagas.base.logger import logger
 from sagas.core import outcomes
 from sagas.core.exhaustion import RETRYABLE
-from sagas.core.lease_signature import Signer
+from sagas.core.external_work import Signer
 from sagas.core.model import FINISHED, SUSPENDED, Attempt
 from sagas.core.outcomes import CANNOT_DECODE, FAILED, PERMANENT, SUCCEEDED, UNKNOWN, Outcome
 from sagas.core.states import OutcomeKind, Suspension

@@ -12,7 +12,7 @@ from typing import TYPE_CHECKING, Any
 
 from sagas.base.errors import SagasError
 from sagas.core import outcomes
-from sagas.core.dispatch import Declared, Order, Position
+from sagas.core.external_work import Declared, Order, Position
 from sagas.core.outcomes import Outcome
 from sagas.definition.payloads import ABSENT
 

@@ -12,8 +12,7 @@ from sagas.base.events import EventEmitter
 from sagas.core.batch import LoadedShard
 from sagas.core.limits import Slots
 from sagas.core.shard import ShardDriver
-from sagas.engine.pool import EnginePool
-from sagas.engine.process import EngineProcess, Listener
+from sagas.engine.process import EnginePool, EngineProcess, Listener
 from sagas.runtime.commit_queue import CommitQueue
 from sagas.runtime.effects import EffectHandler
 from sagas.runtime.instances import Instances

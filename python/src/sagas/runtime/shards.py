@@ -19,8 +19,7 @@ from sagas.core.shard_definitions import ShardDefinitions
 from sagas.core.states import ShardState
 from sagas.definition.compiled import CompiledDefinition
 from sagas.definition.shelf import DefinitionRegistry
-from sagas.engine.pool import EnginePool
-from sagas.engine.process import EngineProcess
+from sagas.engine.process import EnginePool, EngineProcess
 from sagas.runtime import decode_check
 from sagas.runtime.audits import Auditor
 from sagas.runtime.client_starts import StartDoubt

@@ -13,7 +13,7 @@ from urllib.parse import urlsplit
 
 import tomllib
 
-from sagas.core.announcements import TYPES
+from sagas.core.deliveries import TYPES
 from sagas.server import private_files
 
 KEYS = ("name", "url", "secret", "types", "definitions")

@@ -14,7 +14,7 @@ import random
 from sagas.api.deliveries import Deliveries
 from sagas.base.errors import Closed, SagasError
 from sagas.base.events import Event
-from sagas.core.announcements import TYPES
+from sagas.core.deliveries import TYPES
 from sagas.definition.compiled import Hooks
 from sagas.server.webhook_file import Webhook
 from sagas.server.webhook_post import post

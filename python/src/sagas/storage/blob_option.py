@@ -5,7 +5,7 @@ from __future__ import annotations
 import pathlib
 from typing import Any
 
-from sagas.base.module_values import load_reference
+from sagas.base.options import load_reference
 from sagas.storage.folder_blobs import FolderBlobStore
 
 

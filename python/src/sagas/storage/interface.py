@@ -33,7 +33,7 @@ from sagas.core.batch import (
     Tail,
 )
 from sagas.core.step_transactions import StepTransactions
-from sagas.core.undo_check import CompletedChild
+from sagas.core.children import CompletedChild
 from sagas.storage.external import ExternalAttempts
 from sagas.storage.record_file import RecordFile
 

@@ -11,10 +11,10 @@ from collections.abc import Callable, Sequence
 from typing import Any
 
 from sagas.base.errors import NoSuchSaga
-from sagas.core import undo_check
+from sagas.core import children
 from sagas.core.batch import StoredSaga, ShardRow, SagaRow
 from sagas.core.held_values import LARGE_VALUE
-from sagas.core.undo_check import CompletedChild
+from sagas.core.children import CompletedChild
 from sagas.definition import arguments
 from sagas.definition.capacity import SHARD_CAPACITY
 from sagas.definition.children import UNDO
@@ -301,7 +301,7 @@ class Rows:
     def completed_children(self) -> dict[int, list[CompletedChild]]:
         """Return the completed children below the open sagas of each shard."""
         rows = self.rows(COMPLETED_IN_FILE)
-        return undo_check.children_by_shard(rows, self.rows(ALL_DEFINITIONS)) if rows else {}
+        return children.children_by_shard(rows, self.rows(ALL_DEFINITIONS)) if rows else {}
 
     def find_now(self, key: str) -> SagaRow | None:
         """Return the saga with this key."""
