@@ -28,8 +28,8 @@ from sagas.core.decisions import Decision, Do
 from sagas.core.effects import Abort, Effects
 from sagas.core.model import FINISHED, RUNNING, SUSPENDED, Attempt, SagaInstance
 from sagas.core.outcomes import Outcome
-from sagas.core.shard import ShardDriver, ShardIdentity
-from sagas.core.shard_definitions import ShardDefinitions
+from sagas.core.shard import ShardDriver
+from sagas.core.shard_definitions import ShardDefinitions, ShardIdentity
 from sagas.core.states import ShardState
 from sagas.core.suspensions import SuspensionRow
 from sagas.definition.capacity import SHARD_CAPACITY

@@ -12,10 +12,10 @@ from cases import ended, run, until
 from core_world import Engine
 
 import sagas
-from sagas.core.replies import EngineDisagrees
+from sagas.core.effects import EngineDisagrees
+from sagas.core.shard import ShardDriver
 from sagas.core.saga_instance import SagaInstance
-from sagas.core.shard import ShardDriver, ShardIdentity
-from sagas.core.shard_definitions import ShardDefinitions
+from sagas.core.shard_definitions import ShardDefinitions, ShardIdentity
 from sagas.core.states import ShardState
 from sagas.definition.compiled import CompiledDefinition
 

@@ -13,11 +13,10 @@ import pytest
 import sagas
 from sagas.core import outcomes, recovery
 from sagas.core.batch import LoadedShard
-from sagas.core.effects import Abort, Effects
+from sagas.core.effects import Abort, Effects, EngineDisagrees
 from sagas.core.model import Attempt, SagaInstance
-from sagas.core.replies import EngineDisagrees
-from sagas.core.shard import MAX_REPORTS, ShardDriver, ShardIdentity
-from sagas.core.shard_definitions import ShardDefinitions
+from sagas.core.shard import MAX_REPORTS, ShardDriver
+from sagas.core.shard_definitions import ShardDefinitions, ShardIdentity
 from sagas.core.states import AttemptState, Check, IllegalTransition, ShardState, Suspension
 from sagas.core.suspensions import SuspensionRow
 from sagas.definition.shelf import DefinitionRegistry

@@ -3,13 +3,13 @@
 from __future__ import annotations
 
 from sagas.api.repeated_reports import Read
-from sagas.core import child_results
+from sagas.core import reports
 from sagas.core.model import Attempt
 from sagas.core.outcomes import SUCCEEDED, Outcome
 from sagas.definition import children, serialization
 from sagas.storage.queries import PHASE
 
-CHILDREN = child_results.CHILDREN.format(PHASE)
+CHILDREN = reports.CHILDREN_QUERY.format(PHASE)
 
 
 def is_of_child(attempt: Attempt, outcome: Outcome) -> bool:
@@ -29,4 +29,4 @@ async def check(read: Read, attempt: Attempt, outcome: Outcome) -> None:
     rows = await read(CHILDREN, attempt.instance.id)
     result = serialization.read(outcome.value)
     phases = [(str(key), str(phase)) for key, phase in rows]
-    child_results.check(attempt.key, attempt.name, result, phases, steps)
+    reports.check_child_result(attempt.key, attempt.name, result, phases, steps)

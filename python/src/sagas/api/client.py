@@ -17,7 +17,7 @@ from sagas.api.schedules import Schedules
 from sagas.base.errors import Closed, InvalidStore, NoSuchSaga
 from sagas.base.fork_guard import OpenState
 
-from sagas.core import attention, history, step_reports, waits
+from sagas.core import attention, history, reports, waits
 from sagas.core.batch import StoredSaga, SagaRow
 from sagas.core.outcomes import Outcome, reported_outcome
 from sagas.core.results import HistoryEvent, SagaResult
@@ -326,7 +326,7 @@ class Client(Schedules):
         """Attempt an exhausted step again. See `Store.retry`."""
         row, kind = await self._row(key), "undo" if undo else "run"
         if row.phase is not None:
-            raise step_reports.over(row)
+            raise reports.ended_error(row)
         value = serialization.write(
             {"step": step if isinstance(step, str) else step.name, "kind": kind}
         )

@@ -19,9 +19,9 @@ from sagas.base.errors import (
     StepNotWaiting,
     WouldWaitForever,
 )
-from sagas.core import attempts, attention, early_reports, exhaustion, step_reports, waits
+from sagas.core import attempts, attention, exhaustion, reports, waits
 from sagas.core.batch import AnsweredRequest, Batch, SagaRow, RequestRef
-from sagas.core.early_reports import EarlyReport, Refusal
+from sagas.core.reports import EarlyReport, Refusal
 from sagas.core.model import Attempt, SagaInstance
 from sagas.core.outcomes import Outcome
 from sagas.core.states import Action
@@ -155,7 +155,7 @@ class Commands:
             if live is None:
                 row = await self._lookup.row(key, of)
                 if row.phase is not None:
-                    raise step_reports.over(row)
+                    raise reports.ended_error(row)
                 if key not in self._access.coordinator.sagas.by_key:
                     await self._hand_over(row, "retry", {"step": step, "kind": kind}, request)
                     return
@@ -237,13 +237,13 @@ class Commands:
         if attempt is not None and word not in live.rare.final:
             return attempt
         is_there = live.shard is not None and live.committed
-        rows = await coordinator.store.read(step_reports.RESULTS, live.id) if is_there else []
-        first = step_reports.first_outcome(rows, *word)
+        rows = await coordinator.store.read(reports.RESULTS_QUERY, live.id) if is_there else []
+        first = reports.first_outcome(rows, *word)
         if first is None and attempt is not None:
             return attempt
         over = _over(live, rows, word)
         if first is not None:
-            step_reports.check(live.key, step, first, outcome, over, live.kind.payloads)
+            reports.check_same_outcome(live.key, step, first, outcome, over, live.kind.payloads)
             return None
         if over is not None:
             raise StepNotWaiting(f"saga {live.key!r}, step {step!r}: {over}")
@@ -280,8 +280,8 @@ class Commands:
         Raises `StepNotWaiting`, or `SagaMoved` if the caller has to check again.
         """
         coordinator, key, step = self._access.coordinator, live.key, live.kind.names[word[0]]
-        first = early_reports.stored(live, word)
-        why = early_reports.refusal_reason(live, *word) if early else early_reports.NOT_STARTED
+        first = reports.stored_report(live, word)
+        why = reports.refusal_reason(live, *word) if early else reports.NOT_STARTED_TEXT
         if why is not None and first is None:
             if live.shard is not None and live.committed:
                 await coordinator.executor.early.put(Refusal(live))
@@ -289,8 +289,8 @@ class Commands:
         if first is not None:
             if (kept := coordinator.executor.early.waiting(live, word)) is not None:
                 await asyncio.shield(kept)
-            reason, payloads = early_reports.STORED, live.kind.payloads
-            step_reports.check(key, step, first, outcome, reason, payloads)
+            reason, payloads = reports.STORED_TEXT, live.kind.payloads
+            reports.check_same_outcome(key, step, first, outcome, reason, payloads)
         elif live.shard is None or not live.committed:
             with contextlib.suppress(KeyConflict):  # another saga has the key
                 await coordinator.sagas.started(live)
@@ -324,7 +324,7 @@ class Commands:
 
 def _over(live: SagaInstance, rows: Iterable[tuple[Any, ...]], word: ActionKey) -> str | None:
     """Return how a step without a running attempt ended; None if it has not ended."""
-    over = step_reports.end_text(rows, *word)
+    over = reports.end_text(rows, *word)
     undo = live.busy.get((word[0], "undo")) if over and word[1] == "run" else None
     if over and undo and attempts.is_reportable(undo):
         over += "; its compensation waits for a report (undo=True, or --undo)"

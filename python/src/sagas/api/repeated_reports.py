@@ -5,7 +5,7 @@ from __future__ import annotations
 from collections.abc import Awaitable, Callable, Sequence
 from typing import Any
 
-from sagas.core import step_reports
+from sagas.core import reports
 from sagas.core.batch import SagaRow
 from sagas.core.outcomes import Outcome
 from sagas.definition.payloads import Payloads
@@ -29,15 +29,15 @@ async def check_again(
     """
     step, kind = action
     if step not in names:
-        raise step_reports.over(row)
+        raise reports.ended_error(row)
     step_index = names.index(step)
     first, why = (
-        step_reports.first_outcome(await read(step_reports.RESULTS, row.id), step_index, kind),
+        reports.first_outcome(await read(reports.RESULTS_QUERY, row.id), step_index, kind),
         None,
     )
     if first is None:
-        why = step_reports.UNUSED_TEXT
-        first = step_reports.early_outcome(await read(step_reports.EARLY, row.id, step_index, kind))
+        why = reports.UNUSED_TEXT
+        first = reports.early_outcome(await read(reports.EARLY_QUERY, row.id, step_index, kind))
     if first is None:
-        raise step_reports.over(row)
-    step_reports.check(row.key, step, first, outcome, why, payloads)
+        raise reports.ended_error(row)
+    reports.check_same_outcome(row.key, step, first, outcome, why, payloads)

@@ -11,7 +11,7 @@ from sagas.api.starter import Starter
 from sagas.api.store_access import StoreAccess
 from sagas.base.errors import Closed, SagaMoved, NoSuchSaga, SagasError, StepNotWaiting
 from sagas.base.logger import logger
-from sagas.core import step_reports
+from sagas.core import reports
 from sagas.core.batch import Batch, StoredSaga, SagaRow, RequestRef
 from sagas.core.states import Action, EarlyReason
 from sagas.definition import children, report_undos, serialization, tokens
@@ -64,7 +64,7 @@ class UnusedReports:
         if step not in kind.names:
             raise StepNotWaiting(f"saga {key!r} has no step {step!r}{meant(step, kind.names)}")
         number = kind.names.index(step)
-        rows = await coordinator.store.read(step_reports.EARLY, row.id, number, Action.RUN.value)
+        rows = await coordinator.store.read(reports.EARLY_QUERY, row.id, number, Action.RUN.value)
         reason, text = rows[0] if rows else (None, None)
         if reason == EarlyReason.UNDONE and report_undos.fault(kind.steps[number]) is None:
             return

@@ -10,7 +10,6 @@ import datetime
 from typing import Any
 
 from sagas.base.errors import CannotDecode, Fail
-from sagas.core import early_reports
 from sagas.core.collection import collected, has_nothing_to_undo, needs_stored_value
 from sagas.core.decisions import (
     CALL,
@@ -25,18 +24,19 @@ from sagas.core.decisions import (
     Decision,
     Do,
 )
-from sagas.core.declared_values import due_time, limit_subjects, limit_calls, until_call
-from sagas.core.exhaustion import (
-    AFTER_FAILURE,
-    MIN_PAUSE,
-    RETRYABLE,
-    backoff_seconds,
-    after_failure,
-    yield_seconds,
-)
+from sagas.core.declared_values import due_time, limit_calls, limit_subjects, until_call
+from sagas.core.exhaustion import MIN_PAUSE, after_failure, backoff_seconds, yield_seconds
 from sagas.core.model import CLAIMED, FINISHED, QUEUED, RUNNING, SUSPENDED, Attempt, SagaInstance
-from sagas.core.outcomes import MAX_TEXT, Outcome, approval_outcome, failure, values_unavailable
-from sagas.core.states import Action, OutcomeKind, Suspension
+from sagas.core.outcomes import (
+    MAX_TEXT,
+    SUCCEEDED,
+    Outcome,
+    approval_outcome,
+    failure,
+    values_unavailable,
+)
+from sagas.core.reports import stored_report
+from sagas.core.states import AFTER_FAILURE, PARKED, RETRYABLE, Action, OutcomeKind, Suspension
 from sagas.core.suspensions import FunctionOption, SuspensionRow
 from sagas.definition.blobs import BlobUnavailable
 from sagas.definition.step import Step
@@ -47,8 +47,6 @@ COUNTED_DOWN = frozenset({Suspension.BACKOFF, Suspension.UNKNOWN, Suspension.RET
 """Short suspensions, whose seconds are counted down: a clock that is set back does not make them
 longer.
 """
-PARKED = RETRYABLE | {Suspension.CANNOT_DECODE}
-"""Suspensions of an attempt that was called and will be called again."""
 ANNOUNCED = PARKED | {Suspension.TIMER, Suspension.APPROVAL}
 """Suspensions that emit the event `step_suspended`."""
 LEAST_UNREAD, MOST_UNREAD = 1.0, 60.0
@@ -122,7 +120,7 @@ class AttemptMachine:
             return self.finish(attempt, Outcome(OutcomeKind.SUCCEEDED, "null"), now)
         if attempt.action_key in instance.rare.final:
             return self._give_up(attempt, "not called: the step failed permanently", now, True)
-        if instance.has_early and (outcome := early_reports.taken_outcome(attempt)):
+        if instance.has_early and (outcome := _early_outcome(attempt)):
             is_read = outcome.kind is not OutcomeKind.CANNOT_DECODE
             return (self.finish if is_read else self._park)(attempt, outcome, now)
         if instance.draining and self._may_give_up(attempt) and attempt.offered != 0:
@@ -454,3 +452,25 @@ class AttemptMachine:
             return False
         instance = attempt.instance
         return instance.aborted or attempt.attempt < instance.kind.tries["run"][attempt.step]
+
+
+def _early_outcome(attempt: Attempt) -> Outcome | None:
+    """Return the outcome that was reported before an attempt started.
+
+    Its function is not called, and no operator is asked. The report also counts if the saga drains
+    by now, because the effect exists.
+
+    Returns:
+        None if no report is stored; an outcome of the kind `CANNOT_DECODE` if the codec cannot
+        read it.
+    """
+    report = None if attempt.undo else stored_report(attempt.instance, attempt.action_key)
+    if report is None:
+        return None
+    attempt.has_row = True
+    if report.kind is not SUCCEEDED:
+        return report
+    try:
+        return report._replace(value=attempt.instance.kind.payloads.decode(report.value))
+    except CannotDecode as error:
+        return Outcome(OutcomeKind.CANNOT_DECODE, str(error)[:MAX_TEXT])

@@ -4,9 +4,9 @@ from __future__ import annotations
 
 import json
 from collections.abc import Sequence
+from typing import Any
 
 from sagas.base.errors import CannotDecode
-from sagas.core import child_results
 from sagas.core.model import Attempt
 from sagas.core.outcomes import FAILED, PERMANENT, SUCCEEDED, Outcome
 from sagas.definition import serialization
@@ -48,7 +48,7 @@ def has_nothing_to_undo(attempt: Attempt) -> bool:
         return False
     result = serialization.read(stored_result)
     if step.child is not None:
-        return child_results.is_none(result)
+        return _has_no_child(result)
     return serialization.failed(result) is not None
 
 
@@ -76,3 +76,8 @@ def _undone_before(attempt: Attempt) -> Sequence[str]:
         return ()
     undone: Sequence[str] = saga_input.get("undone", ()) if isinstance(saga_input, dict) else ()
     return undone
+
+
+def _has_no_child(result: Any) -> bool:
+    """Whether a step that starts a child was completed without one: there is nothing to undo."""
+    return isinstance(result, dict) and result.get("key", "") is None

@@ -7,19 +7,13 @@ import json
 from sagas.core.decisions import Decision, Do
 from sagas.core.model import Attempt
 from sagas.core.outcomes import MAX_TEXT, Outcome
-from sagas.core.states import AttemptState, OutcomeKind, Suspension
+from sagas.core.states import RETRYABLE, AttemptState, OutcomeKind, Suspension
 from sagas.core.suspensions import SuspensionRow
 
 MIN_PAUSE = 0.05
 """Seconds between two calls of the same attempt."""
 MIN_YIELD, MAX_YIELD = 1.0, 60.0
 """Seconds for which an attempt whose wait for a saga was given up leaves its slot to others."""
-AFTER_FAILURE = frozenset({Suspension.RETRY, Suspension.EXHAUSTED})
-"""Suspensions of an attempt whose last call had no effect."""
-COUNTS_FAILURES = AFTER_FAILURE | {Suspension.CHILD}
-"""Suspensions whose row counts failures; others count unknown outcomes."""
-RETRYABLE = AFTER_FAILURE | {Suspension.UNKNOWN}
-"""Suspensions of an attempt that an operator may retry at once."""
 
 
 def after_failure(attempt: Attempt, outcome: Outcome, now: float) -> Decision | None:

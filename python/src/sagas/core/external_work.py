@@ -9,14 +9,16 @@ from __future__ import annotations
 import dataclasses
 import hmac
 import re
-from typing import Any, NamedTuple
+from typing import TYPE_CHECKING, Any, NamedTuple
 
 from sagas.base.errors import InvalidLease, SagasError
 from sagas.core.batch import OfferRow
-from sagas.core.model import Attempt
 from sagas.core.states import Action
 from sagas.definition import report_undos, tokens
 from sagas.definition.capacity import SHARD_CAPACITY
+
+if TYPE_CHECKING:
+    from sagas.core.model import Attempt
 
 LEASE_PATTERN = re.compile(r"([1-9][0-9]{0,18})\.[0-9a-f]{32}", re.ASCII)
 SIGNATURE_DIGITS = 32

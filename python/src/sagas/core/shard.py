@@ -21,41 +21,41 @@ store.
 
 from __future__ import annotations
 
-import dataclasses
 import itertools
 from collections import deque
 from collections.abc import Iterable, Sequence
 
-from sagas.core import early_reports, endings, external_work, protocol, suspension_rows
-from sagas.core.batch import Batch, NewShard, LoadedShard, Withdrawal
-from sagas.core.effects import Abort, Effects, EngineRequest
+from sagas.core import deliveries, protocol, spans
+from sagas.core.batch import Batch, LoadedShard, NewShard, Withdrawal
+from sagas.core.effects import (
+    Abort,
+    Effects,
+    EngineRequest,
+    ReplyReader,
+    due_reports,
+    expected_endings,
+    is_success,
+)
+from sagas.core.external_work import offer_row
 from sagas.core.model import Attempt, SagaInstance
-from sagas.core.early_reports import is_success
 from sagas.core.outcomes import SUCCEEDED
-from sagas.core.replies import ReplyReader
-from sagas.core.shard_definitions import ShardDefinitions
-from sagas.core.states import SHARD_TRANSITIONS, Check, ShardState, check
+from sagas.core.reports import EarlyReport, Refusal
+from sagas.core.shard_definitions import ShardIdentity
+from sagas.core.states import (
+    COUNTS_FAILURES,
+    RETRYABLE,
+    SHARD_TRANSITIONS,
+    Check,
+    ShardState,
+    Suspension,
+    check,
+)
 from sagas.core.suspensions import SuspensionRow
 
 MAX_REPORTS = 256
 """The number of attempts that one request reports, or of sagas that it opens."""
 MAX_CLAIMS = 1000
 """The number of tasks that one request claims."""
-
-
-@dataclasses.dataclass(frozen=True, slots=True)
-class ShardIdentity:
-    """The constant data of a shard.
-
-    Attributes:
-        number: Its number in the store.
-        name: Its name, with which the idempotency keys of its sagas begin.
-        definitions: Its definitions.
-    """
-
-    number: int
-    name: str
-    definitions: ShardDefinitions
 
 
 class ShardDriver:
@@ -221,14 +221,14 @@ class ShardDriver:
     def suspended(self, attempt: Attempt, row: SuspensionRow, now: float) -> Effects:
         """Return effects that store the suspension of an attempt."""
         effects = self.effects(now)
-        suspension_rows.put(effects.batch, attempt, row, self.number)
+        _put_suspension(effects.batch, attempt, row, self.number)
         effects.rare_effects.suspended.append((attempt, row))
         return effects
 
     def offered(self, attempt: Attempt, now: float) -> Effects:
         """Return effects that offer an attempt to external workers."""
         effects = self.effects(now)
-        effects.batch.rare_rows.offers.append(external_work.offer_row(attempt, self.number, now))
+        effects.batch.rare_rows.offers.append(offer_row(attempt, self.number, now))
         effects.rare_effects.offered.append(attempt)
         return effects
 
@@ -312,7 +312,7 @@ class ShardDriver:
                 odd.append(attempt)
         if odd:
             request.deviating = odd
-            request.expected_plans, request.expected_ends = endings.expected_endings(odd)
+            request.expected_plans, request.expected_ends = expected_endings(odd)
         return attempts
 
     def _ask_early(self, request: EngineRequest, lines: list[str]) -> None:
@@ -322,7 +322,7 @@ class ShardDriver:
         """
         sagas = [abort.saga for abort in request.aborts]
         sagas += [one.instance for one in request.deviating if not is_success(one)]
-        request.early = early_reports.due_reports(sagas, request.reports)
+        request.early = due_reports(sagas, request.reports)
         if not request.early:
             return
         first = len(request.aborts)
@@ -476,3 +476,37 @@ class ShardDriver:
         """
         request, self.unanswered = self.unanswered, None
         return request.claim_count if request else 0
+
+
+def _put_suspension(batch: Batch, attempt: Attempt, row: SuspensionRow, shard: int) -> None:
+    """Add the rows to a batch: the suspension, the notes, the offer's state and the deliveries."""
+    count = attempt.failures if row.reason in COUNTS_FAILURES else attempt.count
+    rows = batch.rare_rows
+    suspension = (row.reason.value, count, attempt.waiting_since, row.until, row.error)
+    rows.held.append((*attempt.row, *suspension))
+    rows.spans += spans.taken(attempt)
+    # if its values cannot be read now, the attempt has a time that its row does not have
+    is_unread = row.reason is Suspension.CANNOT_DECODE and attempt.until is not None
+    if attempt.is_external and (is_unread or row.reason in RETRYABLE):
+        needs_operator = row.until is None and not is_unread and not attempt.is_remote
+        state = "person" if needs_operator else "suspended"
+        rows.suspended.append((attempt.token(), shard, state))
+    if attempt.request is not None:
+        batch.answer(attempt.request, "true")
+        attempt.rare.request = None
+    if attempt.instance.kind.hooks:
+        rows.deliveries += deliveries.suspension_deliveries(attempt, row, batch.at)
+
+
+def early_report_effects(driver: ShardDriver, report: EarlyReport | Refusal, now: float) -> Effects:
+    """Return effects that store a report. A refusal has no row, and waits for earlier commits.
+
+    Raises:
+        NotSerializable: The codec failed.
+    """
+    result = driver.effects(now)
+    if isinstance(report, EarlyReport):
+        result.batch.rare_rows.held.append(report.row(now))
+        result.batch.answer(report.request, "true")
+    result.rare_effects.early.append(report)
+    return result

@@ -1,7 +1,8 @@
-"""The definitions of a shard."""
+"""The constant data of a shard: its number, its name and its definitions."""
 
 from __future__ import annotations
 
+import dataclasses
 from collections.abc import Sequence
 
 from sagas.core import protocol
@@ -108,3 +109,18 @@ class ShardDefinitions:
         rows = self._rows(self.stored_count, index + 1)
         self.stored_count = max(self.stored_count, index + 1)
         return rows
+
+
+@dataclasses.dataclass(frozen=True, slots=True)
+class ShardIdentity:
+    """The constant data of a shard.
+
+    Attributes:
+        number: Its number in the store.
+        name: Its name, with which the idempotency keys of its sagas begin.
+        definitions: Its definitions.
+    """
+
+    number: int
+    name: str
+    definitions: ShardDefinitions

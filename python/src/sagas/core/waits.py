@@ -7,10 +7,9 @@ from typing import Any
 
 from sagas.base.errors import InvalidInput
 from sagas.core.batch import SagaRow
-from sagas.core.exhaustion import RETRYABLE
+from sagas.core.states import Action, RETRYABLE, Suspension, WAITS_FOR
 from sagas.core.model import Attempt, FINISHED, QUEUED, RUNNING, SUSPENDED, SagaInstance
 from sagas.core.results import ActiveAttempt
-from sagas.core.states import Action, Suspension, WAITS_FOR
 
 MAX_WAITS = 5
 """The number of waits that a message names."""

@@ -6,8 +6,8 @@ import asyncio
 from collections.abc import Callable
 
 from sagas.base.errors import SagaMoved, SagasError
-from sagas.core import early_reports
-from sagas.core.early_reports import EarlyReport, Refusal
+from sagas.core.reports import EarlyReport, Refusal
+from sagas.core.shard import early_report_effects
 from sagas.core.model import SagaInstance
 from sagas.definition.compiled import ActionKey
 from sagas.runtime.executor_host import CoordinatorForExecutor
@@ -37,7 +37,7 @@ class EarlyReports:
         runner = self._coordinator.runner(shard) if shard else None
         if shard is None or runner is None:
             raise SagaMoved(f"saga {report.saga.key!r}")
-        effects = early_reports.effects(shard, report, self._clock()) if shard.is_current else None
+        effects = early_report_effects(shard, report, self._clock()) if shard.is_current else None
         future = self._waiting[report] = self._coordinator.loop.create_future()
         if effects:
             runner.keep(effects)

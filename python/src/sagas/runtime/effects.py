@@ -7,7 +7,7 @@ from typing import Protocol
 
 from sagas.base.errors import SagasError
 from sagas.base.events import EventEmitter
-from sagas.core import early_reports
+from sagas.core import reports
 from sagas.core.effects import NO_RARE_EFFECTS, Abort, Effects, RareEffects
 from sagas.core.model import Attempt, SagaInstance
 from sagas.core.recovery import Recovery
@@ -206,7 +206,7 @@ class EffectHandler:
                 self._emit_end(saga)
             if saga.has_deviated and saga.phase == "ended" and (steps := undo_failures(saga.end)):
                 self._emit_undo_failed(saga, steps)
-            if unused := early_reports.unused(saga):
+            if unused := reports.unused_report_steps(saga):
                 self._emit_unused(saga, unused)
 
     def _emit_end(self, saga: SagaInstance) -> None:

@@ -24,11 +24,10 @@ from sagas.base.errors import (
 )
 from sagas.base.logger import logger
 from sagas.core import outcomes
-from sagas.core.exhaustion import RETRYABLE
+from sagas.core.states import OutcomeKind, RETRYABLE, Suspension
 from sagas.core.external_work import Signer
 from sagas.core.model import FINISHED, SUSPENDED, Attempt
 from sagas.core.outcomes import CANNOT_DECODE, FAILED, PERMANENT, SUCCEEDED, UNKNOWN, Outcome
-from sagas.core.states import OutcomeKind, Suspension
 from sagas.definition import tokens
 from sagas.definition.blobs import BlobUnavailable
 from sagas.definition.capacity import SHARD_CAPACITY

@@ -8,9 +8,8 @@ from sagas.base.errors import DamagedShard, SagasError
 from sagas.base.logger import logger
 from sagas.core import recovery
 from sagas.core.batch import LoadedShard
-from sagas.core.effects import Abort, Effects
+from sagas.core.effects import Abort, Effects, EngineDisagrees
 from sagas.core.model import Attempt
-from sagas.core.replies import EngineDisagrees
 from sagas.core.shard import MAX_REPORTS, ShardDriver
 from sagas.core.states import ShardState
 from sagas.core.suspensions import SuspensionRow
