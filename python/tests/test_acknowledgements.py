@@ -16,7 +16,8 @@ import sagas
 from sagas.core import recovery
 from sagas.core.batch import LoadedShard
 from sagas.core.effects import Effects
-from sagas.core.model import Attempt, SagaInstance
+from sagas.core.attempt import Attempt
+from sagas.core.saga_instance import SagaInstance
 from sagas.core.shard import ShardDriver
 from sagas.core.shard_definitions import ShardDefinitions, ShardIdentity
 from sagas.core.states import ShardState

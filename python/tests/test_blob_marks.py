@@ -19,7 +19,7 @@ from serving import command
 from test_blobs import LARGE, THRESHOLD, Memory, at, copy, values_in
 
 import sagas
-from sagas.core import attempts
+from sagas.core import attempt_machine
 from sagas.definition.payloads import PLAIN
 from sagas.storage import blob_layer, blob_marks
 

@@ -28,11 +28,10 @@ from kills import children
 
 import sagas
 import sagas.testing
-from sagas.core import protocol as lines
+from sagas.core import protocol as lines, shard
 from sagas.engine import process
 from sagas.base import program
 from sagas.runtime import dispatcher
-from sagas.core import shard
 from sagas.storage import admin
 from sagas.storage.sqlite import writer as writer_module
 

@@ -14,30 +14,28 @@ import pytest
 
 import sagas
 from sagas.core import outcomes, reports, states
-from sagas.core.attempts import (
-    MAX_SLEEP,
+from sagas.core.attempt_machine import (
     AttemptMachine,
-    is_reportable,
-    is_called_at_once,
-    becomes_reportable,
-)
-from sagas.core.decisions import (
     CALL,
+    Decision,
+    Do,
     FOLLOW,
+    MAX_SLEEP,
     NOTHING,
     OFFER,
     REPORT,
     REPORT_AGAIN,
     SLEEP,
     WITHDRAW,
-    Decision,
-    Do,
+    becomes_reportable,
+    is_called_at_once,
+    is_reportable,
 )
 from sagas.core.reports import EarlyReport
-from sagas.core.model import Attempt, SagaInstance
+from sagas.core.attempt import Attempt, SuspensionRow
+from sagas.core.saga_instance import SagaInstance
 from sagas.core.outcomes import Outcome
 from sagas.core.states import AttemptState, EarlyReason, OutcomeKind, Suspension
-from sagas.core.suspensions import SuspensionRow
 from sagas.definition.shelf import DefinitionRegistry
 
 NOW = 1000.0

@@ -13,11 +13,10 @@ from typing import Any
 import pytest
 from core_world import World
 from definitions import StepDraw, steps
-from hypothesis import HealthCheck, given, settings
-from hypothesis import strategies as st
+from hypothesis import HealthCheck, given, settings, strategies as st
 
 import sagas
-from sagas.core import model, shard, states
+from sagas.core import attempt, shard, states
 
 MOVES, SAGAS = 20_000, 135
 ENDS: dict[str, dict[str, Any]] = {

@@ -4,7 +4,7 @@ from __future__ import annotations
 
 from sagas.api.repeated_reports import Read
 from sagas.core import reports
-from sagas.core.model import Attempt
+from sagas.core.attempt import Attempt
 from sagas.core.outcomes import SUCCEEDED, Outcome
 from sagas.definition import children, serialization
 from sagas.storage.queries import PHASE

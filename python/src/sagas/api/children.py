@@ -11,12 +11,11 @@ from sagas.api.saga_lookup import SagaLookup
 from sagas.api.starter import Starter
 from sagas.api.store_access import StoreAccess
 from sagas.core import history
-from sagas.core.model import SagaInstance
+from sagas.core.saga_instance import SagaInstance
 from sagas.definition.compiled import CompiledDefinition
 from sagas.definition.saga import Saga
 from sagas.definition.start_options import StartOptions
-from sagas.inspection import saga as saga_questions
-from sagas.inspection import what_if
+from sagas.inspection import saga as saga_questions, what_if
 from sagas.inspection.question import AsyncStoreReader
 from sagas.runtime import retries
 from sagas.runtime.children import ChildEnd

@@ -19,10 +19,11 @@ from sagas.base.errors import (
     StepNotWaiting,
     WouldWaitForever,
 )
-from sagas.core import attempts, attention, exhaustion, reports, waits
+from sagas.core import attempt_machine, attention, reports, waits
 from sagas.core.batch import AnsweredRequest, Batch, SagaRow, RequestRef
 from sagas.core.reports import EarlyReport, Refusal
-from sagas.core.model import Attempt, SagaInstance
+from sagas.core.attempt import Attempt
+from sagas.core.saga_instance import SagaInstance
 from sagas.core.outcomes import Outcome
 from sagas.core.states import Action
 from sagas.definition import children, serialization
@@ -172,7 +173,7 @@ class Commands:
                 continue  # its shard was lost in the meantime
             if attempt is not None and live.busy.get(attempt.action_key) is not attempt:
                 continue
-            if attempt is None or not exhaustion.may_retry(attempt):
+            if attempt is None or not attempt_machine.may_retry(attempt):
                 why = "it has no failed attempt that waits for a retry"
                 if attempt is not None:
                     why = waits.describe_attempt(attempt, self._access.coordinator.clock())
@@ -191,8 +192,8 @@ class Commands:
         """
         coordinator, key, step = self._access.coordinator, attempt.instance.key, attempt.name
         is_checked = not child_reports.is_of_child(attempt, outcome)
-        while not (is_checked and attempts.is_reportable(attempt)):
-            if attempts.is_reportable(attempt):
+        while not (is_checked and attempt_machine.is_reportable(attempt)):
+            if attempt_machine.is_reportable(attempt):
                 await child_reports.check(coordinator.store.read, attempt, outcome)
                 is_checked = True
                 continue
@@ -202,12 +203,12 @@ class Commands:
                 raise SagaMoved(f"saga {key!r}")  # the stored outcome counts
             if attempt is current_step.waiter(
                 coordinator.executor.calls.running
-            ) and attempts.becomes_reportable(attempt):
+            ) and attempt_machine.becomes_reportable(attempt):
                 raise WouldWaitForever(
                     f"step {step!r} of saga {key!r} reports itself before it waits for a report. "
                     "Return sagas.Approved(result) or sagas.Rejected(why) instead"
                 )
-            if not attempts.becomes_reportable(attempt):
+            if not attempt_machine.becomes_reportable(attempt):
                 why = waits.describe_attempt(attempt, coordinator.clock())
                 raise StepNotWaiting(
                     f"saga {key!r}, step {step!r} does not wait for a report: {why}"
@@ -326,7 +327,7 @@ def _over(live: SagaInstance, rows: Iterable[tuple[Any, ...]], word: ActionKey) 
     """Return how a step without a running attempt ended; None if it has not ended."""
     over = reports.end_text(rows, *word)
     undo = live.busy.get((word[0], "undo")) if over and word[1] == "run" else None
-    if over and undo and attempts.is_reportable(undo):
+    if over and undo and attempt_machine.is_reportable(undo):
         over += "; its compensation waits for a report (undo=True, or --undo)"
     return over
 

@@ -15,7 +15,7 @@ from sagas.base.errors import SagaMoved, NoSuchSaga, SagasError
 from sagas.core import history, waits
 from sagas.core.batch import SagaRow
 from sagas.core.key_lookup import KeyLookupPolicy
-from sagas.core.model import SagaInstance
+from sagas.core.saga_instance import SagaInstance
 from sagas.core.results import SagaResult
 from sagas.runtime import current_step, retries
 

@@ -9,7 +9,7 @@ from typing import Any
 from sagas.api.saga_lookup import SagaLookup
 from sagas.api.store_access import StoreAccess
 from sagas.base.errors import Closed, KeyConflict, StoreUnavailable
-from sagas.core.model import SagaInstance
+from sagas.core.saga_instance import SagaInstance
 from sagas.definition import arguments, children, serialization, start_options, undo_sagas
 from sagas.definition.compiled import CompiledDefinition
 from sagas.definition.labels import Labels, checked, with_token

@@ -7,7 +7,7 @@ from collections.abc import Callable, Iterable, Iterator, Mapping, Sequence
 from typing import Any, NamedTuple
 
 from sagas.base.errors import NotSerializable
-from sagas.core.model import Attempt
+from sagas.core.attempt import Attempt
 from sagas.core.outcomes import SUCCEEDED, Outcome, failure
 from sagas.core.results import SagaEnd
 from sagas.core.states import SagaPhase, StepState

@@ -15,8 +15,9 @@ from sagas.core.batch import DeliveryRow
 from sagas.core.states import EnginePhase, Suspension, undo_failures
 
 if TYPE_CHECKING:
-    from sagas.core.model import Attempt, SagaInstance
-    from sagas.core.suspensions import SuspensionRow
+    from sagas.core.attempt import Attempt
+    from sagas.core.saga_instance import SagaInstance
+    from sagas.core.attempt import SuspensionRow
 
 COMPLETED, RECOVERED = "saga.completed", "saga.recovered"
 STUCK, ATTENTION = "saga.stuck", "saga.attention"

@@ -14,9 +14,9 @@ from typing import TYPE_CHECKING, NamedTuple
 
 from sagas.core import deliveries, protocol, spans
 from sagas.core.batch import Batch, OpenedRow, RequestRef, ResultRow, Withdrawal
-from sagas.core.collection import has_nothing_to_undo, needs_stored_value
+from sagas.core.attempt import Attempt, SuspensionRow, has_nothing_to_undo, needs_stored_value
 from sagas.core.external_work import first_offer_row
-from sagas.core.model import Attempt, SagaInstance
+from sagas.core.saga_instance import SagaInstance
 from sagas.core.outcomes import SUCCEEDED, Outcome, encode_result
 from sagas.core.reports import (
     EarlyReport,
@@ -26,7 +26,6 @@ from sagas.core.reports import (
     unused_report_steps,
 )
 from sagas.core.states import PARKED, UNDO_FAILED, EarlyReason, EnginePhase
-from sagas.core.suspensions import SuspensionRow
 from sagas.definition import serialization
 from sagas.definition.capacity import SHARD_CAPACITY
 from sagas.definition.compiled import ActionKey

@@ -18,7 +18,7 @@ from sagas.definition import report_undos, tokens
 from sagas.definition.capacity import SHARD_CAPACITY
 
 if TYPE_CHECKING:
-    from sagas.core.model import Attempt
+    from sagas.core.attempt import Attempt
 
 LEASE_PATTERN = re.compile(r"([1-9][0-9]{0,18})\.[0-9a-f]{32}", re.ASCII)
 SIGNATURE_DIGITS = 32

@@ -6,7 +6,7 @@ from collections import Counter, deque
 from collections.abc import Callable
 from typing import Protocol
 
-from sagas.core.model import Attempt, SUSPENDED
+from sagas.core.attempt import Attempt, SUSPENDED
 from sagas.core.states import Action, Suspension
 
 MAX_AHEAD = 1 << 20

@@ -20,7 +20,8 @@ from typing import Any
 from sagas.core import protocol
 from sagas.core.batch import LoadedShard, OpenSagaRow, StoredSuspension
 from sagas.core.effects import Abort, Effects, ReplyReader
-from sagas.core.model import FINISHED, RUNNING, Attempt, SagaInstance
+from sagas.core.attempt import Attempt, FINISHED, RUNNING
+from sagas.core.saga_instance import SagaInstance
 from sagas.core.outcomes import SUCCEEDED, Outcome, failure
 from sagas.core.reports import EARLY_ATTEMPT
 from sagas.core.shard import ShardDriver

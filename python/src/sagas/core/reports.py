@@ -16,7 +16,7 @@ from typing import Any
 
 from sagas.base.errors import ConflictingReport, InvalidResult, StepNotWaiting
 from sagas.core.batch import RequestRef, SagaRow, StoredSuspension
-from sagas.core.model import SagaInstance
+from sagas.core.saga_instance import SagaInstance
 from sagas.core.outcomes import SUCCEEDED, Outcome
 from sagas.core.states import Action, EarlyReason, EnginePhase, OutcomeKind, SagaPhase
 from sagas.definition import children

@@ -37,7 +37,8 @@ from sagas.core.effects import (
     is_success,
 )
 from sagas.core.external_work import offer_row
-from sagas.core.model import Attempt, SagaInstance
+from sagas.core.attempt import Attempt, SuspensionRow
+from sagas.core.saga_instance import SagaInstance
 from sagas.core.outcomes import SUCCEEDED
 from sagas.core.reports import EarlyReport, Refusal
 from sagas.core.shard_definitions import ShardIdentity
@@ -50,7 +51,6 @@ from sagas.core.states import (
     Suspension,
     check,
 )
-from sagas.core.suspensions import SuspensionRow
 
 MAX_REPORTS = 256
 """The number of attempts that one request reports, or of sagas that it opens."""

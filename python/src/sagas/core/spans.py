@@ -14,7 +14,7 @@ from sagas.core.batch import SpansRow
 from sagas.core.states import AttemptState, Suspension
 
 if TYPE_CHECKING:
-    from sagas.core.model import Attempt
+    from sagas.core.attempt import Attempt
 
 SpanNote = tuple[str, float, Optional[str]]
 """A word, its start time and the error that was raised."""

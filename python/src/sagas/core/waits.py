@@ -8,7 +8,8 @@ from typing import Any
 from sagas.base.errors import InvalidInput
 from sagas.core.batch import SagaRow
 from sagas.core.states import Action, RETRYABLE, Suspension, WAITS_FOR
-from sagas.core.model import Attempt, FINISHED, QUEUED, RUNNING, SUSPENDED, SagaInstance
+from sagas.core.attempt import Attempt, FINISHED, QUEUED, RUNNING, SUSPENDED
+from sagas.core.saga_instance import SagaInstance
 from sagas.core.results import ActiveAttempt
 
 MAX_WAITS = 5

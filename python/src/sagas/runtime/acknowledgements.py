@@ -9,7 +9,8 @@ from __future__ import annotations
 from collections.abc import Collection, Mapping
 
 from sagas.core.effects import NO_RARE_EFFECTS, Abort, Effects
-from sagas.core.model import Attempt, SagaInstance
+from sagas.core.attempt import Attempt
+from sagas.core.saga_instance import SagaInstance
 from sagas.core.recovery import Recovery
 from sagas.runtime.instances import Instances
 from sagas.runtime.waiters import Waiters

@@ -16,7 +16,8 @@ from sagas.base.fork_guard import private_descriptors
 from sagas.base.logger import logger
 from sagas.core import outcomes, spans
 from sagas.core.limits import Slots
-from sagas.core.model import QUEUED, RUNNING, Attempt, SagaInstance, finish_all, start_all
+from sagas.core.attempt import Attempt, QUEUED, RUNNING, finish_all, start_all
+from sagas.core.saga_instance import SagaInstance
 from sagas.core.outcomes import Outcome
 from sagas.definition import awaitables
 from sagas.definition.blobs import BlobUnavailable

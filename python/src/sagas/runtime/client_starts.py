@@ -15,7 +15,7 @@ from sagas.base.errors import (
 )
 from sagas.base.logger import logger
 from sagas.core.batch import Batch, PendingStart
-from sagas.core.model import SagaInstance
+from sagas.core.saga_instance import SagaInstance
 from sagas.definition import undo_sagas
 from sagas.definition.saga import Saga
 from sagas.definition.shelf import Fitted, DefinitionRegistry

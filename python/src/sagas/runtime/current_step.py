@@ -8,7 +8,7 @@ import threading
 from collections.abc import Iterator, Mapping
 from contextvars import ContextVar
 
-from sagas.core.model import RUNNING, Attempt
+from sagas.core.attempt import Attempt, RUNNING
 
 Running = Mapping[Attempt, "asyncio.Task[None] | None"]
 """The attempts of a store that have a slot, each with the task that calls its function."""

@@ -8,7 +8,7 @@ import itertools
 from collections.abc import Callable
 
 from sagas.base.events import EventEmitter
-from sagas.core.model import SagaInstance
+from sagas.core.saga_instance import SagaInstance
 from sagas.runtime.instances import Instances
 
 MAX_ENTRIES = 1000

@@ -11,7 +11,8 @@ from sagas.base.errors import SlotsTaken, WouldWaitForever
 from sagas.core.states import ShardState
 
 if TYPE_CHECKING:
-    from sagas.core.model import Attempt, SagaInstance
+    from sagas.core.attempt import Attempt
+    from sagas.core.saga_instance import SagaInstance
     from sagas.runtime.coordinator import Coordinator
 
 T = TypeVar("T")

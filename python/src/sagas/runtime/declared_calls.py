@@ -6,7 +6,7 @@ from collections.abc import Callable
 from typing import TypeVar
 
 from sagas.core.declared_values import OptionCalls
-from sagas.core.model import Attempt
+from sagas.core.attempt import Attempt
 from sagas.definition.saga import Saga
 from sagas.definition.shelf import Fitted, DefinitionRegistry
 from sagas.runtime.function_threads import FunctionThreads

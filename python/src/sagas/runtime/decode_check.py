@@ -12,7 +12,7 @@ from typing import Protocol, cast
 
 from sagas.base.logger import logger
 from sagas.core.batch import LoadedShard
-from sagas.core.model import RUNNING
+from sagas.core.attempt import RUNNING
 from sagas.core.shard import ShardDriver
 from sagas.definition.blobs import Reference
 from sagas.definition.compiled import CompiledDefinition

@@ -15,7 +15,7 @@ from collections.abc import Awaitable, Callable, Coroutine, Generator, Sequence
 from typing import Any, Protocol
 
 from sagas.core import outcomes
-from sagas.core.model import Attempt
+from sagas.core.attempt import Attempt
 from sagas.core.outcomes import Outcome
 from sagas.core.step_transactions import StepTransactions
 from sagas.definition import awaitables

@@ -8,7 +8,7 @@ from collections.abc import Callable
 from sagas.base.errors import SagaMoved, SagasError
 from sagas.core.reports import EarlyReport, Refusal
 from sagas.core.shard import early_report_effects
-from sagas.core.model import SagaInstance
+from sagas.core.saga_instance import SagaInstance
 from sagas.definition.compiled import ActionKey
 from sagas.runtime.executor_host import CoordinatorForExecutor
 

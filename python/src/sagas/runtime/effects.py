@@ -9,7 +9,8 @@ from sagas.base.errors import SagasError
 from sagas.base.events import EventEmitter
 from sagas.core import reports
 from sagas.core.effects import NO_RARE_EFFECTS, Abort, Effects, RareEffects
-from sagas.core.model import Attempt, SagaInstance
+from sagas.core.attempt import Attempt
+from sagas.core.saga_instance import SagaInstance
 from sagas.core.recovery import Recovery
 from sagas.core.states import saga_phase, undo_failures
 from sagas.definition.payloads import ABSENT

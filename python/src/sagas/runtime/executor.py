@@ -10,18 +10,17 @@ from collections.abc import Callable, Sequence
 from concurrent.futures import Executor as Threads
 
 from sagas.base.errors import Closed, ShardLost, SagaMoved, SagasError, StepNotWaiting
-from sagas.core import exhaustion, outcomes, spans
-from sagas.core.attempts import AttemptMachine
+from sagas.core import attempt_machine, outcomes, spans
+from sagas.core.attempt_machine import AttemptMachine, Decision, Do
 from sagas.core.batch import RequestRef
-from sagas.core.decisions import Decision, Do
 from sagas.core.declared_values import OptionCalls
 from sagas.core.effects import Effects
 from sagas.core.limits import Slots
-from sagas.core.model import CLAIMED, FINISHED, QUEUED, SUSPENDED, Attempt, SagaInstance
+from sagas.core.attempt import Attempt, CLAIMED, FINISHED, QUEUED, SUSPENDED, SuspensionRow
+from sagas.core.saga_instance import SagaInstance
 from sagas.core.outcomes import Outcome
 from sagas.core.shard import ShardDriver
 from sagas.core.states import OutcomeKind, Suspension
-from sagas.core.suspensions import SuspensionRow
 from sagas.definition.blobs import BlobUnavailable
 from sagas.definition.tracing import Tracer
 from sagas.runtime import remote_steps
@@ -306,7 +305,7 @@ class Executor:
         if request is not None:
             attempt.rare.request = request
         kept = self.kept.wait(attempt)
-        self._do(attempt, exhaustion.retry(attempt, self._clock()))
+        self._do(attempt, attempt_machine.retry_attempt(attempt, self._clock()))
         await kept
 
     async def until_kept(self, attempt: Attempt) -> bool:

@@ -10,10 +10,9 @@ from typing import Protocol
 from sagas.base.errors import SagasError
 from sagas.base.events import EventEmitter
 from sagas.core.effects import Effects
-from sagas.core.model import Attempt
+from sagas.core.attempt import Attempt, SuspensionRow
 from sagas.core.outcomes import Outcome
 from sagas.core.shard import ShardDriver
-from sagas.core.suspensions import SuspensionRow
 from sagas.definition.shelf import DefinitionRegistry
 from sagas.runtime.declared_calls import DefinitionCaller
 from sagas.runtime.dispatcher import TurnPolicy

@@ -14,8 +14,7 @@ from typing import TYPE_CHECKING, Any
 from sagas.base.errors import CannotDecode, LeaseLost, SagasError, StoreUnavailable
 from sagas.base.logger import logger
 from sagas.core.external_work import Signer, offered_task_name, task_name
-from sagas.core.model import Attempt
-from sagas.core.suspensions import Lease
+from sagas.core.attempt import Attempt, Lease
 from sagas.definition.blobs import BlobUnavailable
 from sagas.definition.compiled import CompiledDefinition
 from sagas.definition.control import Progress

@@ -26,7 +26,7 @@ from sagas.base.logger import logger
 from sagas.core import outcomes
 from sagas.core.states import OutcomeKind, RETRYABLE, Suspension
 from sagas.core.external_work import Signer
-from sagas.core.model import FINISHED, SUSPENDED, Attempt
+from sagas.core.attempt import Attempt, FINISHED, SUSPENDED
 from sagas.core.outcomes import CANNOT_DECODE, FAILED, PERMANENT, SUCCEEDED, UNKNOWN, Outcome
 from sagas.definition import tokens
 from sagas.definition.blobs import BlobUnavailable

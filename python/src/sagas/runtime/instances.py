@@ -7,7 +7,7 @@ from collections.abc import Callable
 
 from sagas.base.errors import SagasError
 from sagas.core.effects import Abort
-from sagas.core.model import SagaInstance
+from sagas.core.saga_instance import SagaInstance
 from sagas.definition.compiled import CompiledDefinition
 from sagas.definition.start_options import StartOptions
 from sagas.runtime.waiters import Waiters

@@ -12,7 +12,7 @@ from collections.abc import Callable, Iterator
 from typing import TYPE_CHECKING
 
 from sagas.base.errors import StoreUnavailable
-from sagas.core.model import SUSPENDED, Attempt
+from sagas.core.attempt import Attempt, SUSPENDED
 from sagas.core.shard import ShardDriver
 from sagas.core.states import Suspension
 

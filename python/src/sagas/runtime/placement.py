@@ -8,7 +8,7 @@ from typing import Protocol
 
 from sagas.base.errors import SagasError
 from sagas.core.batch import SagaRow
-from sagas.core.model import SagaInstance
+from sagas.core.saga_instance import SagaInstance
 from sagas.core.shard import ShardDriver
 from sagas.core.shard_definitions import ShardDefinitions, ShardIdentity
 from sagas.definition.compiled import CompiledDefinition

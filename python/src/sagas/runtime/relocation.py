@@ -8,7 +8,7 @@ from typing import TYPE_CHECKING, Protocol
 
 from sagas.base.errors import KeyConflict, SagaMoved, SagasError
 from sagas.core.batch import Batch, LoadedShard, SagaRow
-from sagas.core.model import SagaInstance
+from sagas.core.saga_instance import SagaInstance
 from sagas.core.shard import ShardDriver
 from sagas.definition import input_equality, mismatches
 from sagas.definition.blobs import Reference

@@ -17,7 +17,7 @@ from sagas.core.outcomes import Outcome
 from sagas.definition.payloads import ABSENT
 
 if TYPE_CHECKING:
-    from sagas.core.model import Attempt
+    from sagas.core.attempt import Attempt
     from sagas.definition.saga import Saga
     from sagas.definition.step import Manner, RemoteQueue, Step
     from sagas.runtime.executor_host import ExternalTasks

@@ -9,10 +9,9 @@ from sagas.base.logger import logger
 from sagas.core import recovery
 from sagas.core.batch import LoadedShard
 from sagas.core.effects import Abort, Effects, EngineDisagrees
-from sagas.core.model import Attempt
+from sagas.core.attempt import Attempt, SuspensionRow
 from sagas.core.shard import MAX_REPORTS, ShardDriver
 from sagas.core.states import ShardState
-from sagas.core.suspensions import SuspensionRow
 from sagas.engine.process import EngineProcess
 from sagas.runtime import decode_check
 from sagas.runtime.shard_parts import Parts, ShardsForRunner, engine_on, named, not_understood

@@ -13,7 +13,7 @@ from sagas.base.logger import logger
 from sagas.core import recovery
 from sagas.core.batch import Batch, LoadedShard, ShardRow, SagaRow, RequestRef
 from sagas.core.effects import Abort
-from sagas.core.model import SagaInstance
+from sagas.core.saga_instance import SagaInstance
 from sagas.core.shard import ShardDriver
 from sagas.core.shard_definitions import ShardDefinitions, ShardIdentity
 from sagas.core.states import ShardState

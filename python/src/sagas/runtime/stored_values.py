@@ -5,8 +5,8 @@ from __future__ import annotations
 import asyncio
 from collections.abc import Callable, Sequence
 
-from sagas.core.held_values import StoredValues
-from sagas.core.model import Attempt
+from sagas.core.saga_instance import StoredValues
+from sagas.core.attempt import Attempt
 from sagas.definition.blobs import BlobUnavailable, Reference
 from sagas.runtime.executor_host import CoordinatorForExecutor
 from sagas.runtime.retries import until_answered

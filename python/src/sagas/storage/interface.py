@@ -38,7 +38,7 @@ from sagas.storage.external import ExternalAttempts
 from sagas.storage.record_file import RecordFile
 
 if TYPE_CHECKING:
-    from sagas.core.model import Attempt
+    from sagas.core.attempt import Attempt
     from sagas.core.outcomes import Outcome
     from sagas.definition.payloads import Payloads
     from sagas.definition.step import Bounds, Manner

@@ -13,7 +13,7 @@ from typing import Any
 from sagas.base.errors import NoSuchSaga
 from sagas.core import children
 from sagas.core.batch import StoredSaga, ShardRow, SagaRow
-from sagas.core.held_values import LARGE_VALUE
+from sagas.core.saga_instance import LARGE_VALUE
 from sagas.core.children import CompletedChild
 from sagas.definition import arguments
 from sagas.definition.capacity import SHARD_CAPACITY

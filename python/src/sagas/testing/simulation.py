@@ -18,16 +18,15 @@ from typing import Any, Protocol
 
 from sagas.base.errors import CannotDecode, Fail
 from sagas.core import outcomes, protocol, reports
-from sagas.core.attempts import AttemptMachine
-from sagas.core.decisions import Decision, Do
+from sagas.core.attempt_machine import AttemptMachine, Decision, Do
 from sagas.core.effects import Abort, Effects
 from sagas.core.states import AFTER_FAILURE, Action, OutcomeKind, Suspension, saga_phase, step_state
 from sagas.core.history import EFFECT_STATES, fan_of
-from sagas.core.model import RUNNING, SUSPENDED, Attempt, SagaInstance
+from sagas.core.attempt import Attempt, RUNNING, SUSPENDED, SuspensionRow
+from sagas.core.saga_instance import SagaInstance
 from sagas.core.outcomes import Outcome
 from sagas.core.shard import MAX_CLAIMS, ShardDriver
 from sagas.core.shard_definitions import ShardDefinitions, ShardIdentity
-from sagas.core.suspensions import SuspensionRow
 from sagas.definition import children, serialization
 from sagas.definition.compiled import CompiledDefinition
 from sagas.definition.start_options import StartOptions
