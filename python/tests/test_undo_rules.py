@@ -423,7 +423,7 @@ def test_a_wrong_stored_result_needs_an_operator(
 ) -> None:
     """It undoes no other saga's child, and nothing hangs."""
     world = Hand()
-    monkeypatch.setattr(child_results, "check", lambda *arguments: None)
+    monkeypatch.setattr(reports, "check_child_result", lambda *arguments: None)
 
     async def main() -> None:
         async with sagas.open(location, world.all) as store:

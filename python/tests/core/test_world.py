@@ -119,7 +119,7 @@ def test_whatever_happens(part: int, monkeypatch: pytest.MonkeyPatch) -> None:
         transitions += 1
         states.check(table, before, after)
 
-    for module in (model, shard):
+    for module in (attempt, shard):
         monkeypatch.setattr(module, "check", count)
 
     @settings(
