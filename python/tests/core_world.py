@@ -28,8 +28,7 @@ from sagas.core.effects import Abort, Effects
 from sagas.core.attempt import Attempt, FINISHED, RUNNING, SUSPENDED, SuspensionRow
 from sagas.core.saga_instance import SagaInstance
 from sagas.core.outcomes import Outcome
-from sagas.core.shard import ShardDriver
-from sagas.core.shard_definitions import ShardDefinitions, ShardIdentity
+from sagas.core.shard import ShardDefinitions, ShardDriver, ShardIdentity
 from sagas.core.states import ShardState
 from sagas.definition.capacity import SHARD_CAPACITY
 from sagas.definition.compiled import CompiledDefinition

@@ -18,8 +18,7 @@ from sagas.core.batch import LoadedShard
 from sagas.core.effects import Effects
 from sagas.core.attempt import Attempt
 from sagas.core.saga_instance import SagaInstance
-from sagas.core.shard import ShardDriver
-from sagas.core.shard_definitions import ShardDefinitions, ShardIdentity
+from sagas.core.shard import ShardDefinitions, ShardDriver, ShardIdentity
 from sagas.core.states import ShardState
 from sagas.definition.shelf import DefinitionRegistry
 from sagas.runtime.acknowledgements import Acknowledgements

@@ -13,9 +13,8 @@ from core_world import Engine
 
 import sagas
 from sagas.core.effects import EngineDisagrees
-from sagas.core.shard import ShardDriver
+from sagas.core.shard import ShardDefinitions, ShardDriver, ShardIdentity
 from sagas.core.saga_instance import SagaInstance
-from sagas.core.shard_definitions import ShardDefinitions, ShardIdentity
 from sagas.core.states import ShardState
 from sagas.definition.compiled import CompiledDefinition
 

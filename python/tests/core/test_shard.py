@@ -16,8 +16,7 @@ from sagas.core.batch import LoadedShard
 from sagas.core.effects import Abort, Effects, EngineDisagrees
 from sagas.core.attempt import Attempt, SuspensionRow
 from sagas.core.saga_instance import SagaInstance
-from sagas.core.shard import MAX_REPORTS, ShardDriver
-from sagas.core.shard_definitions import ShardDefinitions, ShardIdentity
+from sagas.core.shard import MAX_REPORTS, ShardDefinitions, ShardDriver, ShardIdentity
 from sagas.core.states import AttemptState, Check, IllegalTransition, ShardState, Suspension
 from sagas.definition.shelf import DefinitionRegistry
 from sagas.definition.start_options import StartOptions

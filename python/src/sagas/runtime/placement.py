@@ -9,8 +9,7 @@ from typing import Protocol
 from sagas.base.errors import SagasError
 from sagas.core.batch import SagaRow
 from sagas.core.saga_instance import SagaInstance
-from sagas.core.shard import ShardDriver
-from sagas.core.shard_definitions import ShardDefinitions, ShardIdentity
+from sagas.core.shard import ShardDefinitions, ShardDriver, ShardIdentity
 from sagas.definition.compiled import CompiledDefinition
 from sagas.definition.shelf import DefinitionSet, DefinitionRegistry
 from sagas.runtime.instances import Instances

@@ -14,8 +14,7 @@ from sagas.core import recovery
 from sagas.core.batch import Batch, LoadedShard, ShardRow, SagaRow, RequestRef
 from sagas.core.effects import Abort
 from sagas.core.saga_instance import SagaInstance
-from sagas.core.shard import ShardDriver
-from sagas.core.shard_definitions import ShardDefinitions, ShardIdentity
+from sagas.core.shard import ShardDefinitions, ShardDriver, ShardIdentity
 from sagas.core.states import ShardState
 from sagas.definition.compiled import CompiledDefinition
 from sagas.definition.shelf import DefinitionRegistry

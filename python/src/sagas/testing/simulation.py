@@ -25,8 +25,7 @@ from sagas.core.history import EFFECT_STATES, fan_of
 from sagas.core.attempt import Attempt, RUNNING, SUSPENDED, SuspensionRow
 from sagas.core.saga_instance import SagaInstance
 from sagas.core.outcomes import Outcome
-from sagas.core.shard import MAX_CLAIMS, ShardDriver
-from sagas.core.shard_definitions import ShardDefinitions, ShardIdentity
+from sagas.core.shard import MAX_CLAIMS, ShardDefinitions, ShardDriver, ShardIdentity
 from sagas.definition import children, serialization
 from sagas.definition.compiled import CompiledDefinition
 from sagas.definition.start_options import StartOptions
