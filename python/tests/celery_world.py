@@ -33,7 +33,7 @@ from world import QUICK, OutsideReader, World, chance, one
 
 import sagas
 import sagas.celery
-from sagas.core.dispatch import Order
+from sagas.core.external_work import Order
 
 PAUSE = 0.001
 TIMEOUT = 4.0

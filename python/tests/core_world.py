@@ -21,17 +21,15 @@ from driving import audit, program
 from follower import Definition, Follower
 
 import sagas
-from sagas.core import exhaustion, outcomes, protocol, recovery
-from sagas.core.attempts import AttemptMachine, is_reportable
+from sagas.core import attempt_machine, outcomes, protocol, recovery
+from sagas.core.attempt_machine import AttemptMachine, Decision, Do, is_reportable
 from sagas.core.batch import Batch, LoadedShard
-from sagas.core.decisions import Decision, Do
 from sagas.core.effects import Abort, Effects
-from sagas.core.model import FINISHED, RUNNING, SUSPENDED, Attempt, SagaInstance
+from sagas.core.attempt import Attempt, FINISHED, RUNNING, SUSPENDED, SuspensionRow
+from sagas.core.saga_instance import SagaInstance
 from sagas.core.outcomes import Outcome
-from sagas.core.shard import ShardDriver, ShardIdentity
-from sagas.core.shard_definitions import ShardDefinitions
+from sagas.core.shard import ShardDefinitions, ShardDriver, ShardIdentity
 from sagas.core.states import ShardState
-from sagas.core.suspensions import SuspensionRow
 from sagas.definition.capacity import SHARD_CAPACITY
 from sagas.definition.compiled import CompiledDefinition
 from sagas.definition.start_options import StartOptions
@@ -236,7 +234,7 @@ class World:
             moves.append((30, "ring", lambda: self._ring(timed)))
         if open_attempts := self._open_attempts():
             moves.append((20, "answer", lambda: self._answer(open_attempts)))
-        if retried := [one for one in self._attempts() if exhaustion.may_retry(one)]:
+        if retried := [one for one in self._attempts() if attempt_machine.may_retry(one)]:
             moves.append((3, "retry", lambda: self._retry(retried)))
         if not calm:
             if self.commits:
@@ -608,7 +606,7 @@ class World:
     def _retry(self, attempts: list[Attempt]) -> None:
         """Let an operator retry an attempt."""
         attempt = self.random.choice(attempts)
-        self._do(attempt, exhaustion.retry(attempt, self.now))
+        self._do(attempt, attempt_machine.retry_attempt(attempt, self.now))
 
     def _abort(self, going: list[SagaInstance]) -> None:
         self.aborts.append(Abort(self.random.choice(going)))

@@ -41,7 +41,7 @@ from world import chance, is_unexpected
 
 import sagas
 import sagas.definition.shelf
-from sagas.core.announcements import TYPES
+from sagas.core.deliveries import TYPES
 from sagas.server.webhooks import Webhook, Webhooks
 
 THRESHOLD = 300

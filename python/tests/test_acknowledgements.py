@@ -16,9 +16,9 @@ import sagas
 from sagas.core import recovery
 from sagas.core.batch import LoadedShard
 from sagas.core.effects import Effects
-from sagas.core.model import Attempt, SagaInstance
-from sagas.core.shard import ShardDriver, ShardIdentity
-from sagas.core.shard_definitions import ShardDefinitions
+from sagas.core.attempt import Attempt
+from sagas.core.saga_instance import SagaInstance
+from sagas.core.shard import ShardDefinitions, ShardDriver, ShardIdentity
 from sagas.core.states import ShardState
 from sagas.definition.shelf import DefinitionRegistry
 from sagas.runtime.acknowledgements import Acknowledgements

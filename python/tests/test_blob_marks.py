@@ -19,7 +19,7 @@ from serving import command
 from test_blobs import LARGE, THRESHOLD, Memory, at, copy, values_in
 
 import sagas
-from sagas.core import attempts
+from sagas.core import attempt_machine
 from sagas.definition.payloads import PLAIN
 from sagas.storage import blob_layer
 
@@ -240,7 +240,7 @@ def test_a_missing_value_parks_only_its_attempt(
     """
     saga, flaky = copy(), Flaky()
     monkeypatch.setattr(blob_layer, "PAUSES", (0.001,))
-    monkeypatch.setattr(attempts, "LEAST_UNREAD", 0.05)
+    monkeypatch.setattr(attempt_machine, "LEAST_UNREAD", 0.05)
     bad = [f"bad-{number}" for number in range(6)]  # more than are read at a time
 
     async def main() -> None:
@@ -291,7 +291,7 @@ def test_a_worker_gets_tasks_with_readable_values(
 ) -> None:
     """The task whose input is missing is set aside, and is claimed later."""
     monkeypatch.setattr(blob_layer, "PAUSES", (0.001,))
-    monkeypatch.setattr(attempts, "LEAST_UNREAD", 0.05)
+    monkeypatch.setattr(attempt_machine, "LEAST_UNREAD", 0.05)
     flaky, saga = Flaky(), sagas.Saga("done")
     sign = saga.approval(name="sign")(lambda task: None)
     saga.step(external=True, name="work", needs=[sign], undo=0)

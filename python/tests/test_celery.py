@@ -23,7 +23,7 @@ import sagas
 import sagas.celery
 import sagas.testing
 from sagas.core.outcomes import SUCCEEDED, Outcome, failure, unknown
-from sagas.core.dispatch import Order
+from sagas.core.external_work import Order
 from sagas.core.states import AttemptState
 from sagas.runtime.remote_steps import MAX_CARRIED
 from sagas.storage.factory import open_worker_session

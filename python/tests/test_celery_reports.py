@@ -27,7 +27,7 @@ import sagas.celery
 from sagas.cli import store_command
 from sagas.core import outcomes
 from sagas.core.outcomes import Outcome
-from sagas.core.dispatch import Order
+from sagas.core.external_work import Order
 from sagas.runtime import retention
 from sagas.storage.factory import open_worker_session
 from sagas.storage.postgresql import worker_session

@@ -18,7 +18,7 @@ from test_schedules import Clock
 
 import sagas
 import sagas.testing
-from sagas.core.model import SagaInstance
+from sagas.core.saga_instance import SagaInstance
 from sagas.runtime import instances
 
 SOON = datetime.timedelta(seconds=0.3)

@@ -17,7 +17,7 @@ import pytest
 
 import sagas
 from sagas.base import events
-from sagas.core import attempts
+from sagas.core import attempt_machine
 
 REFERENCE = pathlib.Path(__file__).resolve().parents[2] / "docs" / "reference"
 
@@ -92,7 +92,7 @@ def test_the_reference_has_each_exception_and_event() -> None:
     names_of_events = {*events.LEVELS, *declared(sagas.Event)}
     assert {word for word in names_of_events if not row(word, "events.md")} == set()
     doc = inspect.getdoc(sagas.Event) or ""
-    assert {word for word in attempts.ANNOUNCED if f"`{word}`" not in doc} == set()
+    assert {word for word in attempt_machine.ANNOUNCED if f"`{word}`" not in doc} == set()
 
 
 def test_examples_run(tmp_path: Any, monkeypatch: pytest.MonkeyPatch) -> None:

@@ -14,7 +14,7 @@ from cases import Task, run, until
 from test_codec import KNOWN
 
 import sagas
-from sagas.core.held_values import LARGE_VALUE
+from sagas.core.saga_instance import LARGE_VALUE
 from sagas.definition.payloads import ABSENT
 
 BIG = "b" * (4 * LARGE_VALUE)

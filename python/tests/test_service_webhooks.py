@@ -22,7 +22,7 @@ from serving import DEFINITIONS, LONG, all_done, host, report, served, start, st
 
 import sagas
 from sagas.cli.snapshot import Snapshot
-from sagas.core.announcements import TYPES
+from sagas.core.deliveries import TYPES
 from sagas.inspection import deliveries
 from sagas.server import webhooks
 from sagas.server.webhooks import Webhook, WebhookFault, Webhooks

@@ -20,7 +20,7 @@ from shaped import Hotel, Order, Package, Parcel, Trip, booking, order, parcels,
 
 import sagas
 from sagas.cli import store_command
-from sagas.core.shard_definitions import ShardDefinitions
+from sagas.core.shard import ShardDefinitions
 from sagas.definition.capacity import MOST_ADDED
 from sagas.runtime import shard_runner
 from sagas.storage import admin

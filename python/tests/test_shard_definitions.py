@@ -12,10 +12,9 @@ from cases import ended, run, until
 from core_world import Engine
 
 import sagas
-from sagas.core.replies import EngineDisagrees
+from sagas.core.effects import EngineDisagrees
+from sagas.core.shard import ShardDefinitions, ShardDriver, ShardIdentity
 from sagas.core.saga_instance import SagaInstance
-from sagas.core.shard import ShardDriver, ShardIdentity
-from sagas.core.shard_definitions import ShardDefinitions
 from sagas.core.states import ShardState
 from sagas.definition.compiled import CompiledDefinition
 

@@ -18,7 +18,7 @@ import pytest
 import sagas
 import sagas.testing
 from cases import Task, run
-from sagas.core.dispatch import Order
+from sagas.core.external_work import Order
 from sagas.definition import tracing
 from sagas.runtime.calls import Calls
 from serving import Served, served, take

@@ -22,7 +22,7 @@ from test_service_workers import ONE
 
 import sagas
 import sagas.testing
-from sagas.core import child_results
+from sagas.core import reports
 from sagas.definition import children
 from sagas.storage import admin, archive
 from sagas.storage.filters import Scope
@@ -423,7 +423,7 @@ def test_a_wrong_stored_result_needs_an_operator(
 ) -> None:
     """It undoes no other saga's child, and nothing hangs."""
     world = Hand()
-    monkeypatch.setattr(child_results, "check", lambda *arguments: None)
+    monkeypatch.setattr(reports, "check_child_result", lambda *arguments: None)
 
     async def main() -> None:
         async with sagas.open(location, world.all) as store:
@@ -462,12 +462,12 @@ def test_open_and_completed_children() -> None:
         ("t/:kid:undo", "is not that of a child of this step"),
     ):
         with pytest.raises(sagas.InvalidResult, match=why):
-            child_results.check("t", "kid", result(key), rows, ["first"])
-    child_results.check("t", "kid", result("t/:kid"), rows, None)
+            reports.check_child_result("t", "kid", result(key), rows, ["first"])
+    reports.check_child_result("t", "kid", result("t/:kid"), rows, None)
     with pytest.raises(sagas.InvalidResult, match="has completed, so its key is needed"):
-        child_results.check("t", "kid", result(None), [("t/:kid", "completed")], None)
+        reports.check_child_result("t", "kid", result(None), [("t/:kid", "completed")], None)
     with pytest.raises(sagas.InvalidResult, match="it started none"):
-        child_results.check("t", "kid", result("t/:kid"), [], None)
+        reports.check_child_result("t", "kid", result("t/:kid"), [], None)
 
 
 @dataclasses.dataclass

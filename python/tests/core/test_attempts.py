@@ -13,31 +13,29 @@ import hypothesis.strategies as st
 import pytest
 
 import sagas
-from sagas.core import early_reports, outcomes, states
-from sagas.core.attempts import (
-    MAX_SLEEP,
+from sagas.core import outcomes, reports, states
+from sagas.core.attempt_machine import (
     AttemptMachine,
-    is_reportable,
-    is_called_at_once,
-    becomes_reportable,
-)
-from sagas.core.decisions import (
     CALL,
+    Decision,
+    Do,
     FOLLOW,
+    MAX_SLEEP,
     NOTHING,
     OFFER,
     REPORT,
     REPORT_AGAIN,
     SLEEP,
     WITHDRAW,
-    Decision,
-    Do,
+    becomes_reportable,
+    is_called_at_once,
+    is_reportable,
 )
-from sagas.core.early_reports import EarlyReport
-from sagas.core.model import Attempt, SagaInstance
+from sagas.core.reports import EarlyReport
+from sagas.core.attempt import Attempt, SuspensionRow
+from sagas.core.saga_instance import SagaInstance
 from sagas.core.outcomes import Outcome
 from sagas.core.states import AttemptState, EarlyReason, OutcomeKind, Suspension
-from sagas.core.suspensions import SuspensionRow
 from sagas.definition.shelf import DefinitionRegistry
 
 NOW = 1000.0
@@ -698,7 +696,7 @@ def test_early_reports() -> None:
             instance, word = attempt.instance, attempt.action_key
             instance.aborted = instance.draining = aborted
             EarlyReport(instance, word, Outcome(OutcomeKind.SUCCEEDED, '"yes"')).keep()
-            assert early_reports.stored(instance, word) == Outcome(OutcomeKind.SUCCEEDED, '"yes"')
+            assert reports.stored_report(instance, word) == Outcome(OutcomeKind.SUCCEEDED, '"yes"')
             assert MACHINE.begin(attempt, NOW) == REPORT and attempt.has_row
             assert attempt.outcome == Outcome(OutcomeKind.SUCCEEDED, '"yes"')
     attempt = attempt_of("sign")
@@ -717,10 +715,10 @@ def test_which_reports_are_taken_early() -> None:
     """Those of approvals and of external steps, while the saga continues."""
     for step, kind in (("simple", "run"), ("pause", "run"), ("sent", "run"), ("outside", "undo")):
         instance = attempt_of(step).instance
-        assert early_reports.refusal_reason(instance, KIND.names.index(step), kind)
+        assert reports.refusal_reason(instance, KIND.names.index(step), kind)
     for step in ("sign", "outside"):
         instance = attempt_of(step).instance
         number = KIND.names.index(step)
-        assert early_reports.refusal_reason(instance, number, "run") is None
+        assert reports.refusal_reason(instance, number, "run") is None
         instance.draining = True
-        assert "is being undone" in str(early_reports.refusal_reason(instance, number, "run"))
+        assert "is being undone" in str(reports.refusal_reason(instance, number, "run"))

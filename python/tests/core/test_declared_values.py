@@ -13,9 +13,9 @@ import pytest
 
 import sagas
 from sagas.core import outcomes
-from sagas.core.attempts import AttemptMachine
-from sagas.core.decisions import CALL, REPORT, Decision, Do
-from sagas.core.model import Attempt, SagaInstance
+from sagas.core.attempt_machine import AttemptMachine, CALL, Decision, Do, REPORT
+from sagas.core.attempt import Attempt
+from sagas.core.saga_instance import SagaInstance
 from sagas.core.states import AttemptState, OutcomeKind, Suspension
 from sagas.definition.shelf import DefinitionRegistry
 

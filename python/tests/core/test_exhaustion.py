@@ -7,10 +7,18 @@ from typing import Any
 import pytest
 
 import sagas
-from sagas.core import exhaustion, outcomes
-from sagas.core.attempts import AttemptMachine, is_reportable
-from sagas.core.decisions import CALL, NOTHING, REPORT, SLEEP, Do
-from sagas.core.model import Attempt, SagaInstance
+from sagas.core import attempt_machine, outcomes
+from sagas.core.attempt_machine import (
+    AttemptMachine,
+    CALL,
+    Do,
+    NOTHING,
+    REPORT,
+    SLEEP,
+    is_reportable,
+)
+from sagas.core.attempt import Attempt
+from sagas.core.saga_instance import SagaInstance
 from sagas.core.states import OutcomeKind, Suspension
 from sagas.definition.shelf import DefinitionRegistry
 
@@ -93,9 +101,9 @@ def test_attempts_up_to_the_limit() -> None:
             again(attempt)
         MACHINE.ended(attempt, NO, now)
         assert attempt.reason is Suspension.EXHAUSTED
-        assert MACHINE.timer(attempt, now) is NOTHING and exhaustion.may_retry(attempt)
+        assert MACHINE.timer(attempt, now) is NOTHING and attempt_machine.may_retry(attempt)
         attempt.pending_row = None
-        decision = exhaustion.retry(attempt, now)
+        decision = attempt_machine.retry_attempt(attempt, now)
         assert decision.row and (decision.row.reason, decision.row.until) == (Suspension.RETRY, now)
         assert MACHINE.timer(attempt, now) is CALL
         attempt.pending_row = None
@@ -110,7 +118,7 @@ def test_a_retried_unknown_attempt_stays_unknown() -> None:
     attempt = attempt_of(number=2, max_unknown=0)
     MACHINE.ended(attempt, outcomes.unknown("lost"), NOW)
     assert attempt.waiting_since == NOW
-    decision = exhaustion.retry(attempt, NOW + 5)
+    decision = attempt_machine.retry_attempt(attempt, NOW + 5)
     assert attempt.waiting_since == NOW + 5
     assert decision.row and (decision.row.reason, decision.row.error) == (
         Suspension.UNKNOWN,
@@ -130,7 +138,7 @@ def test_a_saga_that_drains_waits_for_no_failure(options: dict[str, Any]) -> Non
         MACHINE.ended(one, NO, NOW)
         one.instance.draining = True
     if options["on_exhausted"] == "ask":
-        assert MACHINE.drain(attempt.instance, NOW) == [] and exhaustion.may_retry(attempt)
+        assert MACHINE.drain(attempt.instance, NOW) == [] and attempt_machine.may_retry(attempt)
         attempt.instance.aborted = True
     assert MACHINE.drain(attempt.instance, NOW) == [(attempt, REPORT)] and attempt.outcome is NO
     assert MACHINE.drain(undo.instance, NOW) == []
@@ -163,4 +171,4 @@ def test_a_restart_continues_a_wait(reason: Suspension) -> None:
     until = attempt.until = None if asks else NOW + 30
     attempt.reason, attempt.waiting_since, attempt.has_row = reason, NOW, True
     assert MACHINE.resume(attempt, NOW) is (NOTHING if asks else SLEEP)
-    assert (attempt.reason, attempt.until) == (reason, until) and exhaustion.may_retry(attempt)
+    assert (attempt.reason, attempt.until) == (reason, until) and attempt_machine.may_retry(attempt)

@@ -5,8 +5,7 @@ from __future__ import annotations
 import fleet_model
 import pytest
 
-from sagas.core.fleet_record import Chunk, ShardRecord, Takeover
-from sagas.core.record_lines import InvalidLine, Records
+from sagas.core.fleet_record import Chunk, InvalidLine, Records, ShardRecord, Takeover
 
 BORN = Takeover(1, "a", -1, "1")
 CHUNKS = [Chunk(1, 0, 2, 11), Chunk(1, 2, 3, 12)]

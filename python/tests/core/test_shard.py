@@ -13,13 +13,11 @@ import pytest
 import sagas
 from sagas.core import outcomes, recovery
 from sagas.core.batch import LoadedShard
-from sagas.core.effects import Abort, Effects
-from sagas.core.model import Attempt, SagaInstance
-from sagas.core.replies import EngineDisagrees
-from sagas.core.shard import MAX_REPORTS, ShardDriver, ShardIdentity
-from sagas.core.shard_definitions import ShardDefinitions
+from sagas.core.effects import Abort, Effects, EngineDisagrees
+from sagas.core.attempt import Attempt, SuspensionRow
+from sagas.core.saga_instance import SagaInstance
+from sagas.core.shard import MAX_REPORTS, ShardDefinitions, ShardDriver, ShardIdentity
 from sagas.core.states import AttemptState, Check, IllegalTransition, ShardState, Suspension
-from sagas.core.suspensions import SuspensionRow
 from sagas.definition.shelf import DefinitionRegistry
 from sagas.definition.start_options import StartOptions
 

@@ -11,7 +11,8 @@ import pytest
 import sagas
 from sagas.core import states
 from sagas.core.limits import Slots
-from sagas.core.model import Attempt, SagaInstance
+from sagas.core.attempt import Attempt
+from sagas.core.saga_instance import SagaInstance
 from sagas.core.outcomes import Outcome
 from sagas.core.states import AttemptState, OutcomeKind, Suspension
 from sagas.definition.shelf import DefinitionRegistry

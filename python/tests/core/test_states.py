@@ -11,7 +11,8 @@ import pytest
 
 import sagas
 from sagas.core import states
-from sagas.core.model import Attempt, SagaInstance, finish_all, start_all
+from sagas.core.attempt import Attempt, finish_all, start_all
+from sagas.core.saga_instance import SagaInstance
 from sagas.core.outcomes import succeeded
 from sagas.core.states import AttemptState, IllegalTransition, StepState, Suspension
 from sagas.definition.shelf import DefinitionRegistry

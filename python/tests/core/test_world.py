@@ -16,7 +16,7 @@ from definitions import StepDraw, steps
 from hypothesis import HealthCheck, given, settings, strategies as st
 
 import sagas
-from sagas.core import model, shard, states
+from sagas.core import attempt, shard, states
 
 MOVES, SAGAS = 20_000, 135
 ENDS: dict[str, dict[str, Any]] = {
@@ -119,7 +119,7 @@ def test_whatever_happens(part: int, monkeypatch: pytest.MonkeyPatch) -> None:
         transitions += 1
         states.check(table, before, after)
 
-    for module in (model, shard):
+    for module in (attempt, shard):
         monkeypatch.setattr(module, "check", count)
 
     @settings(

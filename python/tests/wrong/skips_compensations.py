@@ -3,9 +3,8 @@
 from __future__ import annotations
 
 from sagas.core import outcomes
-from sagas.core.attempts import AttemptMachine
-from sagas.core.decisions import Decision
-from sagas.core.model import Attempt
+from sagas.core.attempt_machine import AttemptMachine, Decision
+from sagas.core.attempt import Attempt
 
 FINDS = "no-effect"
 STRIKES = "child"

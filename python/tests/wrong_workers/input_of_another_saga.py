@@ -7,7 +7,7 @@ from typing import Any
 
 from sagas.celery.worker import Work
 from sagas.definition.task import Task, snapshot
-from sagas.core.dispatch import AttemptTexts, Order
+from sagas.core.external_work import AttemptTexts, Order
 
 FINDS = "input"
 STRIKES = "run"

@@ -9,7 +9,7 @@ from world import expected
 
 from sagas.celery.worker import Work
 from sagas.core import outcomes
-from sagas.core.dispatch import Order
+from sagas.core.external_work import Order
 
 FINDS = "no-effect"
 STRIKES = "run"

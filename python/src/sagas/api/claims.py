@@ -8,7 +8,7 @@ from typing import Any
 
 from sagas.api.store_access import StoreAccess
 from sagas.core import outcomes
-from sagas.core.announcements import ENDS
+from sagas.core.deliveries import ENDS
 from sagas.core.outcomes import reported_outcome
 from sagas.definition.compiled import Hooks
 from sagas.definition.control import checked

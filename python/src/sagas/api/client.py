@@ -15,7 +15,7 @@ from sagas.api.commands import check_repeated_report
 from sagas.api.shared_calls import SharedCalls
 from sagas.base.errors import Closed, InvalidStore, NoSuchSaga
 from sagas.base.fork_guard import OpenState
-from sagas.core import attention, history, pending, step_reports
+from sagas.core import attention, history, reports, waits
 from sagas.core.batch import SagaRow, StoredSaga
 from sagas.core.outcomes import Outcome, reported_outcome
 from sagas.core.results import HistoryEvent, SagaResult
@@ -281,7 +281,7 @@ class Client(SharedCalls):
                 if self._record:
                     self._record.seen(row.id, "client")
                 return await self._end(row)
-            pending.check_refused(row)
+            waits.check_refused(row)
             turn, before = (turn + 1 if row.id == before else 0), row.id
             await self._open_notifier.of(row.id, turn)
 
@@ -324,7 +324,7 @@ class Client(SharedCalls):
         """Attempt an exhausted step again. See `Store.retry`."""
         row, kind = await self._row(key), "undo" if undo else "run"
         if row.phase is not None:
-            raise step_reports.over(row)
+            raise reports.ended_error(row)
         value = serialization.write(
             {"step": step if isinstance(step, str) else step.name, "kind": kind}
         )
@@ -411,15 +411,13 @@ class Client(SharedCalls):
             holders = await self._ask(LEFT_BY, id=-row.id)
             is_left = holders and holders[0][1]
             return [
-                pending.missing_definition(row.saga, *holders[0])
-                if is_left
-                else pending.NO_NODE_YET
+                waits.missing_definition(row.saga, *holders[0]) if is_left else waits.NO_NODE_YET
             ]
         rows = await self._read(WAITS, row.id)
         if not rows:
             return []
         known = await self._known(row)
-        return pending.stored_waits(self._kind(row, known.definition).names, rows)
+        return waits.stored_waits(self._kind(row, known.definition).names, rows)
 
     async def _ask(self, query: str, **parameters: Any) -> builtins.list[Row]:
         self._open_notifier

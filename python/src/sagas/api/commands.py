@@ -19,17 +19,15 @@ from sagas.base.errors import (
 )
 from sagas.base.logger import logger
 from sagas.core import (
-    attempts,
+    attempt_machine,
     attention,
-    child_results,
-    early_reports,
-    exhaustion,
-    progress,
-    step_reports,
+    reports,
+    waits,
 )
 from sagas.core.batch import AnsweredRequest, Batch, RequestRef, SagaRow, StoredSaga
-from sagas.core.early_reports import EarlyReport, Refusal
-from sagas.core.model import Attempt, SagaInstance
+from sagas.core.reports import EarlyReport, Refusal
+from sagas.core.attempt import Attempt
+from sagas.core.saga_instance import SagaInstance
 from sagas.core.outcomes import SUCCEEDED, Outcome
 from sagas.core.states import Action, EarlyReason
 from sagas.definition import children, report_undos, serialization, tokens
@@ -51,7 +49,7 @@ from sagas.runtime import (
 from sagas.storage import operator_requests
 from sagas.storage.queries import PHASE
 
-CHILDREN = child_results.CHILDREN.format(PHASE)
+CHILDREN = reports.CHILDREN_QUERY.format(PHASE)
 PAUSE = 30.0
 """Seconds between checks for reports that another node left without a notification."""
 UNUSED = """
@@ -186,7 +184,7 @@ class Commands:
             if live is None:
                 row = await self._lookup.row(key, of)
                 if row.phase is not None:
-                    raise step_reports.over(row)
+                    raise reports.ended_error(row)
                 if key not in self._access.coordinator.sagas.by_key:
                     await self.hand_over(row, "retry", {"step": step, "kind": kind}, request)
                     return
@@ -203,10 +201,10 @@ class Commands:
                 continue  # its shard was lost in the meantime
             if attempt is not None and live.busy.get(attempt.action_key) is not attempt:
                 continue
-            if attempt is None or not exhaustion.may_retry(attempt):
+            if attempt is None or not attempt_machine.may_retry(attempt):
                 why = "it has no failed attempt that waits for a retry"
                 if attempt is not None:
-                    why = progress.describe_attempt(attempt, self._access.coordinator.clock())
+                    why = waits.describe_attempt(attempt, self._access.coordinator.clock())
                 raise StepNotWaiting(f"saga {key!r}, step {step!r} cannot be retried: {why}")
             try:
                 await self._access.coordinator.executor.retry(attempt, request)
@@ -222,8 +220,8 @@ class Commands:
         """
         coordinator, key, step = self._access.coordinator, attempt.instance.key, attempt.name
         is_checked = not is_of_child(attempt, outcome)
-        while not (is_checked and attempts.is_reportable(attempt)):
-            if attempts.is_reportable(attempt):
+        while not (is_checked and attempt_machine.is_reportable(attempt)):
+            if attempt_machine.is_reportable(attempt):
                 await check_child_report(coordinator.store.read, attempt, outcome)
                 is_checked = True
                 continue
@@ -233,13 +231,13 @@ class Commands:
                 raise SagaMoved(f"saga {key!r}")  # the stored outcome counts
             if attempt is invocation.waiter(
                 coordinator.executor.calls.running
-            ) and attempts.becomes_reportable(attempt):
+            ) and attempt_machine.becomes_reportable(attempt):
                 raise WouldWaitForever(
                     f"step {step!r} of saga {key!r} reports itself before it waits for a report. "
                     "Return sagas.Approved(result) or sagas.Rejected(why) instead"
                 )
-            if not attempts.becomes_reportable(attempt):
-                why = progress.describe_attempt(attempt, coordinator.clock())
+            if not attempt_machine.becomes_reportable(attempt):
+                why = waits.describe_attempt(attempt, coordinator.clock())
                 raise StepNotWaiting(
                     f"saga {key!r}, step {step!r} does not wait for a report: {why}"
                 )
@@ -268,13 +266,13 @@ class Commands:
         if attempt is not None and word not in live.rare.final:
             return attempt
         is_there = live.shard is not None and live.committed
-        rows = await coordinator.store.read(step_reports.RESULTS, live.id) if is_there else []
-        first = step_reports.first_outcome(rows, *word)
+        rows = await coordinator.store.read(reports.RESULTS_QUERY, live.id) if is_there else []
+        first = reports.first_outcome(rows, *word)
         if first is None and attempt is not None:
             return attempt
         over = _over(live, rows, word)
         if first is not None:
-            step_reports.check(live.key, step, first, outcome, over, live.kind.payloads)
+            reports.check_same_outcome(live.key, step, first, outcome, over, live.kind.payloads)
             return None
         if over is not None:
             raise StepNotWaiting(f"saga {live.key!r}, step {step!r}: {over}")
@@ -311,8 +309,8 @@ class Commands:
         Raises `StepNotWaiting`, or `SagaMoved` if the caller has to check again.
         """
         coordinator, key, step = self._access.coordinator, live.key, live.kind.names[word[0]]
-        first = early_reports.stored(live, word)
-        why = early_reports.refusal_reason(live, *word) if early else early_reports.NOT_STARTED
+        first = reports.stored_report(live, word)
+        why = reports.refusal_reason(live, *word) if early else reports.NOT_STARTED_TEXT
         if why is not None and first is None:
             if live.shard is not None and live.committed:
                 await coordinator.executor.early.put(Refusal(live))
@@ -320,8 +318,8 @@ class Commands:
         if first is not None:
             if (kept := coordinator.executor.early.waiting(live, word)) is not None:
                 await asyncio.shield(kept)
-            reason, payloads = early_reports.STORED, live.kind.payloads
-            step_reports.check(key, step, first, outcome, reason, payloads)
+            reason, payloads = reports.STORED_TEXT, live.kind.payloads
+            reports.check_same_outcome(key, step, first, outcome, reason, payloads)
         elif live.shard is None or not live.committed:
             with contextlib.suppress(KeyConflict):  # another saga has the key
                 await coordinator.sagas.started(live)
@@ -357,9 +355,9 @@ class Commands:
 
 def _over(live: SagaInstance, rows: Iterable[tuple[Any, ...]], word: ActionKey) -> str | None:
     """Return how a step without a running attempt ended; None if it has not ended."""
-    over = step_reports.end_text(rows, *word)
+    over = reports.end_text(rows, *word)
     undo = live.busy.get((word[0], "undo")) if over and word[1] == "run" else None
-    if over and undo and attempts.is_reportable(undo):
+    if over and undo and attempt_machine.is_reportable(undo):
         over += "; its compensation waits for a report (undo=True, or --undo)"
     return over
 
@@ -389,7 +387,7 @@ async def check_child_report(read: Read, attempt: Attempt, outcome: Outcome) -> 
     rows = await read(CHILDREN, attempt.instance.id)
     result = serialization.read(outcome.value)
     phases = [(str(key), str(phase)) for key, phase in rows]
-    child_results.check(attempt.key, attempt.name, result, phases, steps)
+    reports.check_child_result(attempt.key, attempt.name, result, phases, steps)
 
 
 async def check_repeated_report(
@@ -408,18 +406,18 @@ async def check_repeated_report(
     """
     step, kind = action
     if step not in names:
-        raise step_reports.over(row)
+        raise reports.ended_error(row)
     step_index = names.index(step)
     first, why = (
-        step_reports.first_outcome(await read(step_reports.RESULTS, row.id), step_index, kind),
+        reports.first_outcome(await read(reports.RESULTS_QUERY, row.id), step_index, kind),
         None,
     )
     if first is None:
-        why = step_reports.UNUSED_TEXT
-        first = step_reports.early_outcome(await read(step_reports.EARLY, row.id, step_index, kind))
+        why = reports.UNUSED_TEXT
+        first = reports.early_outcome(await read(reports.EARLY_QUERY, row.id, step_index, kind))
     if first is None:
-        raise step_reports.over(row)
-    step_reports.check(row.key, step, first, outcome, why, payloads)
+        raise reports.ended_error(row)
+    reports.check_same_outcome(row.key, step, first, outcome, why, payloads)
 
 
 class UnusedReports:
@@ -448,7 +446,7 @@ class UnusedReports:
         if step not in kind.names:
             raise StepNotWaiting(f"saga {key!r} has no step {step!r}{meant(step, kind.names)}")
         number = kind.names.index(step)
-        rows = await coordinator.store.read(step_reports.EARLY, row.id, number, Action.RUN.value)
+        rows = await coordinator.store.read(reports.EARLY_QUERY, row.id, number, Action.RUN.value)
         reason, text = rows[0] if rows else (None, None)
         if reason == EarlyReason.UNDONE and report_undos.fault(kind.steps[number]) is None:
             return

@@ -12,7 +12,7 @@ from typing import Any, Concatenate, Generic, ParamSpec, TypeVar
 
 from sagas.base.errors import Closed
 from sagas.base.fork_guard import OpenState
-from sagas.core import pending
+from sagas.core import waits as waits_module
 from sagas.runtime import invocation
 
 A = TypeVar("A")
@@ -120,7 +120,7 @@ class Loop:
         waited_for: list[str] = []
         with contextlib.suppress(Exception):  # the loop may be blocked
             waited_for = self.do(waits(), SOON)
-        raise pending.timeout_error(key, timeout, waited_for)
+        raise waits_module.timeout_error(key, timeout, waited_for)
 
 
 async def _finish(loop: asyncio.AbstractEventLoop) -> None:

@@ -12,7 +12,7 @@ from sagas.api.store_access import StoreAccess
 from sagas.base import program
 from sagas.base.errors import NoSuchSaga
 from sagas.core.batch import SagaRow
-from sagas.core.progress import active_attempts
+from sagas.core.waits import active_attempts
 from sagas.core.results import ActiveAttempt, HistoryEvent, SagaResult, UnknownAttempt
 from sagas.definition import arguments, folded_drawing
 from sagas.engine.plan import Plan

@@ -42,7 +42,7 @@ from sagas.api.service_replies import (
     waits_of,
 )
 from sagas.base.errors import Closed, NoSuchSaga
-from sagas.core.pending import timeout_error
+from sagas.core.waits import timeout_error
 from sagas.definition import arguments, tracing
 from sagas.definition.blobs import BlobStore
 from sagas.definition.labels import Labels, checked

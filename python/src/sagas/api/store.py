@@ -24,7 +24,7 @@ from sagas.base.events import EventEmitter, Hook
 from sagas.base.logger import logger
 from sagas.core import history
 from sagas.core.batch import SagaRow
-from sagas.core.model import SagaInstance
+from sagas.core.saga_instance import SagaInstance
 from sagas.core.results import HistoryEvent, SagaResult
 from sagas.definition import arguments, payloads, tracing
 from sagas.definition.blobs import BlobStore, check as check_blobs

@@ -19,11 +19,11 @@ from sagas.base.errors import (
     StoreUnavailable,
 )
 from sagas.base.fork_guard import OpenState, private_descriptors
-from sagas.core import history, pending
+from sagas.core import history, waits as waits_module
 from sagas.core.batch import SagaRow
 from sagas.core.key_lookup import KeyLookupPolicy
-from sagas.core.model import SagaInstance
-from sagas.core.pending import timeout_error
+from sagas.core.saga_instance import SagaInstance
+from sagas.core.waits import timeout_error
 from sagas.core.results import SagaResult
 from sagas.definition import arguments, children, serialization, start_options, undo_sagas
 from sagas.definition.compiled import CompiledDefinition
@@ -214,7 +214,7 @@ class SagaLookup:
                     if record := coordinator.store.record:
                         record.seen(row.id, "wake")
                     return row
-                pending.check_refused(row)
+                waits_module.check_refused(row)
                 if key not in self._access.coordinator.sagas.by_key:
                     await coordinator.store.wait_for_end(row.id, turn)
                     turn += 1
@@ -233,8 +233,8 @@ class SagaLookup:
         """
         live = self._access.coordinator.sagas.by_key.get(key)
         if live is None and (row := await self._access.coordinator.store.find(key)) and row.id < 0:
-            return [pending.NO_NODE_YET]
-        return pending.live_waits(live)
+            return [waits_module.NO_NODE_YET]
+        return waits_module.live_waits(live)
 
 
 class Starter:

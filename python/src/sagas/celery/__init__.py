@@ -15,7 +15,7 @@ from typing import TYPE_CHECKING, Any
 from sagas.base.errors import DefinitionError, WrongStore
 from sagas.celery import store_check, worker
 from sagas.celery.sender import Sender
-from sagas.core.dispatch import Order
+from sagas.core.external_work import Order
 from sagas.definition.saga import Saga
 from sagas.definition.decorators import Declare
 from sagas.definition.step import Manner, Step

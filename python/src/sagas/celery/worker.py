@@ -13,7 +13,7 @@ from celery.exceptions import Reject, SoftTimeLimitExceeded
 from sagas.base.errors import StoreUnavailable
 from sagas.base.logger import logger
 from sagas.core import outcomes
-from sagas.core.dispatch import AttemptTexts, Order, AlreadyReported
+from sagas.core.external_work import AlreadyReported, AttemptTexts, Order
 from sagas.core.outcomes import Outcome
 from sagas.core.states import OutcomeKind
 from sagas.definition import awaitables, children, decoders, tokens, tracing

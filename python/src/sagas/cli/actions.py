@@ -13,7 +13,7 @@ from sagas.base.wording import escaped, number
 from sagas.cli.formatting import GOOD, NO, complain, show_json
 from sagas.cli.options import check_keys, filter_of, payloads_of
 from sagas.cli.snapshot import Snapshot
-from sagas.core import child_results, step_reports
+from sagas.core import reports
 from sagas.core.outcomes import reported_outcome
 from sagas.core.states import Suspension
 from sagas.definition import children
@@ -38,7 +38,7 @@ LEFT_OUT = "skipped, because it undoes a child"
 WITHDRAWN = "withdrawn"
 """The answer to an abort of a start that no node had accepted."""
 SAGA = f"SELECT id, {PHASE} FROM sagas s WHERE key = ?"
-CHILDREN = child_results.CHILDREN.format(PHASE)
+CHILDREN = reports.CHILDREN_QUERY.format(PHASE)
 
 
 def ask(path: str, key: str, command: str, value: Any, timeout: float) -> tuple[Any, bool]:
@@ -118,15 +118,15 @@ def is_repeated(link: admin.Source, key: str, command: str, value: Any) -> bool:
         if phase == "open" or value["step"] not in names:
             return False
         index, kind = names.index(value["step"]), value["kind"]
-        first = step_reports.first_outcome(link.ask(step_reports.RESULTS, id), index, kind)
-        first = first or step_reports.early_outcome(link.ask(step_reports.EARLY, id, index, kind))
+        first = reports.first_outcome(link.ask(reports.RESULTS_QUERY, id), index, kind)
+        first = first or reports.early_outcome(link.ask(reports.EARLY_QUERY, id, index, kind))
         if first is None or ENVELOPE.match(first.value):  # it cannot be compared here
             return False
         outcome = reported_outcome(
             value.get("result"), value["error"] if command == "fail" else None
         )
         try:
-            step_reports.check(key, value["step"], first, outcome)
+            reports.check_same_outcome(key, value["step"], first, outcome)
         except ConflictingReport as error:
             if phase == "stuck":  # which says what to do
                 return False
@@ -153,7 +153,7 @@ def check_child(link: admin.Source, key: str, step: str, result: Any) -> None:
         if phase != "open" or not is_child or children.undoes_child(key):
             return
         try:
-            child_results.check(key, step, result, rows, None)
+            reports.check_child_result(key, step, result, rows, None)
         except InvalidResult as error:
             raise Trouble(str(error)) from None
 

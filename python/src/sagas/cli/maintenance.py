@@ -6,7 +6,7 @@ import argparse
 import asyncio
 import sys
 
-from sagas.base.option_values import age, integer_from
+from sagas.base.options import age, integer_from
 from sagas.base.wording import number
 from sagas.cli.formatting import CANNOT, GOOD, show_json
 from sagas.cli.nodes import check_database

@@ -6,8 +6,7 @@ import argparse
 from typing import Any
 
 from sagas.base.errors import CannotDecode, InvalidLabel
-from sagas.base.module_values import load_reference
-from sagas.base.option_values import integer_from
+from sagas.base.options import integer_from, load_reference
 from sagas.definition import labels as labels_module
 from sagas.definition.payloads import PLAIN, Payloads, checked
 from sagas.inspection.saga import Read

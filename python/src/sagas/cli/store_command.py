@@ -13,7 +13,7 @@ import sys
 from collections.abc import Callable
 
 from sagas.base.errors import SagasError
-from sagas.base.option_values import not_negative
+from sagas.base.options import not_negative
 from sagas.cli.actions import abort, compensate, complete, fail, resolve, retry
 from sagas.cli.audits import audit
 from sagas.cli.formatting import CANNOT, INTERRUPTED, complain, drop_output, escape

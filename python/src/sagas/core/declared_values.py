@@ -8,8 +8,8 @@ import functools
 from collections.abc import Callable, Iterable, Mapping
 from typing import Any
 
-from sagas.core.model import Attempt
-from sagas.core.suspensions import FunctionResult, FunctionOption, tenant_of
+from sagas.base.logger import logger
+from sagas.core.attempt import Attempt, FunctionOption, FunctionResult
 from sagas.definition import serialization
 from sagas.definition.step import Until
 from sagas.definition.task import Task
@@ -112,3 +112,16 @@ def due_time(until: Until | Any, now: float) -> float:
     description = "a datetime without a time zone" if is_naive else type(until).__name__
     rule = "it must be a timedelta or a datetime with a time zone"
     raise TypeError(f"until returned {description}: {rule}{remedy}")
+
+
+def tenant_of(by: Callable[[Any], Any], text: str, name: str) -> str:
+    """Return a saga's tenant, which a function of its input computes; `null` if it raises."""
+    try:
+        return serialization.write(by(serialization.read(text)), "fair_by")
+    except Exception as error:
+        logger.warning(
+            "saga %r: fair_by raised %s. Such sagas share one tenant",
+            name,
+            type(error).__name__,
+        )
+        return "null"

@@ -18,16 +18,21 @@ from collections.abc import Iterator, Mapping, Sequence
 from typing import Any
 
 from sagas.core import protocol
-from sagas.core.attempts import PARKED
-from sagas.core.batch import StoredSuspension, LoadedShard, OpenSagaRow
-from sagas.core.early_reports import EARLY_ATTEMPT
-from sagas.core.effects import Abort, Effects
-from sagas.core.exhaustion import AFTER_FAILURE
-from sagas.core.model import FINISHED, RUNNING, Attempt, SagaInstance
+from sagas.core.batch import LoadedShard, OpenSagaRow, StoredSuspension
+from sagas.core.effects import Abort, Effects, ReplyReader
+from sagas.core.attempt import Attempt, FINISHED, RUNNING
+from sagas.core.saga_instance import SagaInstance
 from sagas.core.outcomes import SUCCEEDED, Outcome, failure
-from sagas.core.replies import ReplyReader
+from sagas.core.reports import EARLY_ATTEMPT
 from sagas.core.shard import ShardDriver
-from sagas.core.states import EarlyReason, EnginePhase, OutcomeKind, Suspension
+from sagas.core.states import (
+    AFTER_FAILURE,
+    PARKED,
+    EarlyReason,
+    EnginePhase,
+    OutcomeKind,
+    Suspension,
+)
 from sagas.definition.capacity import SHARD_CAPACITY
 from sagas.definition.start_options import StartOptions
 

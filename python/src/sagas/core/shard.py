@@ -26,21 +26,141 @@ import itertools
 from collections import deque
 from collections.abc import Iterable, Sequence
 
-from sagas.core import early_reports, endings, offers, protocol, suspension_rows
-from sagas.core.batch import Batch, NewShard, LoadedShard, Withdrawal
-from sagas.core.effects import Abort, Effects, EngineRequest
-from sagas.core.model import Attempt, SagaInstance
-from sagas.core.early_reports import is_success
+from sagas.core import deliveries, protocol, spans
+from sagas.core.attempt import Attempt, SuspensionRow
+from sagas.core.batch import Batch, DefinitionRow, LoadedShard, NewShard, Withdrawal
+from sagas.core.effects import (
+    Abort,
+    Effects,
+    EngineRequest,
+    ReplyReader,
+    due_reports,
+    expected_endings,
+    is_success,
+)
+from sagas.core.external_work import offer_row
 from sagas.core.outcomes import SUCCEEDED
-from sagas.core.replies import ReplyReader
-from sagas.core.shard_definitions import ShardDefinitions
-from sagas.core.states import SHARD_TRANSITIONS, Check, ShardState, check
-from sagas.core.suspensions import SuspensionRow
+from sagas.core.reports import EarlyReport, Refusal
+from sagas.core.saga_instance import SagaInstance
+from sagas.core.states import (
+    COUNTS_FAILURES,
+    RETRYABLE,
+    SHARD_TRANSITIONS,
+    Check,
+    ShardState,
+    Suspension,
+    check,
+)
+from sagas.definition.capacity import MOST_ADDED
+from sagas.definition.compiled import CompiledDefinition, digest_of
 
 MAX_REPORTS = 256
 """The number of attempts that one request reports, or of sagas that it opens."""
 MAX_CLAIMS = 1000
 """The number of tasks that one request claims."""
+
+
+# -- the constant data of a shard
+
+
+class ShardDefinitions:
+    """The definitions of a shard, each with its index.
+
+    A shard of sagas whose steps come from their input gets further definitions. No definition is
+    ever removed.
+
+    Attributes:
+        digest: The digest of the set, if it does not grow; else empty.
+        texts: The definitions, as the engine reads them.
+        kinds: The same with this program's functions.
+        stored_count: The number of definitions that the store has, or will have.
+        known_count: The number of definitions that the engine knows.
+        has_grown: Whether the engine has learned a definition after its start: then a request that
+            adds definitions also opens their sagas.
+        is_fixed: Whether the engine has refused a definition: then a new engine replaces it.
+    """
+
+    __slots__ = (
+        "digest",
+        "texts",
+        "kinds",
+        "stored_count",
+        "known_count",
+        "has_grown",
+        "is_fixed",
+        "_indexes",
+    )
+
+    def __init__(self, kinds: Sequence[CompiledDefinition], digest: str = "") -> None:
+        self.digest = digest
+        self.kinds = [*kinds]
+        self.texts = [kind.text for kind in kinds]
+        self._indexes = {text: index for index, text in enumerate(self.texts)}
+        self.stored_count = self.known_count = len(self.texts)
+        self.has_grown = self.is_fixed = False
+
+    def started(self) -> None:
+        """Note that an engine is started with all definitions."""
+        self.known_count = len(self.texts)
+        self.has_grown = self.is_fixed = False
+
+    def has_room(self, kind: CompiledDefinition) -> bool:
+        """Whether it has a definition, or has capacity for it."""
+        return kind.text in self._indexes or len(self.texts) < MOST_ADDED
+
+    def definition_index(self, kind: CompiledDefinition) -> int:
+        """Return the index of a definition, which is added if it is new."""
+        index = self._indexes.get(kind.text)
+        if index is None:
+            index = self._indexes[kind.text] = len(self.texts)
+            self.texts.append(kind.text)
+            self.kinds.append(kind)
+        return index
+
+    @property
+    def usable(self) -> int:
+        """The number of definitions whose sagas the next request can open.
+
+        The request begins with `define_lines`.
+        """
+        return len(self.texts) if self.has_grown and not self.is_fixed else self.known_count
+
+    def define_lines(self) -> list[str]:
+        """Return the requests that add the definitions that the engine does not know."""
+        lines: list[str] = []
+        for text in self.texts[self.known_count :] if not self.is_fixed else ():
+            line = protocol.define_line(text)
+            if line is None:
+                self.is_fixed = True
+                break
+            lines.append(line)
+        return lines
+
+    def read_reply(self, reply: str) -> None:
+        """Read the engine's reply to such a request.
+
+        After a refused definition the engine's indexes differ, so it is not requested to open
+        sagas with later definitions.
+        """
+        if not self.is_fixed and protocol.is_defined(reply, self.known_count):
+            self.known_count += 1
+            self.has_grown = True
+        else:
+            self.is_fixed = True
+
+    def all(self) -> list[DefinitionRow]:
+        """Return all definitions as rows."""
+        return self._rows(0, len(self.texts))
+
+    def _rows(self, first: int, end: int) -> list[DefinitionRow]:
+        indexes = range(first, end)
+        return [(index, digest_of(self.texts[index]), self.texts[index]) for index in indexes]
+
+    def to_store(self, index: int) -> list[DefinitionRow]:
+        """Return the rows up to an index that the store does not have, and count them as stored."""
+        rows = self._rows(self.stored_count, index + 1)
+        self.stored_count = max(self.stored_count, index + 1)
+        return rows
 
 
 @dataclasses.dataclass(frozen=True, slots=True)
@@ -56,6 +176,9 @@ class ShardIdentity:
     number: int
     name: str
     definitions: ShardDefinitions
+
+
+# -- its sagas, requests and commits
 
 
 class ShardDriver:
@@ -221,14 +344,14 @@ class ShardDriver:
     def suspended(self, attempt: Attempt, row: SuspensionRow, now: float) -> Effects:
         """Return effects that store the suspension of an attempt."""
         effects = self.effects(now)
-        suspension_rows.put(effects.batch, attempt, row, self.number)
+        _put_suspension(effects.batch, attempt, row, self.number)
         effects.rare_effects.suspended.append((attempt, row))
         return effects
 
     def offered(self, attempt: Attempt, now: float) -> Effects:
         """Return effects that offer an attempt to external workers."""
         effects = self.effects(now)
-        effects.batch.rare_rows.offers.append(offers.offer_row(attempt, self.number, now))
+        effects.batch.rare_rows.offers.append(offer_row(attempt, self.number, now))
         effects.rare_effects.offered.append(attempt)
         return effects
 
@@ -312,7 +435,7 @@ class ShardDriver:
                 odd.append(attempt)
         if odd:
             request.deviating = odd
-            request.expected_plans, request.expected_ends = endings.expected_endings(odd)
+            request.expected_plans, request.expected_ends = expected_endings(odd)
         return attempts
 
     def _ask_early(self, request: EngineRequest, lines: list[str]) -> None:
@@ -322,7 +445,7 @@ class ShardDriver:
         """
         sagas = [abort.saga for abort in request.aborts]
         sagas += [one.instance for one in request.deviating if not is_success(one)]
-        request.early = early_reports.due_reports(sagas, request.reports)
+        request.early = due_reports(sagas, request.reports)
         if not request.early:
             return
         first = len(request.aborts)
@@ -476,3 +599,37 @@ class ShardDriver:
         """
         request, self.unanswered = self.unanswered, None
         return request.claim_count if request else 0
+
+
+def _put_suspension(batch: Batch, attempt: Attempt, row: SuspensionRow, shard: int) -> None:
+    """Add the rows to a batch: the suspension, the notes, the offer's state and the deliveries."""
+    count = attempt.failures if row.reason in COUNTS_FAILURES else attempt.count
+    rows = batch.rare_rows
+    suspension = (row.reason.value, count, attempt.waiting_since, row.until, row.error)
+    rows.held.append((*attempt.row, *suspension))
+    rows.spans += spans.taken(attempt)
+    # if its values cannot be read now, the attempt has a time that its row does not have
+    is_unread = row.reason is Suspension.CANNOT_DECODE and attempt.until is not None
+    if attempt.is_external and (is_unread or row.reason in RETRYABLE):
+        needs_operator = row.until is None and not is_unread and not attempt.is_remote
+        state = "person" if needs_operator else "suspended"
+        rows.suspended.append((attempt.token(), shard, state))
+    if attempt.request is not None:
+        batch.answer(attempt.request, "true")
+        attempt.rare.request = None
+    if attempt.instance.kind.hooks:
+        rows.deliveries += deliveries.suspension_deliveries(attempt, row, batch.at)
+
+
+def early_report_effects(driver: ShardDriver, report: EarlyReport | Refusal, now: float) -> Effects:
+    """Return effects that store a report. A refusal has no row, and waits for earlier commits.
+
+    Raises:
+        NotSerializable: The codec failed.
+    """
+    result = driver.effects(now)
+    if isinstance(report, EarlyReport):
+        result.batch.rare_rows.held.append(report.row(now))
+        result.batch.answer(report.request, "true")
+    result.rare_effects.early.append(report)
+    return result

@@ -8,11 +8,13 @@ its suspension or its report.
 from __future__ import annotations
 
 import json
-from typing import Optional
+from typing import TYPE_CHECKING, Optional
 
 from sagas.core.batch import SpansRow
-from sagas.core.model import QUEUED, RUNNING, SUSPENDED, Attempt
-from sagas.core.states import Suspension
+from sagas.core.states import AttemptState, Suspension
+
+if TYPE_CHECKING:
+    from sagas.core.attempt import Attempt
 
 SpanNote = tuple[str, float, Optional[str]]
 """A word, its start time and the error that was raised."""
@@ -34,11 +36,11 @@ MAX_NOTES = 200
 
 def word_of(attempt: Attempt) -> str:
     """Return the word for what an attempt does now."""
-    if attempt.state is SUSPENDED:
+    if attempt.state is AttemptState.SUSPENDED:
         if attempt.reason is Suspension.UNKNOWN and attempt.until is None:
             return PERSON_WORD
         return str(attempt.reason)
-    return QUEUED_WORD if attempt.state is QUEUED else RUNNING_WORD
+    return QUEUED_WORD if attempt.state is AttemptState.QUEUED else RUNNING_WORD
 
 
 def note(attempt: Attempt, now: float, raised: str | None = None) -> None:
@@ -61,7 +63,7 @@ def note_again(attempt: Attempt, now: float) -> None:
     if (
         attempt.extras is not None
         and attempt.extras.last_note
-        and attempt.state in (QUEUED, RUNNING)
+        and attempt.state in (AttemptState.QUEUED, AttemptState.RUNNING)
     ):
         note(attempt, now)
 
@@ -73,7 +75,7 @@ def taken(attempt: Attempt) -> list[SpansRow]:
         return []
     spans, extras.spans = extras.spans, []
     follows = extras.note_count > len(spans)  # notes that are stored
-    if attempt.state is SUSPENDED or follows or _is_worth_storing(attempt, spans):
+    if attempt.state is AttemptState.SUSPENDED or follows or _is_worth_storing(attempt, spans):
         return [(*attempt.row, spans[0][1], json.dumps(spans))]
     return []
 

@@ -68,6 +68,16 @@ class Suspension(enum.StrEnum):
     FLEET_LIMIT = "fleet"
 
 
+AFTER_FAILURE = frozenset({Suspension.RETRY, Suspension.EXHAUSTED})
+"""Suspensions of an attempt whose last call had no effect."""
+COUNTS_FAILURES = AFTER_FAILURE | {Suspension.CHILD}
+"""Suspensions whose row counts failures; others count unknown outcomes."""
+RETRYABLE = AFTER_FAILURE | {Suspension.UNKNOWN}
+"""Suspensions of an attempt that an operator may retry at once."""
+PARKED = RETRYABLE | {Suspension.CANNOT_DECODE}
+"""Suspensions of an attempt that was called and will be called again."""
+
+
 class EarlyReason(enum.StrEnum):
     """The kind of an early report; the text is stored as the reason of attempt 0."""
 

@@ -5,8 +5,7 @@ from __future__ import annotations
 from collections.abc import Awaitable, Callable
 from typing import Any, Protocol
 
-from sagas.base.errors import ShardLost
-from sagas.core.model import Attempt
+from sagas.core.attempt import Attempt
 from sagas.definition.step import Function
 from sagas.definition.task import Task
 
@@ -37,21 +36,3 @@ class StepTransactions(Protocol):
 
     async def within(self, attempt: Attempt, function: Function, task: Task[Any]) -> Any:
         """Call a function in a transaction as soon as a connection is free."""
-
-
-class StepRecord(Protocol):
-    """The state of the transaction in which an attempt is called."""
-
-    @property
-    def done(self) -> bool:
-        """Whether it was committed, with the attempt's result."""
-
-    @property
-    def again(self) -> bool:
-        """Whether it was rolled back without an error of the function, which is called again."""
-
-    def lost(self) -> ShardLost | None:
-        """Return the exception to raise if it is unknown whether it was committed."""
-
-    def judged(self, error: Any) -> Exception:
-        """Return the exception to report for the function if the server refused a statement."""

@@ -11,7 +11,7 @@ from sagas.base.errors import CannotDecode
 from sagas.core import states
 from sagas.core.attention import Attention, AttentionReason
 from sagas.core.batch import SagaRow
-from sagas.core.exhaustion import AFTER_FAILURE
+from sagas.core.states import AFTER_FAILURE
 from sagas.core.history import FAILURE_EVENTS, stored_result, was_called
 from sagas.core.results import DefinitionCount, SagaResult, Summary, UnknownAttempt
 from sagas.definition import tokens

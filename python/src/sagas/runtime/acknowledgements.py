@@ -10,7 +10,8 @@ from collections.abc import Collection, Mapping
 from typing import TYPE_CHECKING
 
 from sagas.core.effects import NO_RARE_EFFECTS, Abort, Effects
-from sagas.core.model import Attempt, SagaInstance
+from sagas.core.attempt import Attempt
+from sagas.core.saga_instance import SagaInstance
 from sagas.core.recovery import Recovery
 from sagas.storage.interface import Database
 from sagas.storage.record_file import BEYOND, RecordFile, Rest

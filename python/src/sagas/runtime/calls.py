@@ -22,7 +22,8 @@ from sagas.base.errors import CannotDecode, ShardLost
 from sagas.base.fork_guard import private_descriptors
 from sagas.base.logger import logger
 from sagas.core import outcomes, spans
-from sagas.core.model import QUEUED, RUNNING, Attempt, SagaInstance, finish_all, start_all
+from sagas.core.attempt import Attempt, QUEUED, RUNNING, finish_all, start_all
+from sagas.core.saga_instance import SagaInstance
 from sagas.core.outcomes import Outcome
 from sagas.core.step_transactions import StepTransactions
 from sagas.definition import awaitables

@@ -19,7 +19,7 @@ from sagas.base.errors import (
 )
 from sagas.base.logger import logger
 from sagas.core import children, outcomes
-from sagas.core.model import SUSPENDED, Attempt
+from sagas.core.attempt import Attempt, SUSPENDED
 from sagas.core.outcomes import SUCCEEDED, Outcome
 from sagas.core.results import SagaResult
 from sagas.core.states import Suspension

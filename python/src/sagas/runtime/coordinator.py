@@ -15,11 +15,11 @@ from sagas.base.errors import Closed, InvalidStore, SagasError, SlotsTaken, Woul
 from sagas.base.events import EventEmitter
 from sagas.base.fork_guard import private_descriptors
 from sagas.base.logger import logger
-from sagas.core import undo_check
+from sagas.core import children
 from sagas.core.batch import Batch, ShardRow
 from sagas.core.limits import Slots
 from sagas.core.states import ShardState
-from sagas.core.undo_check import CompletedChild
+from sagas.core.children import CompletedChild
 from sagas.definition.shelf import DefinitionRegistry
 from sagas.definition.tracing import Tracer
 from sagas.runtime import remote_steps, stored_values
@@ -33,7 +33,8 @@ from sagas.runtime.shards import Shards
 from sagas.storage.interface import Database
 
 if TYPE_CHECKING:
-    from sagas.core.model import Attempt, SagaInstance
+    from sagas.core.attempt import Attempt
+    from sagas.core.saga_instance import SagaInstance
 
 T = TypeVar("T")
 REMEDY = "Wait for it outside of the saga's steps"
@@ -141,7 +142,7 @@ class Coordinator:
             if missing:
                 return f"saga {kind.name!r} (version {kind.version}) has open sagas, but {missing}"
         try:
-            return undo_check.missing_compensation(self.registry.kind, completed)
+            return children.missing_compensation(self.registry.kind, completed)
         except (ValueError, LookupError, TypeError, SagasError):  # an invalid definition
             return None
 

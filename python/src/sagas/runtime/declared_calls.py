@@ -16,7 +16,7 @@ from concurrent.futures import ThreadPoolExecutor
 from typing import Any, NamedTuple, TypeVar
 
 from sagas.core.declared_values import OptionCalls
-from sagas.core.model import Attempt
+from sagas.core.attempt import Attempt
 from sagas.definition.saga import Saga
 from sagas.definition.shelf import DefinitionRegistry, Fitted
 

@@ -13,19 +13,23 @@ from concurrent.futures import Executor as Threads
 from typing import TYPE_CHECKING
 
 from sagas.base.errors import Closed, SagaMoved, SagasError, ShardLost, StepNotWaiting
-from sagas.core import early_reports, exhaustion, outcomes, spans
-from sagas.core.attempts import AttemptMachine
+from sagas.core import (
+    attempt_machine,
+    outcomes,
+    shard as shard_module,
+    spans,
+)
+from sagas.core.attempt_machine import AttemptMachine, Decision, Do
 from sagas.core.batch import RequestRef
-from sagas.core.decisions import Decision, Do
 from sagas.core.declared_values import OptionCalls
-from sagas.core.early_reports import EarlyReport, Refusal
+from sagas.core.reports import EarlyReport, Refusal
 from sagas.core.effects import Effects
 from sagas.core.limits import Slots
-from sagas.core.model import CLAIMED, FINISHED, QUEUED, SUSPENDED, Attempt, SagaInstance
+from sagas.core.attempt import Attempt, CLAIMED, FINISHED, QUEUED, SUSPENDED, SuspensionRow
+from sagas.core.saga_instance import SagaInstance
 from sagas.core.outcomes import Outcome
 from sagas.core.shard import ShardDriver
 from sagas.core.states import OutcomeKind, Suspension
-from sagas.core.suspensions import SuspensionRow
 from sagas.definition.blobs import BlobUnavailable
 from sagas.definition.compiled import ActionKey
 from sagas.definition.tracing import Tracer
@@ -305,7 +309,7 @@ class Executor:
         if request is not None:
             attempt.rare.request = request
         kept = self.kept.wait(attempt)
-        self._do(attempt, exhaustion.retry(attempt, self._clock()))
+        self._do(attempt, attempt_machine.retry_attempt(attempt, self._clock()))
         await kept
 
     async def until_kept(self, attempt: Attempt) -> bool:
@@ -500,7 +504,11 @@ class EarlyReports:
         runner = self._coordinator.shards.runner(shard) if shard else None
         if shard is None or runner is None:
             raise SagaMoved(f"saga {report.saga.key!r}")
-        effects = early_reports.effects(shard, report, self._clock()) if shard.is_current else None
+        effects = (
+            shard_module.early_report_effects(shard, report, self._clock())
+            if shard.is_current
+            else None
+        )
         future = self._waiting[report] = self._coordinator.loop.create_future()
         if effects:
             runner.keep(effects)

@@ -31,14 +31,11 @@ from sagas.base.errors import (
 )
 from sagas.base.logger import logger
 from sagas.core import outcomes
-from sagas.core.exhaustion import RETRYABLE
-from sagas.core.lease_signature import Signer
-from sagas.core.model import FINISHED, SUSPENDED, Attempt
-from sagas.core.offers import offered_task_name, task_name
+from sagas.core.states import OutcomeKind, RETRYABLE, Suspension
+from sagas.core.external_work import Signer, offered_task_name, task_name
+from sagas.core.attempt import Attempt, FINISHED, Lease, SUSPENDED
 from sagas.core.outcomes import CANNOT_DECODE, FAILED, PERMANENT, SUCCEEDED, UNKNOWN, Outcome
 from sagas.core.shard import ShardDriver
-from sagas.core.states import OutcomeKind, Suspension
-from sagas.core.suspensions import Lease
 from sagas.definition import compensation_task, report_undos, shape_validation, tokens, undo_text
 from sagas.definition.blobs import BlobUnavailable
 from sagas.definition.capacity import SHARD_CAPACITY

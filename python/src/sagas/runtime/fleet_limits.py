@@ -19,7 +19,7 @@ from typing import TYPE_CHECKING
 from sagas.base.errors import StoreUnavailable
 from sagas.base.logger import logger
 from sagas.core.batch import Grant
-from sagas.core.model import SUSPENDED, Attempt
+from sagas.core.attempt import Attempt, SUSPENDED
 from sagas.core.states import Action, Suspension
 from sagas.definition.step import Bounds
 

@@ -14,7 +14,7 @@ from typing import TYPE_CHECKING, Generic, TypeVar
 from sagas.base.errors import KeyConflict, SagasError
 from sagas.base.events import EventEmitter
 from sagas.core.effects import Abort
-from sagas.core.model import SagaInstance
+from sagas.core.saga_instance import SagaInstance
 from sagas.definition import input_equality, mismatches
 from sagas.definition.blobs import Reference
 from sagas.definition.compiled import CompiledDefinition

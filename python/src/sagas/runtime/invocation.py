@@ -19,7 +19,7 @@ from typing import Any
 
 from sagas.base.errors import CannotDecode, Fail
 from sagas.core import outcomes
-from sagas.core.model import RUNNING, Attempt
+from sagas.core.attempt import Attempt, RUNNING
 from sagas.core.outcomes import Outcome, Unawaited
 from sagas.definition import awaitables
 from sagas.definition.approvals import answering

@@ -10,11 +10,11 @@ from collections.abc import Iterable
 from typing import TYPE_CHECKING, Any
 
 from sagas.base.errors import SagasError
-from sagas.core.dispatch import Declared, Order, Position
+from sagas.core.external_work import Declared, Order, Position
 from sagas.definition.payloads import ABSENT
 
 if TYPE_CHECKING:
-    from sagas.core.model import Attempt
+    from sagas.core.attempt import Attempt
     from sagas.definition.saga import Saga
     from sagas.definition.step import RemoteQueue, Step
     from sagas.storage.interface import Database

@@ -8,15 +8,14 @@ from typing import TYPE_CHECKING
 
 from sagas.base.errors import DamagedShard, SagasError
 from sagas.base.logger import logger
-from sagas.core import early_reports, recovery
+from sagas.core import recovery, reports
 from sagas.core.batch import LoadedShard
-from sagas.core.effects import NO_RARE_EFFECTS, Abort, Effects, RareEffects
-from sagas.core.model import Attempt, SagaInstance
+from sagas.core.effects import Abort, Effects, EngineDisagrees, NO_RARE_EFFECTS, RareEffects
+from sagas.core.attempt import Attempt, SuspensionRow
+from sagas.core.saga_instance import SagaInstance
 from sagas.core.recovery import Recovery
-from sagas.core.replies import EngineDisagrees
 from sagas.core.shard import MAX_REPORTS, ShardDriver
 from sagas.core.states import ShardState, saga_phase, undo_failures
-from sagas.core.suspensions import SuspensionRow
 from sagas.definition.payloads import ABSENT
 from sagas.engine.process import EngineProcess, Listener
 from sagas.runtime import stored_values
@@ -604,7 +603,7 @@ class EffectHandler:
                 self._emit_end(saga)
             if saga.has_deviated and saga.phase == "ended" and (steps := undo_failures(saga.end)):
                 self._emit_undo_failed(saga, steps)
-            if unused := early_reports.unused(saga):
+            if unused := reports.unused_report_steps(saga):
                 self._emit_unused(saga, unused)
 
     def _emit_end(self, saga: SagaInstance) -> None:

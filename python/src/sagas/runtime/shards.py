@@ -17,15 +17,13 @@ from sagas.base.logger import logger
 from sagas.core import recovery
 from sagas.core.batch import Batch, LoadedShard, RequestRef, SagaRow, ShardRow
 from sagas.core.effects import Abort
-from sagas.core.model import SagaInstance
-from sagas.core.shard import ShardDriver, ShardIdentity
-from sagas.core.shard_definitions import ShardDefinitions
+from sagas.core.saga_instance import SagaInstance
+from sagas.core.shard import ShardDefinitions, ShardDriver, ShardIdentity
 from sagas.core.states import ShardState
 from sagas.definition.blobs import Reference
 from sagas.definition.compiled import CompiledDefinition
 from sagas.definition.shelf import DefinitionSet
-from sagas.engine.pool import EnginePool
-from sagas.engine.process import EngineProcess
+from sagas.engine.process import EnginePool, EngineProcess
 from sagas.runtime import stored_values
 from sagas.runtime.audits import Auditor
 from sagas.runtime.instances import INPUT, Deadlines, conflict

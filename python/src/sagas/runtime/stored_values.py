@@ -13,8 +13,8 @@ from typing import TypeVar, cast
 
 from sagas.base.errors import StoreUnavailable
 from sagas.core.batch import LoadedShard
-from sagas.core.held_values import StoredValues
-from sagas.core.model import RUNNING, Attempt
+from sagas.core.saga_instance import StoredValues
+from sagas.core.attempt import Attempt, RUNNING
 from sagas.core.shard import ShardDriver
 from sagas.definition.blobs import BlobUnavailable, Reference
 from sagas.definition.compiled import CompiledDefinition

@@ -18,7 +18,7 @@ import psycopg
 from sagas.base.errors import ShardLost, Unknown
 from sagas.core import outcomes
 from sagas.core.batch import Tail
-from sagas.core.model import RUNNING
+from sagas.core.attempt import RUNNING
 from sagas.core.outcomes import Outcome
 from sagas.definition import awaitables
 from sagas.definition.step import Function, Manner
@@ -38,7 +38,7 @@ from sagas.storage.postgresql.step_pool import REST, Loan, Pool, Reservation
 if TYPE_CHECKING:
     from concurrent.futures import Executor
 
-    from sagas.core.model import Attempt
+    from sagas.core.attempt import Attempt
     from sagas.core.step_transactions import TakeConnection
 
 PLAIN = frozenset((type(None), bool, int, float, str, dict, list))

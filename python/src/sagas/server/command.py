@@ -25,9 +25,9 @@ from typing import Any
 from sagas.api import store as store_module
 from sagas.api.store import Store
 from sagas.api.sync_store import SyncStore
-from sagas.base import module_values
+from sagas.base import options as options_module
 from sagas.base.errors import DefinitionError, InvalidStore, SagasError
-from sagas.base.option_values import age, integer_from, positive
+from sagas.base.options import age, integer_from, positive
 from sagas.definition import arguments, payloads
 from sagas.definition.blobs import LEAST, check as check_blobs
 from sagas.definition.saga import Saga
@@ -326,7 +326,7 @@ def listen_of(text: str) -> tuple[str, int]:
 def loaded(option: str, location: str) -> Any:
     """Return the value of a name in a module. Raises `Trouble`."""
     try:
-        return module_values.load_reference(option, location)
+        return options_module.load_reference(option, location)
     except ValueError as error:
         raise Trouble(str(error)) from error
 

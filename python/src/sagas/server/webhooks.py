@@ -32,7 +32,7 @@ from urllib.parse import SplitResult, urlsplit
 from sagas.api.claims import Deliveries
 from sagas.base.errors import Closed, SagasError
 from sagas.base.events import Event
-from sagas.core.announcements import TYPES
+from sagas.core.deliveries import TYPES
 from sagas.definition.compiled import Hooks
 from sagas.server import auth
 from sagas.storage.deliveries import Claimed, DeliveryState, Posted

@@ -1,6 +1,6 @@
 """The table `webhook_deliveries`: posts to webhooks, and their results.
 
-A row is written in the commit of the event that it reports (core/announcements.py). A program
+A row is written in the commit of the event that it reports (core/deliveries.py). A program
 claims a delivery before it posts it. No other program claims it until `due`. So if the program
 ends, the delivery is posted again. The result of a post is written only under the newest claim.
 """

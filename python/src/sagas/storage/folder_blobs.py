@@ -10,7 +10,7 @@ import secrets
 from collections.abc import Iterator
 from typing import Any
 
-from sagas.base.module_values import load_reference
+from sagas.base.options import load_reference
 
 KEY = re.compile(r"[0-9a-f]+(?:/[0-9a-f]+)*")
 PART, TRIES = ".part", 3

@@ -48,12 +48,12 @@ from sagas.core.batch import (
     Tail,
 )
 from sagas.core.step_transactions import StepTransactions
-from sagas.core.undo_check import CompletedChild
+from sagas.core.children import CompletedChild
 from sagas.storage.external import ExternalAttempts
 from sagas.storage.record_file import RecordFile
 
 if TYPE_CHECKING:
-    from sagas.core.model import Attempt
+    from sagas.core.attempt import Attempt
     from sagas.core.outcomes import Outcome
     from sagas.definition.payloads import Payloads
     from sagas.definition.step import Bounds, Manner

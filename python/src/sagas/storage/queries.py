@@ -11,7 +11,7 @@ from typing import Any
 
 from sagas.base.errors import NoSuchSaga
 from sagas.core.batch import SagaRow, StoredSaga
-from sagas.core.held_values import LARGE_VALUE
+from sagas.core.saga_instance import LARGE_VALUE
 from sagas.definition import arguments
 from sagas.definition.capacity import SHARD_CAPACITY
 from sagas.definition.children import UNDO

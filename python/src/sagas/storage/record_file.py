@@ -2,7 +2,7 @@
 
 Each line is one event. An acknowledgement is recorded before the program sends it, and after all
 replies that the program has received. `sagas store URL record` merges records with what the
-database has (`core.fleet_record`). `core.record_lines` defines the lines.
+database has. `core.fleet_record` defines the lines.
 """
 
 from __future__ import annotations

@@ -9,7 +9,7 @@ from collections.abc import Callable
 from typing import Any, Protocol
 
 from sagas.base.errors import WrongStore
-from sagas.core.dispatch import AttemptTexts, Order, Position, saga_id
+from sagas.core.external_work import AttemptTexts, Order, Position, saga_id
 from sagas.core.outcomes import Outcome
 from sagas.definition.payloads import PLAIN
 from sagas.definition.step import Function

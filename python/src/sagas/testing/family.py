@@ -7,7 +7,7 @@ from typing import Any
 
 from sagas.base.errors import NotSerializable
 from sagas.core import children, outcomes
-from sagas.core.model import Attempt
+from sagas.core.attempt import Attempt
 from sagas.core.outcomes import SUCCEEDED, Outcome
 from sagas.core.states import SagaPhase
 from sagas.definition import serialization, shape_text, tokens, undo_sagas

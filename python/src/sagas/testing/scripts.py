@@ -9,7 +9,7 @@ from collections.abc import Callable, Iterable, Mapping
 from typing import Any, TypeVar, Union
 
 from sagas.core import outcomes
-from sagas.core.model import Attempt
+from sagas.core.attempt import Attempt
 from sagas.core.outcomes import Outcome
 from sagas.core.states import OutcomeKind
 from sagas.definition import children, serialization, shape_validation, validation

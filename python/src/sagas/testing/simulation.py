@@ -17,18 +17,15 @@ from collections.abc import Mapping
 from typing import Any, Protocol
 
 from sagas.base.errors import CannotDecode, Fail
-from sagas.core import early_reports, outcomes, protocol
-from sagas.core.attempts import AttemptMachine
-from sagas.core.decisions import Decision, Do
+from sagas.core import outcomes, protocol, reports
+from sagas.core.attempt_machine import AttemptMachine, Decision, Do
 from sagas.core.effects import Abort, Effects
-from sagas.core.exhaustion import AFTER_FAILURE
+from sagas.core.states import AFTER_FAILURE, Action, OutcomeKind, Suspension, saga_phase, step_state
 from sagas.core.history import EFFECT_STATES, fan_of
-from sagas.core.model import RUNNING, SUSPENDED, Attempt, SagaInstance
+from sagas.core.attempt import Attempt, RUNNING, SUSPENDED, SuspensionRow
+from sagas.core.saga_instance import SagaInstance
 from sagas.core.outcomes import Outcome
-from sagas.core.shard import MAX_CLAIMS, ShardDriver, ShardIdentity
-from sagas.core.shard_definitions import ShardDefinitions
-from sagas.core.states import Action, OutcomeKind, Suspension, saga_phase, step_state
-from sagas.core.suspensions import SuspensionRow
+from sagas.core.shard import MAX_CLAIMS, ShardDefinitions, ShardDriver, ShardIdentity
 from sagas.definition import children, serialization
 from sagas.definition.compiled import CompiledDefinition
 from sagas.definition.start_options import StartOptions
@@ -147,7 +144,7 @@ class Simulation:
             for step, step_name in enumerate(self._kind.names):
                 if name in (step_name, self._kind.declared_name(step)):
                     key = (step, Action.RUN.value)
-                    early_reports.EarlyReport(self._saga, key, outcome).keep()
+                    reports.EarlyReport(self._saga, key, outcome).keep()
         self._turn(engine)
         while self._due:
             deadline = self._saga.options.deadline

@@ -24,9 +24,9 @@ import tomllib
 from sagas.base.errors import StoreLocked
 from sagas.base.logger import logger
 from sagas.base.wording import number
-from sagas.core import undo_check
+from sagas.core import children
 from sagas.core.batch import ShardRow
-from sagas.core.undo_check import CompletedChild
+from sagas.core.children import CompletedChild
 from sagas.definition.capacity import SHARD_CAPACITY
 from sagas.definition.compiled import version_of
 from sagas.storage.codec_note import NOTE, NOTED, missing
@@ -406,7 +406,7 @@ class Lease:
         if not rows:
             return {}
         digests = [*{digest for _, _, parent, _, child in rows for digest in (parent, child)}]
-        return undo_check.children_by_shard(rows, await self._asker.read(TEXTS_OF, digests=digests))
+        return children.children_by_shard(rows, await self._asker.read(TEXTS_OF, digests=digests))
 
     async def _has(self, check_functions: FunctionCheck, taken: list[int]) -> list[ShardRow]:
         """Return the shards that were just taken.

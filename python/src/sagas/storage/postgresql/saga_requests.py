@@ -9,7 +9,7 @@ from typing import Any
 
 from sagas.base.errors import NoSuchSaga, StoreUnavailable
 from sagas.core.batch import PendingRequest, PendingStart, SagaRow
-from sagas.core.pending import check_refused
+from sagas.core.waits import check_refused
 from sagas.definition.capacity import SHARD_CAPACITY
 from sagas.definition.payloads import Payloads
 from sagas.definition.serialization import clean

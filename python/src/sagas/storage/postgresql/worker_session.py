@@ -13,7 +13,7 @@ from psycopg.rows import tuple_row
 
 from sagas.base.errors import StoreUnavailable, Unknown
 from sagas.core import outcomes
-from sagas.core.dispatch import AlreadyReported, AttemptTexts, Order
+from sagas.core.external_work import AlreadyReported, AttemptTexts, Order
 from sagas.core.outcomes import Outcome
 from sagas.definition import awaitables
 from sagas.definition.step import Function

@@ -25,7 +25,7 @@ from sagas.base.errors import (
 )
 from sagas.base.fork_guard import private_descriptors
 from sagas.base.logger import logger
-from sagas.core import undo_check
+from sagas.core import children
 from sagas.core.batch import (
     Grant,
     LoadedShard,
@@ -35,7 +35,7 @@ from sagas.core.batch import (
     SagaRow,
     ShardRow,
 )
-from sagas.core.undo_check import CompletedChild
+from sagas.core.children import CompletedChild
 from sagas.definition.payloads import Payloads
 from sagas.definition.serialization import cleaned
 from sagas.definition.step import Bounds
@@ -353,7 +353,7 @@ class Sqlite(queries.Questions):
         rows = self.rows(queries.COMPLETED_IN_FILE)
         if not rows:
             return {}
-        return undo_check.children_by_shard(rows, self.rows(queries.ALL_DEFINITIONS))
+        return children.children_by_shard(rows, self.rows(queries.ALL_DEFINITIONS))
 
     def find_many(self, keys: Sequence[str]) -> dict[str, SagaRow]:
         """Return the sagas that have these keys, by key."""

@@ -9,7 +9,7 @@ from typing import Any
 from urllib.parse import quote
 
 from sagas.base.errors import StoreUnavailable, WrongStore
-from sagas.core.dispatch import AttemptTexts, Order
+from sagas.core.external_work import AttemptTexts, Order
 from sagas.core.outcomes import Outcome
 from sagas.definition.step import Function
 from sagas.storage.sqlite.external_attempts import REPORT

@@ -1,4 +1,4 @@
-"""What an open saga waits for, as texts."""
+"""What open sagas and their active attempts wait for, as values and as texts."""
 
 from __future__ import annotations
 
@@ -7,13 +7,65 @@ from typing import Any
 
 from sagas.base.errors import InvalidInput
 from sagas.core.batch import SagaRow
-from sagas.core.model import QUEUED, RUNNING, SUSPENDED, SagaInstance
-from sagas.core.states import WAITS_FOR, Action, Suspension
+from sagas.core.states import Action, RETRYABLE, Suspension, WAITS_FOR
+from sagas.core.attempt import Attempt, FINISHED, QUEUED, RUNNING, SUSPENDED
+from sagas.core.saga_instance import SagaInstance
+from sagas.core.results import ActiveAttempt
 
 MAX_WAITS = 5
 """The number of waits that a message names."""
 NO_NODE_YET = "no node has started it yet (run `sagas store URL nodes`)"
 """The text for a client's start that no shard has yet."""
+TIMED = RETRYABLE | {Suspension.BACKOFF, Suspension.TIMER, Suspension.APPROVAL}
+"""Suspensions until a time."""
+
+
+def active_attempts(instance: SagaInstance | None, now: float) -> list[ActiveAttempt]:
+    """Return the started attempts of a saga whose outcomes are not known.
+
+    The list is empty if this program does not execute the saga.
+    """
+    if instance is None or not instance.committed:
+        return []
+    busy = list(instance.busy.values())
+    return [_active_attempt(attempt, now) for attempt in busy if attempt.state is not FINISHED]
+
+
+def _active_attempt(attempt: Attempt, now: float) -> ActiveAttempt:
+    waits, until = waits_for(attempt, now), None
+    if waits in TIMED:
+        until = attempt.until
+    elif waits == Suspension.EXTERNAL and attempt.lease:
+        until = attempt.lease.until
+    reported = (
+        attempt.extras.control.progress if attempt.extras and attempt.extras.control else None
+    )
+    return ActiveAttempt(
+        attempt.name, attempt.undo, attempt.attempt, waits, until, *(reported or (None, None))
+    )
+
+
+def waits_for(attempt: Attempt, now: float) -> str:
+    """Return what an attempt waits for, a key of `WAITS_FOR`; empty if its function runs."""
+    if attempt.state is RUNNING:
+        return "ordered" if attempt.is_remote else ""
+    if attempt.state is not SUSPENDED:
+        return "slot"
+    if attempt.reason is Suspension.EXTERNAL:
+        is_leased = attempt.lease is not None and attempt.lease.until > now
+        return Suspension.EXTERNAL.value if is_leased else "worker"
+    if attempt.reason is Suspension.FLEET_LIMIT:
+        bounds = attempt.declared.bounds
+        return "fleet_concurrency" if bounds and bounds.concurrency else "rate_limit"
+    return "concurrency" if attempt.reason is Suspension.STEP_LIMIT else str(attempt.reason)
+
+
+def describe_attempt(attempt: Attempt, now: float) -> str:
+    """Return a text that says what a started attempt does."""
+    if attempt.state is FINISHED:
+        return "it has ended"
+    waits = waits_for(attempt, now)
+    return f"it waits for {WAITS_FOR[waits]}" if waits else "it runs now"
 
 
 def check_refused(row: SagaRow) -> None:
@@ -43,10 +95,10 @@ def _wait_text(name: str, undo: bool, reason: str, until: float | None) -> str:
         text += f" (retry, complete or fail{' with undo=True' if undo else ''})"
     elif reason == Suspension.CANNOT_DECODE:
         text += " (see attention)"
-    return f"{_of(undo)}{name} {text}"
+    return f"{_undo_prefix(undo)}{name} {text}"
 
 
-def _of(undo: bool) -> str:
+def _undo_prefix(undo: bool) -> str:
     return "the compensation of " if undo else ""
 
 
@@ -58,13 +110,14 @@ def live_waits(instance: SagaInstance | None) -> list[str]:
             reason = str(attempt.reason)
             waits.append(_wait_text(attempt.name, attempt.undo, reason, attempt.until))
         elif attempt.state is RUNNING:
-            waits.append(f"{_of(attempt.undo)}{attempt.name} runs")
+            waits.append(f"{_undo_prefix(attempt.undo)}{attempt.name} runs")
         elif attempt.extras and attempt.extras.called_options:
-            waits.append(
-                f"{_of(attempt.undo)}{attempt.name} waits for {attempt.extras.called_options}"
-            )
+            called = attempt.extras.called_options
+            waits.append(f"{_undo_prefix(attempt.undo)}{attempt.name} waits for {called}")
         elif attempt.state is QUEUED:
-            waits.append(f"{_of(attempt.undo)}{attempt.name} waits for {WAITS_FOR['slot']}")
+            waits.append(
+                f"{_undo_prefix(attempt.undo)}{attempt.name} waits for {WAITS_FOR['slot']}"
+            )
     return waits
 
 

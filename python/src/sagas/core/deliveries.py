@@ -8,15 +8,16 @@ from __future__ import annotations
 import datetime
 import hashlib
 import json
+from collections.abc import Iterable
 from typing import TYPE_CHECKING, Any
 
-from sagas.core import early_reports
 from sagas.core.batch import DeliveryRow
 from sagas.core.states import EnginePhase, Suspension, undo_failures
 
 if TYPE_CHECKING:
-    from sagas.core.model import Attempt, SagaInstance
-    from sagas.core.suspensions import SuspensionRow
+    from sagas.core.attempt import Attempt
+    from sagas.core.saga_instance import SagaInstance
+    from sagas.core.attempt import SuspensionRow
 
 COMPLETED, RECOVERED = "saga.completed", "saga.recovered"
 STUCK, ATTENTION = "saga.stuck", "saga.attention"
@@ -28,19 +29,24 @@ NEEDS_OPERATOR = (Suspension.APPROVAL, Suspension.EXHAUSTED, Suspension.CANNOT_D
 
 
 def end_deliveries(
-    saga: SagaInstance, id: int, phase: str, recovered: bool, at: float
+    saga: SagaInstance,
+    id: int,
+    phase: str,
+    recovered: bool,
+    at: float,
+    unused: Iterable[int],
 ) -> list[DeliveryRow]:
     """Return the deliveries of a saga's end.
 
     They report how it ended, each compensation that failed permanently, and each unused report
-    that an operator has to handle.
+    that an operator has to handle. `unused`: the steps with unused reports.
     """
     type = RECOVERED if recovered else COMPLETED
     deliveries = _rows(saga, id, STUCK if phase == EnginePhase.STUCK else type, {}, at, "end")
     for step in undo_failures(saga.end) if recovered and saga.kind.hooks.get(ATTENTION) else ():
         data = {"kind": "undo_failed", "step": saga.kind.names[step], "undo": True}
         deliveries += _rows(saga, id, ATTENTION, data, at, f"undo_failed {step}")
-    for step in early_reports.unused(saga):
+    for step in unused:
         declared = saga.kind.steps[step]
         if declared is None or declared.early_unused == "ask":
             data = {"kind": "unused_report", "step": saga.kind.names[step], "undo": False}

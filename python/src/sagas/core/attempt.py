@@ -5,22 +5,17 @@ The runtime keeps the objects of its event loop (futures, timers, tasks) separat
 
 from __future__ import annotations
 
+import dataclasses
+import enum
 from collections.abc import Callable, Sequence
-from typing import TYPE_CHECKING, Any
+from typing import Any, Protocol
 
-from sagas.base.errors import CannotDecode
+from sagas.base.errors import CannotDecode, ShardLost
+from sagas.core.batch import RequestRef
 from sagas.core.outcomes import Outcome
-from sagas.core.saga_instance import SagaInstance as SagaInstance
+from sagas.core.saga_instance import SagaInstance
 from sagas.core.states import ATTEMPT_TRANSITIONS, Action, AttemptState, Check, Suspension, check
-from sagas.core.suspensions import (
-    AttemptExtras,
-    Lease,
-    FunctionResult,
-    FunctionOption,
-    SuspensionRow,
-)
-from sagas.definition import tokens
-from sagas.definition.task_data import snapshot
+from sagas.definition import serialization, tokens
 from sagas.definition.compiled import ActionKey
 from sagas.definition.context import Context
 from sagas.definition.control import Control
@@ -29,13 +24,106 @@ from sagas.definition.payloads import ABSENT
 from sagas.definition.place import StepLocation
 from sagas.definition.step import Manner, Step
 from sagas.definition.task import Task
-
-if TYPE_CHECKING:
-    from sagas.core.batch import RequestRef
-    from sagas.core.step_transactions import StepRecord
+from sagas.definition.task_data import snapshot
 
 CLAIMED, SUSPENDED, QUEUED = AttemptState.CLAIMED, AttemptState.SUSPENDED, AttemptState.QUEUED
 RUNNING, FINISHED = AttemptState.RUNNING, AttemptState.FINISHED
+
+
+@dataclasses.dataclass(slots=True)
+class Lease:
+    """The lease of an external worker, until a wall time.
+
+    Each lease of a task has a greater number than the earlier ones.
+    """
+
+    number: int
+    worker: str
+    since: float
+    until: float
+
+
+@dataclasses.dataclass(frozen=True, slots=True)
+class SuspensionRow:
+    """A row to store. The attempt continues only after it is stored."""
+
+    reason: Suspension
+    until: float | None
+    error: str | None = None
+
+
+class FunctionOption(enum.Enum):
+    """The options of a definition that are functions of an attempt."""
+
+    UNTIL = "until"
+    LIMIT_KEY = "concurrency_by"
+    TENANT = "fair_by"
+
+
+@dataclasses.dataclass(frozen=True, slots=True)
+class FunctionResult:
+    """The value that such a function returned, or the error that it raised."""
+
+    value: Any = None
+    error: Exception | None = None
+
+    def get(self) -> Any:
+        """Return the value, or raise the error."""
+        if self.error is not None:
+            raise self.error
+        return self.value
+
+
+@dataclasses.dataclass(slots=True)
+class AttemptExtras:
+    """State of an attempt that waits, fails or is reported by hand."""
+
+    count: int = 0
+    """How often its outcome was unknown."""
+    failures: int = 0
+    """How often it failed and was called again, or will be."""
+    pause: float = 0.0
+    """Seconds until it is called again."""
+    gave_way: bool = False
+    """Whether its wait for another saga was given up, so that others get its slot."""
+    lease: Lease | None = None
+    """The newest lease of an external worker that this program knows of."""
+    offered: int | None = None
+    """See `Attempt.offered`."""
+    limit_key: str | None = None
+    """The key by which the limits of its step count it, as JSON."""
+    called_options: str = ""
+    """The options whose functions are called now, for messages."""
+    returned: dict[FunctionOption, FunctionResult] = dataclasses.field(default_factory=dict)
+    """The results of these functions, until they are used."""
+    control: Control | None = None
+    """The cancellation and the progress of its function, created at the first use."""
+    request: RequestRef = None
+    """The operator's command that finished it."""
+    spans: list[tuple[str, float, str | None]] = dataclasses.field(default_factory=list)
+    """The notes that are not stored yet (`core.spans`)."""
+    last_note: str = ""
+    """The word of the last note."""
+    note_count: int = 0
+    """The number of notes."""
+
+
+class StepRecord(Protocol):
+    """The state of the transaction in which an attempt is called."""
+
+    @property
+    def done(self) -> bool:
+        """Whether it was committed, with the attempt's result."""
+
+    @property
+    def again(self) -> bool:
+        """Whether it was rolled back without an error of the function, which is called again."""
+
+    def lost(self) -> ShardLost | None:
+        """Return the exception to raise if it is unknown whether it was committed."""
+
+    def judged(self, error: Any) -> Exception:
+        """Return the exception to report for the function if the server refused a statement."""
 
 
 class AcknowledgedAttempt:
@@ -430,3 +518,57 @@ def finish_all(attempts: Sequence[Attempt], at: float) -> list[Attempt]:
     for attempt in finished:
         attempt.state, attempt.finished_at = FINISHED, at
     return finished
+
+
+def has_nothing_to_undo(attempt: Attempt) -> bool:
+    """Whether an attempt is a compensation without an effect to undo.
+
+    Its item's failure was collected, its step was completed without a child, or, in a saga that
+    undoes a child, the step is undone already.
+    """
+    if not attempt.undo:
+        return _undoes_child(attempt) and attempt.name in _undone_before(attempt)
+    step = attempt.declared
+    if not step.is_collected and step.child is None:
+        return False
+    try:
+        stored_result = attempt.own_result
+    except CannotDecode:  # the attempt is suspended for that when its values are read
+        return False
+    if stored_result is None:
+        return False
+    result = serialization.read(stored_result)
+    if step.child is not None:
+        return _has_no_child(result)
+    return serialization.failed(result) is not None
+
+
+def needs_stored_value(attempt: Attempt) -> bool:
+    """Whether `has_nothing_to_undo` needs a value that is not held."""
+    if not attempt.undo:
+        return _undoes_child(attempt) and attempt.instance.text == ABSENT
+    step = attempt.declared
+    may_be = step.is_collected or step.child is not None
+    return may_be and attempt.results.get(attempt.step) == ABSENT
+
+
+def _undoes_child(attempt: Attempt) -> bool:
+    """Whether its saga undoes a child."""
+    saga = attempt.instance.kind.saga
+    return saga is not None and saga.undoes is not None
+
+
+def _undone_before(attempt: Attempt) -> Sequence[str]:
+    """Return the steps of the child that are undone already, from the input of its saga."""
+    instance = attempt.instance
+    try:
+        saga_input = serialization.read(instance.kind.payloads.decode(instance.text))
+    except CannotDecode:  # the attempt is suspended for that when its values are read
+        return ()
+    undone: Sequence[str] = saga_input.get("undone", ()) if isinstance(saga_input, dict) else ()
+    return undone
+
+
+def _has_no_child(result: Any) -> bool:
+    """Whether a step that starts a child was completed without one: there is nothing to undo."""
+    return isinstance(result, dict) and result.get("key", "") is None

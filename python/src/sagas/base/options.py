@@ -1,10 +1,14 @@
-"""Types of `argparse` for numbers in options of the commands."""
+"""Values of command options: numbers, durations and references to modules."""
 
 from __future__ import annotations
 
 import argparse
+import importlib
 import re
+import sys
 from collections.abc import Callable
+from typing import Any
+
 
 MAX_OPTION = 10**12
 """The maximum of all options. The integers of each database can hold it."""
@@ -62,3 +66,20 @@ def invalid(text: str, rule: str) -> argparse.ArgumentTypeError:
     """Return the error for an invalid value of an option."""
     shown = text if len(text) <= MAX_SHOWN else f"{text[:MAX_SHOWN]}..."
     return argparse.ArgumentTypeError(f"invalid value {shown!r}: use {rule}")
+
+
+def load_reference(option: str, reference: str) -> Any:
+    """Return the value that `MODULE:NAME` refers to. The current folder is searched, too.
+
+    Raises:
+        ValueError: The reference has another form, or the module or the name does not exist.
+    """
+    module, _, name = reference.partition(":")
+    if not name or not module or module.startswith("."):
+        raise ValueError(f"invalid {option} {reference!r}: use MODULE:NAME")
+    if "" not in sys.path:
+        sys.path.insert(0, "")
+    try:
+        return getattr(importlib.import_module(module), name)
+    except (ImportError, AttributeError) as error:
+        raise ValueError(f"cannot load {option} {reference}: {error}") from error

@@ -6,38 +6,54 @@ carries out the `Decision` that a method returns.
 
 from __future__ import annotations
 
+import dataclasses
 import datetime
+import enum
+import json
 from typing import Any
 
 from sagas.base.errors import CannotDecode, Fail
-from sagas.core import early_reports
-from sagas.core.collection import collected, has_nothing_to_undo, needs_stored_value
-from sagas.core.decisions import (
-    CALL,
-    FOLLOW,
-    NOTHING,
-    OFFER,
-    READ,
-    REPORT,
-    REPORT_AGAIN,
-    SLEEP,
-    WITHDRAW,
-    Decision,
-    Do,
+from sagas.core.attempt import (
+    CLAIMED,
+    FINISHED,
+    QUEUED,
+    RUNNING,
+    SUSPENDED,
+    Attempt,
+    FunctionOption,
+    SuspensionRow,
+    has_nothing_to_undo,
+    needs_stored_value,
 )
-from sagas.core.declared_values import due_time, limit_subjects, limit_calls, until_call
-from sagas.core.exhaustion import (
+from sagas.core.declared_values import (
+    OptionCalls,
+    due_time,
+    limit_calls,
+    limit_subjects,
+    until_call,
+)
+from sagas.core.outcomes import (
+    FAILED,
+    MAX_TEXT,
+    PERMANENT,
+    SUCCEEDED,
+    Outcome,
+    approval_outcome,
+    failure,
+    values_unavailable,
+)
+from sagas.core.reports import stored_report
+from sagas.core.saga_instance import SagaInstance
+from sagas.core.states import (
     AFTER_FAILURE,
-    MIN_PAUSE,
+    PARKED,
     RETRYABLE,
-    backoff_seconds,
-    after_failure,
-    yield_seconds,
+    Action,
+    AttemptState,
+    OutcomeKind,
+    Suspension,
 )
-from sagas.core.model import CLAIMED, FINISHED, QUEUED, RUNNING, SUSPENDED, Attempt, SagaInstance
-from sagas.core.outcomes import MAX_TEXT, Outcome, approval_outcome, failure, values_unavailable
-from sagas.core.states import Action, OutcomeKind, Suspension
-from sagas.core.suspensions import FunctionOption, SuspensionRow
+from sagas.definition import serialization
 from sagas.definition.blobs import BlobUnavailable
 from sagas.definition.step import Step
 
@@ -47,17 +63,79 @@ COUNTED_DOWN = frozenset({Suspension.BACKOFF, Suspension.UNKNOWN, Suspension.RET
 """Short suspensions, whose seconds are counted down: a clock that is set back does not make them
 longer.
 """
-PARKED = RETRYABLE | {Suspension.CANNOT_DECODE}
-"""Suspensions of an attempt that was called and will be called again."""
 ANNOUNCED = PARKED | {Suspension.TIMER, Suspension.APPROVAL}
 """Suspensions that emit the event `step_suspended`."""
 LEAST_UNREAD, MOST_UNREAD = 1.0, 60.0
 """Seconds until the values are read again if the blob store did not return them."""
 REPORTABLE = ANNOUNCED | {Suspension.EXTERNAL}
 """Suspensions of an attempt that a caller may report."""
+MIN_PAUSE = 0.05
+"""Seconds between two calls of the same attempt."""
+MIN_YIELD, MAX_YIELD = 1.0, 60.0
+"""Seconds for which an attempt whose wait for a saga was given up leaves its slot to others."""
 
 
+# -- decisions
+
+
+class Do(enum.Enum):
+    """Name what the runtime does with an attempt now."""
+
+    NOTHING = enum.auto()
+    CALL = enum.auto()
+    """Call its function, within the limits."""
+    READ = enum.auto()
+    """Read values that are not held, then ask for the next decision. The state is unchanged."""
+    ASK = enum.auto()
+    """Call functions of the definition, put their results into `returned` of the attempt, and ask
+    for the next decision. The state is unchanged.
+    """
+    OFFER = enum.auto()
+    """Offer it to external workers: it is suspended until one of them reports it."""
+    WITHDRAW = enum.auto()
+    """Withdraw it from external workers, unless one of them has it."""
+    FOLLOW = enum.auto()
+    """Start its child saga unless it exists, and report the attempt when the child has ended. If
+    the saga is aborted, abort the child. The runtime may follow the child already.
+    """
+    SUSPEND = enum.auto()
+    """It is suspended: store its row and set a timer, if the decision has them."""
+    REPORT = enum.auto()
+    """It is finished: report it to its shard."""
+    REPORT_AGAIN = enum.auto()
+    """As `REPORT`, if an earlier report was not stored: its worker may have reported it, too."""
+
+
+@dataclasses.dataclass(frozen=True, slots=True)
+class Decision:
+    """Say what the runtime does with an attempt, whose state is changed already.
+
+    Attributes:
+        do: What the runtime does.
+        row: The row to store. When it is stored, the runtime calls `AttemptMachine.stored`.
+        timer: Whether to set a timer now. When it fires, the runtime calls
+            `AttemptMachine.timer`.
+        event: The name and the detail of an event to emit.
+        option_calls: The functions to call, for `ASK`.
+    """
+
+    do: Do
+    row: SuspensionRow | None = None
+    timer: bool = False
+    event: tuple[str, str] | None = None
+    option_calls: OptionCalls | None = None
+
+
+NOTHING, CALL, OFFER = Decision(Do.NOTHING), Decision(Do.CALL), Decision(Do.OFFER)
+REPORT, REPORT_AGAIN = Decision(Do.REPORT), Decision(Do.REPORT_AGAIN)
+SLEEP = Decision(Do.SUSPEND, timer=True)
+WITHDRAW = Decision(Do.WITHDRAW)
+READ = Decision(Do.READ)
+FOLLOW = Decision(Do.FOLLOW)
 AttemptDecisions = list[tuple[Attempt, Decision]]
+
+
+# -- questions about an attempt
 
 
 def is_called_at_once(attempt: Attempt) -> bool:
@@ -83,6 +161,15 @@ def becomes_reportable(attempt: Attempt) -> bool:
         return False
     is_due = attempt.instance.rare.wait_ends.get(attempt.action_key) == 0
     return step.kind == "approval" or (step.kind == "wait" and not is_due)
+
+
+def may_retry(attempt: Attempt) -> bool:
+    """Whether an operator may retry the attempt at once."""
+    is_suspended = attempt.state is AttemptState.SUSPENDED and not attempt.pending_row
+    return is_suspended and attempt.reason in RETRYABLE
+
+
+# -- the machine
 
 
 class AttemptMachine:
@@ -122,7 +209,7 @@ class AttemptMachine:
             return self.finish(attempt, Outcome(OutcomeKind.SUCCEEDED, "null"), now)
         if attempt.action_key in instance.rare.final:
             return self._give_up(attempt, "not called: the step failed permanently", now, True)
-        if instance.has_early and (outcome := early_reports.taken_outcome(attempt)):
+        if instance.has_early and (outcome := _early_outcome(attempt)):
             is_read = outcome.kind is not OutcomeKind.CANNOT_DECODE
             return (self.finish if is_read else self._park)(attempt, outcome, now)
         if instance.draining and self._may_give_up(attempt) and attempt.offered != 0:
@@ -454,3 +541,116 @@ class AttemptMachine:
             return False
         instance = attempt.instance
         return instance.aborted or attempt.attempt < instance.kind.tries["run"][attempt.step]
+
+
+# -- outcomes
+
+
+def _early_outcome(attempt: Attempt) -> Outcome | None:
+    """Return the outcome that was reported before an attempt started.
+
+    Its function is not called, and no operator is asked. The report also counts if the saga drains
+    by now, because the effect exists.
+
+    Returns:
+        None if no report is stored; an outcome of the kind `CANNOT_DECODE` if the codec cannot
+        read it.
+    """
+    report = None if attempt.undo else stored_report(attempt.instance, attempt.action_key)
+    if report is None:
+        return None
+    attempt.has_row = True
+    if report.kind is not SUCCEEDED:
+        return report
+    try:
+        return report._replace(value=attempt.instance.kind.payloads.decode(report.value))
+    except CannotDecode as error:
+        return Outcome(OutcomeKind.CANNOT_DECODE, str(error)[:MAX_TEXT])
+
+
+def collected(attempt: Attempt, outcome: Outcome) -> Outcome:
+    """Return the outcome to report for an attempt.
+
+    The last failure of a collected item becomes a result, unless its saga is being undone.
+    """
+    if outcome.kind not in (FAILED, PERMANENT) or attempt.undo or attempt.instance.draining:
+        return outcome
+    kind = attempt.instance.kind
+    step = kind.steps[attempt.step]
+    is_last = outcome.kind is PERMANENT or attempt.attempt >= kind.tries["run"][attempt.step]
+    if step is None or not step.is_collected or not is_last:
+        return outcome
+    detail = str(json.loads(outcome.value).get("error", ""))
+    return Outcome(SUCCEEDED, serialization.write({serialization.FAILED: detail}))
+
+
+def after_failure(attempt: Attempt, outcome: Outcome, now: float) -> Decision | None:
+    """Decide how a failed attempt continues that the engine would not retry.
+
+    The same attempt is called again, or waits for an operator: for the engine it is under way.
+
+    Returns:
+        None if the failure is reported: the engine makes another attempt, or the step fails.
+    """
+    manner, is_final = attempt.manner, outcome.kind is OutcomeKind.FAILED_PERMANENTLY
+    tries = attempt.instance.kind.tries[attempt.kind][attempt.step]
+    if (is_final and not attempt.undo) or (not is_final and attempt.attempt < tries):
+        return None
+    if attempt.instance.draining and not attempt.undo:
+        return None
+    attempts_made = attempt.attempt + attempt.failures
+    repeats = manner.on_exhausted == "retry" or attempts_made < (manner.max_attempts or tries)
+    if manner.on_exhausted == "fail" and (is_final or not repeats):
+        return None
+    failure = json.loads(outcome.value)
+    detail = str(failure.get("error", ""))[:MAX_TEXT]
+    attempt.rare.failures += 1
+    attempt.waiting_since, attempt.outcome = attempt.waiting_since or now, outcome
+    if is_final or not repeats:
+        attempt.suspend(Suspension.EXHAUSTED)
+        row = SuspensionRow(Suspension.EXHAUSTED, None, detail)
+        return Decision(Do.SUSPEND, row, event=("step_exhausted", detail))
+    pause = failure.get("retry_after", manner.backoff.after(attempts_made))
+    attempt.rare.pause = max(MIN_PAUSE, pause)
+    attempt.suspend(Suspension.RETRY, now + attempt.rare.pause)
+    row = SuspensionRow(Suspension.RETRY, attempt.until, detail)
+    return Decision(Do.SUSPEND, row, timer=True, event=("step_retrying", detail))
+
+
+def backoff_seconds(attempt: Attempt, now: float) -> float:
+    """Return the seconds until the call; if the clock was set back, at most the whole pause."""
+    failed_at = attempt.instance.rare.failed_at.get(attempt.action_key)
+    if failed_at is None:
+        return 0.0
+    pause = attempt.instance.rare.retry_pauses.get(attempt.action_key)
+    if pause is None:
+        pause = attempt.manner.backoff.after(attempt.attempt - 1)
+    else:
+        attempt.rare.pause = pause
+    return min(pause, failed_at + pause - now)
+
+
+def yield_seconds(attempt: Attempt) -> float:
+    """Return the seconds for which it leaves its slot to others after its wait was given up."""
+    rare = attempt.rare
+    gave_way, rare.gave_way = rare.gave_way, False
+    return min(MAX_YIELD, MIN_YIELD * 2.0 ** min(rare.count - 1, 16)) if gave_way else 0.0
+
+
+def retry_attempt(attempt: Attempt, now: float) -> Decision:
+    """Call an attempt again at once for an operator, with new counts and a new time.
+
+    The engine keeps the attempt's number, so the earlier attempts are subtracted from the failures.
+    A new `waiting_since` distinguishes the wait that the operator answered from a later one.
+    """
+    is_unknown = attempt.reason is Suspension.UNKNOWN
+    reason = Suspension.UNKNOWN if is_unknown else Suspension.RETRY
+    if attempt.declared.child is None:  # else they number its children
+        attempt.rare.failures = 0 if is_unknown else 1 - attempt.attempt
+        attempt.rare.count = 0
+    detail = attempt.outcome.value if attempt.outcome else ""
+    if not is_unknown:
+        detail = str(json.loads(detail or "{}").get("error", ""))
+    attempt.waiting_since = now
+    attempt.suspend(reason, now)
+    return Decision(Do.SUSPEND, SuspensionRow(reason, now, detail), timer=True)
