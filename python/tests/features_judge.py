@@ -23,8 +23,7 @@ from features_shop import (
     order_of,
     result_of,
 )
-from features_store import CHILDREN, NOT_UNDONE, SILENT, FeatureStore, Instance
-from features_store import rows_of as rows_of
+from features_store import CHILDREN, FeatureStore, Instance, NOT_UNDONE, SILENT, rows_of as rows_of
 from judge import Verdict
 
 Json = dict[str, Any]

@@ -20,7 +20,7 @@ from sagas.core.model import Attempt, SagaInstance
 from sagas.core.shard import ShardDriver, ShardIdentity
 from sagas.core.shard_definitions import ShardDefinitions
 from sagas.core.states import ShardState
-from sagas.definition.shelf import DefinitionRegistry
+from sagas.definition.registry import DefinitionRegistry
 from sagas.runtime.acknowledgements import Acknowledgements
 from sagas.storage.record_file import BEYOND, RecordFile, number
 

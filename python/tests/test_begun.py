@@ -20,8 +20,7 @@ import sagas
 from sagas.cli import store_command
 from sagas.inspection.activity import with_active_attempts
 from sagas.core.history import Stretch
-from sagas.inspection import lists
-from sagas.inspection import saga as one_saga
+from sagas.inspection import lists, saga as one_saga
 from sagas.inspection.question import StoreReader
 from sagas.inspection.views import SagaView, Waits
 

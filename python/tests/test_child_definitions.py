@@ -17,8 +17,8 @@ import sagas.testing
 from sagas.api import worker_task
 from sagas.cli import backlog
 from sagas.definition import definition_text, listed_steps, undo_sagas, undo_text
-from sagas.definition.context import Context
-from sagas.definition.shelf import DefinitionRegistry
+from sagas.definition.task_data import Context
+from sagas.definition.registry import DefinitionRegistry
 from sagas.definition.start_options import StartOptions
 from sagas.server import json_views
 

@@ -26,8 +26,7 @@ import sagas
 from sagas.cli import audits, formatting, store_command
 from sagas.cli.snapshot import Snapshot
 from sagas.base import program, wording
-from sagas.inspection import wording as value_wording
-from sagas.inspection import saga as one_saga
+from sagas.inspection import saga as one_saga, wording as value_wording
 from sagas.inspection.question import StoreReader
 from sagas.server import log_format
 from sagas.storage import admin

@@ -13,8 +13,7 @@ import httpx
 import psycopg
 import pytest
 from cases import Task, run, simple
-from hypothesis import given
-from hypothesis import strategies as st
+from hypothesis import given, strategies as st
 from serving import DEFINITIONS, LONG, Served, command, error_of, report, served, start, take
 
 import sagas

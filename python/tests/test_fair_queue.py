@@ -6,8 +6,7 @@ import asyncio
 import threading
 import time
 
-from hypothesis import given
-from hypothesis import strategies as st
+from hypothesis import given, strategies as st
 
 from sagas.server.fair_queue import LONG, CURRENT_CLIENT, MAX_REST, REST, ComputingTime, FairQueue
 from sagas.server.threads import Pool

@@ -7,8 +7,7 @@ from __future__ import annotations
 
 import time
 
-from hypothesis import given, settings
-from hypothesis import strategies as st
+from hypothesis import given, settings, strategies as st
 
 from sagas.inspection import picture, timeline_picture
 from sagas.inspection.folding import FEW, folded

@@ -11,8 +11,7 @@ import pytest
 from definitions import steps, toml
 from driving import Drive, audit
 from follower import Definition, Follower, Illegal, follow
-from hypothesis import HealthCheck, given, settings
-from hypothesis import strategies as st
+from hypothesis import HealthCheck, given, settings, strategies as st
 
 Json = dict[str, Any]
 

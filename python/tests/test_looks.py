@@ -11,8 +11,7 @@ import records
 from cases import QUICK, Task, run, until
 
 import sagas
-from sagas.inspection import lists, pages, what_if
-from sagas.inspection import saga as one_saga
+from sagas.inspection import lists, pages, saga as one_saga, what_if
 from sagas.inspection.question import StoreReader
 from sagas.server import json_views
 

@@ -13,12 +13,11 @@ import pytest
 import records
 from definitions import StepDraw, steps, toml
 from follower import Definition, Follower, follow
-from hypothesis import HealthCheck, given, settings
-from hypothesis import strategies as st
+from hypothesis import HealthCheck, given, settings, strategies as st
 
 import sagas
 import sagas.testing
-from sagas.testing.engine import Engine
+from sagas.testing.simulation import Engine
 
 Task = sagas.Task[Any]
 Failures = dict[tuple[str, str], int]

@@ -20,8 +20,7 @@ import httpx
 import pytest
 import uvicorn
 from driving import program
-from hypothesis import HealthCheck, given, settings
-from hypothesis import strategies as st
+from hypothesis import HealthCheck, given, settings, strategies as st
 from serving import DEFINITIONS, LONG, Served, host, served, start, take
 from uvicorn.server import ServerState
 

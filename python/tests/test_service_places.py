@@ -20,8 +20,7 @@ from typing import Any
 
 import pytest
 from driving import program
-from hypothesis import given
-from hypothesis import strategies as st
+from hypothesis import given, strategies as st
 from serving import DEFINITIONS, LONG, Served, served, start, token
 from test_service_denial import inside
 

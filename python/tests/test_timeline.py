@@ -16,8 +16,7 @@ import pytest
 from serving import LONG, Served, report, served, start, take
 
 import sagas
-from sagas.inspection import saga as one_saga
-from sagas.inspection import timeline
+from sagas.inspection import saga as one_saga, timeline
 from sagas.inspection.question import StoreReader
 
 

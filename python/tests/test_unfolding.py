@@ -16,8 +16,7 @@ from typing import Any
 import httpx
 import pytest
 import shaped
-from hypothesis import given, settings
-from hypothesis import strategies as st
+from hypothesis import given, settings, strategies as st
 from selenium.webdriver.common.by import By
 from serving import Served, served, start, take
 from shaped import Hotel, Package, Trip, parcels
@@ -26,9 +25,8 @@ from test_service_workers import ONE
 
 import sagas
 from sagas.cli.store_command import main
-from sagas.definition.groups import ALL, Groups
-from sagas.inspection import layout, picture
-from sagas.inspection import saga as one_saga
+from sagas.definition.drawing import ALL, Groups
+from sagas.inspection import layout, picture, saga as one_saga
 from sagas.inspection.group_boxes import MOST_ITEMS, StepDisplay, boxes_of
 from sagas.inspection.question import StoreReader
 from sagas.inspection.views import SagaView

@@ -16,12 +16,11 @@ from typing import Any, Generic, Mapping, NamedTuple, NewType, Optional, Sequenc
 
 import pytest
 from cases import run, simple
-from hypothesis import given
-from hypothesis import strategies as st
+from hypothesis import given, strategies as st
 
 import sagas
 from sagas.definition import decoders, serialization, type_checks
-from sagas.definition.mismatches import Mismatch
+from sagas.definition.type_checks import Mismatch
 
 JSON = st.recursive(
     st.none()

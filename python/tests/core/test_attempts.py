@@ -38,7 +38,7 @@ from sagas.core.model import Attempt, SagaInstance
 from sagas.core.outcomes import Outcome
 from sagas.core.states import AttemptState, EarlyReason, OutcomeKind, Suspension
 from sagas.core.suspensions import SuspensionRow
-from sagas.definition.shelf import DefinitionRegistry
+from sagas.definition.registry import DefinitionRegistry
 
 NOW = 1000.0
 WAIT = sagas.Backoff(initial=10, maximum=100)

@@ -17,7 +17,7 @@ from sagas.core.attempts import AttemptMachine
 from sagas.core.decisions import CALL, REPORT, Decision, Do
 from sagas.core.model import Attempt, SagaInstance
 from sagas.core.states import AttemptState, OutcomeKind, Suspension
-from sagas.definition.shelf import DefinitionRegistry
+from sagas.definition.registry import DefinitionRegistry
 
 
 @dataclasses.dataclass

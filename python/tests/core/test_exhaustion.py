@@ -12,7 +12,7 @@ from sagas.core.attempts import AttemptMachine, is_reportable
 from sagas.core.decisions import CALL, NOTHING, REPORT, SLEEP, Do
 from sagas.core.model import Attempt, SagaInstance
 from sagas.core.states import OutcomeKind, Suspension
-from sagas.definition.shelf import DefinitionRegistry
+from sagas.definition.registry import DefinitionRegistry
 
 NOW = 1000.0
 WAIT = sagas.Backoff(initial=10, maximum=60)

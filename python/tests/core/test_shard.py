@@ -20,7 +20,7 @@ from sagas.core.shard import MAX_REPORTS, ShardDriver, ShardIdentity
 from sagas.core.shard_definitions import ShardDefinitions
 from sagas.core.states import AttemptState, Check, IllegalTransition, ShardState, Suspension
 from sagas.core.suspensions import SuspensionRow
-from sagas.definition.shelf import DefinitionRegistry
+from sagas.definition.registry import DefinitionRegistry
 from sagas.definition.start_options import StartOptions
 
 NUMBER, NOW = 7, 50.0

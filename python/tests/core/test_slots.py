@@ -14,7 +14,7 @@ from sagas.core.limits import Slots
 from sagas.core.model import Attempt, SagaInstance
 from sagas.core.outcomes import Outcome
 from sagas.core.states import AttemptState, OutcomeKind, Suspension
-from sagas.definition.shelf import DefinitionRegistry
+from sagas.definition.registry import DefinitionRegistry
 
 SAGA = sagas.Saga("one")
 

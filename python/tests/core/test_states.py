@@ -14,7 +14,7 @@ from sagas.core import states
 from sagas.core.model import Attempt, SagaInstance, finish_all, start_all
 from sagas.core.outcomes import succeeded
 from sagas.core.states import AttemptState, IllegalTransition, StepState, Suspension
-from sagas.definition.shelf import DefinitionRegistry
+from sagas.definition.registry import DefinitionRegistry
 
 TABLES: dict[type[enum.Enum], Any] = {
     AttemptState: states.ATTEMPT_TRANSITIONS,

@@ -13,8 +13,7 @@ from typing import Any
 import pytest
 from core_world import World
 from definitions import StepDraw, steps
-from hypothesis import HealthCheck, given, settings
-from hypothesis import strategies as st
+from hypothesis import HealthCheck, given, settings, strategies as st
 
 import sagas
 from sagas.core import model, shard, states

@@ -6,9 +6,9 @@ import dataclasses
 from typing import Any
 
 from sagas.celery.worker import Work
-from sagas.definition.task import Task, snapshot
-from sagas.core.dispatch import Order
-from sagas.core.dispatch import AttemptTexts
+from sagas.definition.task import Task
+from sagas.definition.task_data import snapshot
+from sagas.core.dispatch import AttemptTexts, Order
 
 FINDS = "input"
 STRIKES = "run"

@@ -15,8 +15,7 @@ from sagas.core.model import SagaInstance
 from sagas.definition.compiled import CompiledDefinition
 from sagas.definition.saga import Saga
 from sagas.definition.start_options import StartOptions
-from sagas.inspection import saga as saga_questions
-from sagas.inspection import what_if
+from sagas.inspection import saga as saga_questions, what_if
 from sagas.inspection.question import AsyncStoreReader
 from sagas.runtime import retries
 from sagas.runtime.children import ChildEnd

@@ -17,17 +17,14 @@ from sagas.api.schedules import Schedules
 from sagas.base.errors import Closed, InvalidStore, NoSuchSaga
 from sagas.base.fork_guard import OpenState
 
-from sagas.core import pending
-from sagas.core import attention, history, step_reports
+from sagas.core import attention, history, pending, step_reports
 from sagas.core.batch import StoredSaga, SagaRow
 from sagas.core.outcomes import Outcome, reported_outcome
 from sagas.core.results import HistoryEvent, SagaResult
 from sagas.definition import arguments, children, payloads, serialization
-from sagas.definition.blobs import LEAST, BlobStore
-from sagas.definition.blobs import check as check_blobs
+from sagas.definition.payloads import BlobStore, Codec, MIN_THRESHOLD, Payloads, check_blobs
 from sagas.definition.compiled import CompiledDefinition, version_of
 from sagas.definition.labels import Labels
-from sagas.definition.payloads import Codec, Payloads
 from sagas.definition.saga import Saga
 from sagas.definition.start_options import Deadline
 from sagas.definition.step import Step
@@ -38,9 +35,15 @@ from sagas.runtime import operator_commands, retries
 from sagas.storage import operator_requests, queries
 from sagas.storage.blob_layer import Blobs
 from sagas.storage.factory import FORM
-from sagas.storage.postgresql import caller_connection, codec_note
-from sagas.storage.postgresql import connections as connections_module
-from sagas.storage.postgresql import key_finder, notifications, saga_requests, schema
+from sagas.storage.postgresql import (
+    caller_connection,
+    codec_note,
+    connections as connections_module,
+    key_finder,
+    notifications,
+    saga_requests,
+    schema,
+)
 from sagas.storage.record_file import RecordFile, record_path
 
 if TYPE_CHECKING:
@@ -109,9 +112,11 @@ class Client(Schedules):
         self._notifier: notifications.Notifications | None = None
         self._record = RecordFile.of(record_path(arguments.record(record)), secrets.token_hex(4))
         self._kinds: dict[str, CompiledDefinition] = {}
-        check_blobs(blobs, LEAST)
+        check_blobs(blobs, MIN_THRESHOLD)
         self._payloads = payloads.checked(codec)
-        self._blobs = Blobs(blobs, LEAST, self._payloads, self.path) if blobs is not None else None
+        self._blobs = (
+            Blobs(blobs, MIN_THRESHOLD, self._payloads, self.path) if blobs is not None else None
+        )
         self._sagas: dict[tuple[str, int], Saga] = {}
         self._starter = client_start.ClientStarter(
             self._asker, self.path, connections, self._payloads

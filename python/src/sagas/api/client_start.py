@@ -12,8 +12,15 @@ from weakref import WeakKeyDictionary, WeakSet
 import psycopg
 
 from sagas.base.errors import StoreUnavailable
-from sagas.definition import arguments, children, definition_text
-from sagas.definition import serialization, shape_text, tracing, validation
+from sagas.definition import (
+    arguments,
+    children,
+    definition_text,
+    serialization,
+    shape_text,
+    tracing,
+    validation,
+)
 from sagas.definition.compiled import digest_of
 from sagas.definition.labels import Labels, checked
 from sagas.definition.payloads import Payloads

@@ -8,7 +8,7 @@ from collections.abc import Callable
 from sagas.api.store_access import StoreAccess
 from sagas.core.announcements import ENDS
 from sagas.definition.compiled import Hooks
-from sagas.definition.shelf import DefinitionRegistry
+from sagas.definition.registry import DefinitionRegistry
 from sagas.storage import deliveries as table
 from sagas.storage.deliveries import Claimed, Posted
 

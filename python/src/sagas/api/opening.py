@@ -13,8 +13,7 @@ from typing import Any, ParamSpec
 from sagas.api.store import Store
 from sagas.api.sync_store import SyncStore
 from sagas.base.events import Hook
-from sagas.definition.blobs import BlobStore
-from sagas.definition.payloads import Codec
+from sagas.definition.payloads import BlobStore, Codec
 from sagas.definition.saga import Saga
 from sagas.definition.step import Seconds
 

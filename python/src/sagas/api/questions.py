@@ -14,10 +14,9 @@ from sagas.base.errors import NoSuchSaga
 from sagas.core.batch import SagaRow
 from sagas.core.progress import active_attempts
 from sagas.core.results import ActiveAttempt, HistoryEvent, SagaResult, UnknownAttempt
-from sagas.definition import arguments, folded_drawing
+from sagas.definition import arguments, drawing
 from sagas.engine.plan import Plan
-from sagas.inspection import lists
-from sagas.inspection import saga as one_saga
+from sagas.inspection import lists, saga as one_saga
 from sagas.inspection.question import AsyncStoreReader, Question
 from sagas.storage.interface import Reader
 
@@ -134,7 +133,7 @@ class Questions(Schedules):
         if (last_plan := await self._answer(one_saga.plan(row))) is not None:
             return await asyncio.to_thread(last_plan.draw, unfold=unfold)
         text = await self._answer(one_saga.definition(row.id))
-        return folded_drawing.fold(await asyncio.to_thread(program.draw, text), text, {*unfold})
+        return drawing.fold(await asyncio.to_thread(program.draw, text), text, {*unfold})
 
     async def audit(self) -> dict[str, str]:
         """Audit every shard, including shards that still grow.

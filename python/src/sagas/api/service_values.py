@@ -10,9 +10,14 @@ from collections.abc import Mapping
 from typing import Any
 
 from sagas.base.errors import CannotDecode
-from sagas.definition.blobs import LEAST, BlobStore, Reference
-from sagas.definition.blobs import check as check_blobs
-from sagas.definition.payloads import Codec, checked
+from sagas.definition.payloads import (
+    BlobStore,
+    Codec,
+    MIN_THRESHOLD,
+    Reference,
+    check_blobs,
+    checked,
+)
 
 
 class ServiceValues:
@@ -20,7 +25,7 @@ class ServiceValues:
 
     def __init__(self, codec: Codec | None, blobs: BlobStore | None) -> None:
         """Make a reader. Raises `TypeError` if an argument has the wrong type."""
-        check_blobs(blobs, LEAST)
+        check_blobs(blobs, MIN_THRESHOLD)
         self._payloads, self._blobs = checked(codec, blobs is not None), blobs
 
     def saga(self, reply: Mapping[str, Any]) -> Mapping[str, Any]:

@@ -27,16 +27,13 @@ from sagas.core.batch import SagaRow
 from sagas.core.model import SagaInstance
 from sagas.core.results import SagaResult
 from sagas.definition import arguments, payloads, tracing
-from sagas.definition.blobs import BlobStore
-from sagas.definition.blobs import check as check_blobs
-from sagas.definition.shelf import DefinitionRegistry
+from sagas.definition.payloads import BlobStore, Codec, check_blobs
+from sagas.definition.registry import DefinitionRegistry
 from sagas.definition.labels import Labels
-from sagas.definition.payloads import Codec
 from sagas.definition.saga import Saga
 from sagas.definition.start_options import Deadline
 from sagas.definition.step import Seconds
-from sagas.runtime import blob_sweep, current_step, operator_commands
-from sagas.runtime import retention as retention_module
+from sagas.runtime import blob_sweep, current_step, operator_commands, retention as retention_module
 from sagas.runtime.coordinator import Coordinator
 from sagas.runtime.scheduler import Scheduler
 from sagas.storage import factory

@@ -14,9 +14,8 @@ from sagas.api.client_run import ClientRun
 from sagas.api.facade import Facade, blocking
 from sagas.api.loop_thread import Loop
 from sagas.core.results import SagaResult
-from sagas.definition.blobs import BlobStore
+from sagas.definition.payloads import BlobStore, Codec
 from sagas.definition.labels import Labels
-from sagas.definition.payloads import Codec
 from sagas.definition.saga import Saga
 from sagas.definition.start_options import Deadline
 from sagas.storage.postgresql import caller_connection

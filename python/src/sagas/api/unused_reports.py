@@ -18,7 +18,7 @@ from sagas.definition import children, report_undos, serialization, tokens
 from sagas.definition.capacity import SHARD_CAPACITY
 from sagas.definition.compiled import CompiledDefinition
 from sagas.definition.labels import TOKEN
-from sagas.definition.shape_values import ShapeValues
+from sagas.definition.layout import ShapeValues
 from sagas.definition.start_options import StartOptions
 from sagas.definition.task import Task
 from sagas.definition.task_data import TaskSnapshot

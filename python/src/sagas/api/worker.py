@@ -39,7 +39,7 @@ from sagas.api.worker_task import (
 )
 from sagas.base.errors import DefinitionError
 from sagas.definition import tracing, validation
-from sagas.definition.context import Context
+from sagas.definition.task_data import Context
 from sagas.definition.step import UNKNOWN, Unknowns
 from sagas.definition.task import Task
 

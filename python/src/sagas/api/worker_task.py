@@ -14,13 +14,11 @@ from typing import Any
 from sagas.base.errors import NotSerializable
 from sagas.core import outcomes
 from sagas.core.states import OutcomeKind
-from sagas.definition import awaitables, context, serialization
-from sagas.definition.task_data import TaskSnapshot
+from sagas.definition import awaitables, serialization, task_data
+from sagas.definition.task_data import Context, TaskSnapshot
 from sagas.definition.arguments import shown
-from sagas.definition.context import Context
-from sagas.definition.place import RemoteStepLocation
+from sagas.definition.task import RemoteStepLocation, Task
 from sagas.definition.step import Unknowns
-from sagas.definition.task import Task
 from sagas.definition.tracing import Tracer
 
 logger = logging.getLogger("sagas.worker")
@@ -79,12 +77,12 @@ def lifespan(source: Any, shared: Context) -> Iterator[None]:
 
     Raises `TypeError` if it is an async context manager, because threads have no event loop.
     """
-    if not context.is_factory(source):
+    if not task_data.is_context_factory(source):
         if source is not None:
             shared.put(source)
         yield
         return
-    manager = context.made(source)
+    manager = task_data.context_manager(source)
     if not isinstance(manager, contextlib.AbstractContextManager):
         raise TypeError(
             f"context={shown(source)}: returned {type(manager).__name__}, but a worker has no "

@@ -9,8 +9,7 @@ import dataclasses
 from sagas.cli.batches import add_limit_option
 from sagas.cli.formatting import GOOD, moment, short, show_json, table
 from sagas.cli.snapshot import Snapshot
-from sagas.inspection import deliveries as questions
-from sagas.inspection import lists
+from sagas.inspection import deliveries as questions, lists
 from sagas.inspection.deliveries import Delivery
 from sagas.storage import admin
 from sagas.storage.admin import Trouble

@@ -38,7 +38,7 @@ from sagas.core.model import CLAIMED, FINISHED, QUEUED, RUNNING, SUSPENDED, Atte
 from sagas.core.outcomes import MAX_TEXT, Outcome, approval_outcome, failure, values_unavailable
 from sagas.core.states import Action, OutcomeKind, Suspension
 from sagas.core.suspensions import FunctionOption, SuspensionRow
-from sagas.definition.blobs import BlobUnavailable
+from sagas.definition.payloads import BlobUnavailable
 from sagas.definition.step import Step
 
 MAX_SLEEP = 30.0

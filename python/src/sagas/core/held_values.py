@@ -8,7 +8,7 @@ from typing import NamedTuple
 
 from sagas.core.suspensions import SagaExtras
 from sagas.definition.payloads import ABSENT
-from sagas.definition.shape_values import ShapeValues
+from sagas.definition.layout import ShapeValues
 from sagas.definition.start_options import StartOptions
 
 LARGE_VALUE = 4096

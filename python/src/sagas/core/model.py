@@ -20,15 +20,12 @@ from sagas.core.suspensions import (
     SuspensionRow,
 )
 from sagas.definition import tokens
-from sagas.definition.task_data import snapshot
+from sagas.definition.task_data import Context, Control, snapshot
 from sagas.definition.compiled import ActionKey
-from sagas.definition.context import Context
-from sagas.definition.control import Control
-from sagas.definition.decoders import Decoder
+from sagas.definition.serialization import Decoder
 from sagas.definition.payloads import ABSENT
-from sagas.definition.place import StepLocation
+from sagas.definition.task import StepLocation, Task
 from sagas.definition.step import Manner, Step
-from sagas.definition.task import Task
 
 if TYPE_CHECKING:
     from sagas.core.batch import RequestRef

@@ -15,8 +15,7 @@ from sagas.base.logger import logger
 from sagas.core.states import OutcomeKind
 from sagas.definition import serialization
 from sagas.definition.approvals import Answer
-from sagas.definition.blobs import BlobUnavailable
-from sagas.definition.payloads import Payloads
+from sagas.definition.payloads import BlobUnavailable, Payloads
 from sagas.definition.step import Manner, Unknowns
 from sagas.definition.task import Task
 

@@ -10,8 +10,7 @@ from sagas.core import announcements, protocol, spans
 from sagas.core.attempts import PARKED
 from sagas.core.batch import OpenedRow, ResultRow
 from sagas.core.collection import has_nothing_to_undo, needs_stored_value
-from sagas.core.early_reports import stored as stored_report
-from sagas.core.early_reports import steps_without_effect
+from sagas.core.early_reports import steps_without_effect, stored as stored_report
 from sagas.core.effects import Abort, Effects, EngineRequest
 from sagas.core.model import Attempt, SagaInstance
 from sagas.core.offers import first_offer_row

@@ -10,7 +10,7 @@ from typing import TYPE_CHECKING, Any, Protocol, TypeVar, overload
 from sagas.core.states import state_text
 from sagas.definition import serialization
 from sagas.definition.collection import Collection, of_names
-from sagas.definition.fan import FIXED, Fan
+from sagas.definition.layout import FIXED, Fan
 
 if TYPE_CHECKING:
     from sagas.definition.parts import FanOut

@@ -10,7 +10,7 @@ from sagas.core.suspensions import SagaExtras
 from sagas.definition import start_options
 from sagas.definition.capacity import SHARD_CAPACITY
 from sagas.definition.compiled import CompiledDefinition, ActionKey
-from sagas.definition.shape_values import ShapeValues
+from sagas.definition.layout import ShapeValues
 from sagas.definition.start_options import StartOptions
 
 if TYPE_CHECKING:

@@ -12,8 +12,8 @@ from sagas.core.batch import RequestRef
 from sagas.core.states import EarlyReason, Suspension
 from sagas.definition import serialization
 from sagas.definition.compiled import ActionKey
-from sagas.definition.control import Control
-from sagas.definition.shape_values import ShapeValues
+from sagas.definition.task_data import Control
+from sagas.definition.layout import ShapeValues
 
 
 @dataclasses.dataclass(slots=True)

@@ -13,9 +13,10 @@ from typing import Any
 
 from sagas.base.errors import InvalidKey, InvalidStore
 from sagas.definition import validation
-from sagas.definition.mismatches import MOST_SHOWN
 
 MOST_KEY = 512
+MOST_SHOWN = 80
+"""Maximum length of a value in a message, in characters."""
 BELOW = "/:"
 """The separator in a child's key, between the parent's key and the name of the step."""
 TIME = "must be seconds or a timedelta"

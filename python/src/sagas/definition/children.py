@@ -9,7 +9,7 @@ from typing import TYPE_CHECKING, Any, Literal, TypedDict, overload
 from sagas.base.errors import InvalidKey, NotAbortable
 from sagas.definition import arguments, decoders, validation
 from sagas.definition.arguments import BELOW
-from sagas.definition.decoders import Decoder
+from sagas.definition.serialization import Decoder
 from sagas.definition.decorators import Decorator
 from sagas.definition.step import NEVER, Cost, CostOf, Manner, Step
 

@@ -14,23 +14,20 @@ from sagas.base.errors import CannotDecode, InvalidInput
 from sagas.definition import (
     decoders,
     listed_steps,
-    mismatches,
     serialization,
     shape_text,
     shape_validation,
     type_checks,
     undo_text,
 )
-from sagas.definition.context import Context
 from sagas.definition.declaration import Declaration
-from sagas.definition.decoders import Decoder
-from sagas.definition.layout import Layout
-from sagas.definition.payloads import PLAIN as PLAIN_PAYLOADS
-from sagas.definition.payloads import Payloads
-from sagas.definition.place import StepLocation
+from sagas.definition.layout import Layout, ShapeValues
+from sagas.definition.payloads import PLAIN as PLAIN_PAYLOADS, Payloads
 from sagas.definition.saga import Saga
-from sagas.definition.shape_values import ShapeValues
+from sagas.definition.serialization import Decoder
 from sagas.definition.step import Function, Step
+from sagas.definition.task import StepLocation
+from sagas.definition.task_data import Context
 
 ActionKey = tuple[int, str]
 """A step's number, and `run` or `undo`."""
@@ -76,14 +73,14 @@ def _simple(step: Step[Any] | None, kind: str, is_fair: bool) -> Function | None
     return step.manner(kind).function if step.manner(kind).is_simple else None
 
 
-def _fault(text: str, decoder: Decoder) -> mismatches.Mismatch | None:
+def _fault(text: str, decoder: Decoder) -> type_checks.Mismatch | None:
     """Return why a decoder cannot read a stored value, or None if it can."""
     try:
         decoder(serialization.read(text))
     except NameError as error:
-        return mismatches.Mismatch(f": {error}")
+        return type_checks.Mismatch(f": {error}")
     except Exception as error:  # of the type's own code
-        return mismatches.of(error)
+        return type_checks.mismatch_of(error)
     return None
 
 
@@ -330,7 +327,7 @@ class CompiledDefinition:
                 continue
             except Exception as error:  # of the type's own code
                 return InvalidInput(
-                    f"saga {self.name!r}, step {step.name!r}: input{mismatches.of(error)}"
+                    f"saga {self.name!r}, step {step.name!r}: input{type_checks.mismatch_of(error)}"
                 )
         return None
 

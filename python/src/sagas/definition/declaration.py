@@ -6,7 +6,7 @@ from collections.abc import Callable, Sequence
 from typing import TYPE_CHECKING, Any
 
 from sagas.definition import children, decoders, item_types, joins
-from sagas.definition.decoders import Decoder
+from sagas.definition.serialization import Decoder
 from sagas.definition.layout import Scope, StepOrigin
 from sagas.definition.parts import FanOut, Inclusion
 

@@ -6,7 +6,7 @@ from collections.abc import Callable, Iterable, Iterator
 from typing import TYPE_CHECKING, Any, overload
 
 from sagas.definition import collection, item_types, shape_validation, validation
-from sagas.definition.decoders import Decoder
+from sagas.definition.serialization import Decoder
 from sagas.definition.parts import FanOutInclusion, ForEach, Inclusion, Need, Part
 from sagas.definition.step import Step
 

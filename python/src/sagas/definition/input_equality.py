@@ -7,8 +7,8 @@ from __future__ import annotations
 
 from typing import TYPE_CHECKING, Any, Protocol
 
-from sagas.definition import decoders, mismatches, serialization
-from sagas.definition.decoders import Decoder
+from sagas.definition import decoders, serialization, type_checks
+from sagas.definition.serialization import Decoder
 
 if TYPE_CHECKING:
     from sagas.definition.step import Step
@@ -37,16 +37,16 @@ def differences(definition: HasSteps, first: str, second: str) -> list[str]:
     decoders, is_complete = _readers(definition)
     values = serialization.read(first), serialization.read(second)
     if not decoders:
-        return list(mismatches.differences(*values))
+        return list(type_checks.differences(*values))
     paths: dict[str, None] = {}
     for decoder in decoders:
         normalized = _normalized(first, decoder), _normalized(second, decoder)
         if normalized[0] is None or normalized[1] is None:
-            return list(mismatches.differences(*values))
+            return list(type_checks.differences(*values))
         pair = serialization.read(normalized[0]), serialization.read(normalized[1])
         if not is_complete:
             pair = _merged(values[0], pair[0]), _merged(values[1], pair[1])
-        paths |= dict.fromkeys(mismatches.differences(*pair))
+        paths |= dict.fromkeys(type_checks.differences(*pair))
     return list(paths)
 
 

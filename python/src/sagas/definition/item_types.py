@@ -8,7 +8,7 @@ import typing
 from typing import TYPE_CHECKING, Any
 
 from sagas.definition import decoders
-from sagas.definition.decoders import Decoder
+from sagas.definition.serialization import Decoder
 
 if TYPE_CHECKING:
     from sagas.definition.parts import Part

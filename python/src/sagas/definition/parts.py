@@ -6,7 +6,7 @@ from collections.abc import Callable, Mapping, Sequence
 from typing import TYPE_CHECKING, Any, Generic, Protocol, TypeVar, Union, overload
 
 from sagas.definition.collection import Collection
-from sagas.definition.item_task import ItemTask
+from sagas.definition.task import ItemTask
 from sagas.definition.selection import Selection
 from sagas.definition.step import Step
 

@@ -13,10 +13,9 @@ from collections.abc import Callable, Mapping
 from typing import Any
 
 from sagas.definition import compensation_task
-from sagas.definition.place import RemoteStepLocation
+from sagas.definition.task import RemoteStepLocation, Task
 from sagas.definition.saga import Saga
 from sagas.definition.step import NEVER, CostOf, Step
-from sagas.definition.task import Task
 from sagas.definition.task_data import TaskSnapshot
 from sagas.definition.undo_text import MOST_NAME, name_of
 

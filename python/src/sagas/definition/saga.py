@@ -13,7 +13,7 @@ from sagas.base.wording import number
 from sagas.definition import (
     collection,
     definition_text,
-    folded_drawing,
+    drawing,
     serialization,
     shape,
     shape_text,
@@ -494,7 +494,7 @@ class Saga(WaitSteps, Inclusions):
             EngineError: The program `sagas` cannot be run.
         """
         text = self.toml(input)
-        return folded_drawing.fold(program.draw(text), text, {*unfold})
+        return drawing.fold(program.draw(text), text, {*unfold})
 
     def __repr__(self) -> str:
         return f"<saga {self.name}, version {self.version}, {number(len(self.steps), 'step')}>"

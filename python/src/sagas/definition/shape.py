@@ -9,20 +9,13 @@ from __future__ import annotations
 import dataclasses
 import traceback
 from collections.abc import Callable, Iterator, Mapping, Sequence
-from typing import TYPE_CHECKING, Any
+from typing import Any, TYPE_CHECKING
 
 from sagas.base.errors import InvalidInput, SagasError, TooLarge
-from sagas.definition import (
-    joins,
-    mismatches,
-    serialization,
-    shape_validation,
-    validation,
-)
+from sagas.definition import joins, serialization, shape_validation, type_checks, validation
 from sagas.definition.declaration import Declaration
-from sagas.definition.layout import Scope, StepOrigin
+from sagas.definition.layout import Scope, ShapeValues, StepOrigin
 from sagas.definition.parts import Inclusion
-from sagas.definition.shape_values import ShapeValues
 
 if TYPE_CHECKING:
     from sagas.definition.parts import ForEach, Part
@@ -134,7 +127,9 @@ class Shape:
         try:
             value = serialization.read(text, self._declared.input(()))
         except Exception as error:  # of the type's own code
-            raise InvalidInput(f"saga {saga.name!r}: input{mismatches.of(error)}") from None
+            raise InvalidInput(
+                f"saga {saga.name!r}: input{type_checks.mismatch_of(error)}"
+            ) from None
         self.root = self._fill(Level(saga, (), ""), value)
         if not self.count:
             raise InvalidInput(
@@ -227,7 +222,7 @@ class Shape:
         try:
             return self.values.item(origin, self._declared.item(origin))
         except Exception as error:  # of the type's own code
-            raise _invalid(part, f"item {origin.number}{mismatches.of(error)}") from None
+            raise _invalid(part, f"item {origin.number}{type_checks.mismatch_of(error)}") from None
 
     def _inside(self, level: Level, part: Inclusion, index: int | None, value: Any) -> Level:
         origin = StepOrigin(level.scope, part.name, index)
@@ -240,7 +235,7 @@ class Shape:
             text = serialization.write_value(plain)
             value = serialization.read(text, self._declared.input(scope))
         except Exception as error:  # of the type's own code
-            raise _invalid(part, f"input{mismatches.of(error)}") from None
+            raise _invalid(part, f"input{type_checks.mismatch_of(error)}") from None
         return self._fill(Level(part.inner, scope, prefix, (level, part, index)), value)
 
     # -- needs

@@ -5,8 +5,7 @@ from __future__ import annotations
 import dataclasses
 import datetime
 
-from sagas.definition import arguments
-from sagas.definition import labels as labels_module
+from sagas.definition import arguments, labels as labels_module
 from sagas.definition.labels import Labels
 from sagas.definition.step import Seconds, seconds
 

@@ -8,7 +8,7 @@ from typing import Any
 
 from sagas.base.errors import DefinitionError
 from sagas.definition import children, compensation_task, listed_steps, undo_text, validation
-from sagas.definition.decoders import Decoder
+from sagas.definition.serialization import Decoder
 from sagas.definition.saga import Saga
 from sagas.definition.step import NEVER, Cost, CostOf, Step
 from sagas.definition.task import Task

@@ -10,7 +10,7 @@ from typing import Any
 from sagas.base import program
 from sagas.base.errors import EngineError
 from sagas.core.states import state_text, step_state
-from sagas.definition import folded_drawing, listed_steps
+from sagas.definition import drawing, listed_steps
 from sagas.definition.listed_steps import ListedStep
 
 Cost = int | None
@@ -160,7 +160,7 @@ class Plan:
             EngineError: The program `sagas` cannot be run.
         """
         whole = program.draw(self.definition, json.dumps(self.case), json.dumps(self.answer))
-        return folded_drawing.fold(whole, self.definition, {*unfold})
+        return drawing.fold(whole, self.definition, {*unfold})
 
     def __str__(self) -> str:
         choices = self.choices

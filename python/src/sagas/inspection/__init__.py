@@ -5,8 +5,7 @@ reader.ask(sagas.inspection.lists.counts())
 reader.ask(sagas.inspection.saga.view("order-1"))
 """
 
-from sagas.inspection import lists as lists
-from sagas.inspection import saga as saga
+from sagas.inspection import lists as lists, saga as saga
 from sagas.inspection.question import AsyncStoreReader, StoreReader
 from sagas.inspection.views import Note, SagaView, StepView, Waits
 

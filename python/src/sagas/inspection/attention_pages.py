@@ -10,8 +10,7 @@ from typing import Any, Optional
 
 from sagas.core.attention import AttentionReason
 from sagas.definition.payloads import unescaped
-from sagas.inspection import names as names_module
-from sagas.inspection import unused_reports
+from sagas.inspection import names as names_module, unused_reports
 from sagas.inspection.lists import chain_of
 from sagas.inspection.names import OF_SHARD, Names
 from sagas.inspection.question import Query, Question

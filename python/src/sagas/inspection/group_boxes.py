@@ -6,7 +6,7 @@ from collections import Counter
 from collections.abc import Callable, Collection, Sequence
 from typing import NamedTuple, Optional
 
-from sagas.definition.groups import ALL, Block, Group, Groups
+from sagas.definition.drawing import ALL, Block, Group, Groups
 
 MOST_ITEMS = 12
 """How many items of an unfolded group have a box of their own. The others share one box."""

@@ -19,8 +19,7 @@ from sagas.definition.capacity import SHARD_CAPACITY
 from sagas.definition.compiled import CompiledDefinition, version_of
 from sagas.definition.labels import TOKEN
 from sagas.definition.payloads import unescaped
-from sagas.inspection import names as names_module
-from sagas.inspection import unused_reports
+from sagas.inspection import names as names_module, unused_reports
 from sagas.inspection.names import OF_SHARD, Names
 from sagas.inspection.question import Query, Question, Row
 from sagas.inspection.views import Waits

@@ -5,7 +5,7 @@ from __future__ import annotations
 from collections.abc import Iterable
 
 from sagas.definition import listed_steps
-from sagas.definition.groups import Groups
+from sagas.definition.drawing import Groups
 from sagas.inspection.question import Query, Question
 from sagas.storage.queries import OF_SHARD as OF_SHARD
 

@@ -6,14 +6,11 @@ import dataclasses
 from typing import Any, Optional
 
 from sagas.core.results import Summary
-from sagas.definition import arguments
-from sagas.definition import labels as labels_module
-from sagas.definition import validation
+from sagas.definition import arguments, labels as labels_module, validation
 from sagas.definition.labels import Labels
 from sagas.inspection.lists import SUMMARY, summary_of
 from sagas.inspection.question import Query, Question
-from sagas.storage.filters import FEW as FEW_PHASES
-from sagas.storage.filters import Filter
+from sagas.storage.filters import FEW as FEW_PHASES, Filter
 from sagas.storage.queries import PHASES, SORTED_AT
 from sagas.storage.sqlite.schema import PLANNED
 

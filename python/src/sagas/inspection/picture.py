@@ -8,7 +8,7 @@ from html import escape
 
 from sagas.core.outcomes import CANNOT_DECODE
 from sagas.core.states import WAITS_FOR
-from sagas.definition.groups import Groups
+from sagas.definition.drawing import Groups
 from sagas.engine.plan import Choice
 from sagas.inspection import wording
 from sagas.inspection.activity import state_of

@@ -27,7 +27,7 @@ from sagas.core.results import HistoryEvent, Summary
 from sagas.core.states import EarlyReason, StepState
 from sagas.definition import listed_steps, tokens
 from sagas.definition.capacity import SHARD_CAPACITY
-from sagas.definition.control import Progress
+from sagas.definition.task_data import Progress
 from sagas.engine.plan import Plan
 from sagas.inspection import families
 from sagas.inspection.lists import waits

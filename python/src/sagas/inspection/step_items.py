@@ -4,8 +4,7 @@ from __future__ import annotations
 
 from collections.abc import Iterator, Sequence
 
-from sagas.definition.layout import StepOrigin
-from sagas.definition.shape_values import ShapeValues
+from sagas.definition.layout import ShapeValues, StepOrigin
 
 
 def of(spots: Sequence[StepOrigin], names: Sequence[str], shape: str | None) -> dict[str, str]:

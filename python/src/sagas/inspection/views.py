@@ -11,7 +11,7 @@ from sagas.core.attention import AttentionReason
 from sagas.core.history import AttemptEnd, EventLine, Stretch
 from sagas.core.results import HistoryEvent, Summary
 from sagas.definition import tokens
-from sagas.definition.control import Progress
+from sagas.definition.task_data import Progress
 from sagas.engine.plan import Plan
 
 Json = dict[str, Any]

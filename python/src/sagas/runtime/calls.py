@@ -19,7 +19,7 @@ from sagas.core.limits import Slots
 from sagas.core.model import QUEUED, RUNNING, Attempt, SagaInstance, finish_all, start_all
 from sagas.core.outcomes import Outcome
 from sagas.definition import awaitables
-from sagas.definition.blobs import BlobUnavailable
+from sagas.definition.payloads import BlobUnavailable
 from sagas.definition.step import Manner
 from sagas.definition.tracing import Tracer
 from sagas.runtime import invocation

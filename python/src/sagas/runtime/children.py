@@ -23,8 +23,7 @@ from sagas.core.model import SUSPENDED, Attempt
 from sagas.core.outcomes import SUCCEEDED, Outcome
 from sagas.core.results import SagaResult
 from sagas.core.states import Suspension
-from sagas.definition import children as child_keys
-from sagas.definition import tokens
+from sagas.definition import children as child_keys, tokens
 from sagas.definition.arguments import BELOW
 from sagas.definition.capacity import SHARD_CAPACITY
 from sagas.definition.compiled import CompiledDefinition

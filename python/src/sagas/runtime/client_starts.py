@@ -18,7 +18,7 @@ from sagas.core.batch import Batch, PendingStart
 from sagas.core.model import SagaInstance
 from sagas.definition import undo_sagas
 from sagas.definition.saga import Saga
-from sagas.definition.shelf import Fitted, DefinitionRegistry
+from sagas.definition.registry import DefinitionRegistry, Fitted
 from sagas.definition.start_options import StartOptions
 from sagas.runtime.commit_queue import CommitQueue
 from sagas.runtime.declared_calls import DefinitionCaller

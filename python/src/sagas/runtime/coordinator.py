@@ -19,7 +19,7 @@ from sagas.core.batch import Batch, ShardRow
 from sagas.core.limits import Slots
 from sagas.core.shard import ShardDriver
 from sagas.core.undo_check import CompletedChild
-from sagas.definition.shelf import DefinitionRegistry
+from sagas.definition.registry import DefinitionRegistry
 from sagas.definition.tracing import Tracer
 from sagas.runtime import decode_check, remote_steps
 from sagas.runtime.client_starts import StartReader

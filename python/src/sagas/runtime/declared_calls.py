@@ -8,7 +8,7 @@ from typing import TypeVar
 from sagas.core.declared_values import OptionCalls
 from sagas.core.model import Attempt
 from sagas.definition.saga import Saga
-from sagas.definition.shelf import Fitted, DefinitionRegistry
+from sagas.definition.registry import DefinitionRegistry, Fitted
 from sagas.runtime.function_threads import FunctionThreads
 
 T = TypeVar("T")

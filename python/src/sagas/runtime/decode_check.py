@@ -14,9 +14,8 @@ from sagas.base.logger import logger
 from sagas.core.batch import LoadedShard
 from sagas.core.model import RUNNING
 from sagas.core.shard import ShardDriver
-from sagas.definition.blobs import Reference
+from sagas.definition.payloads import ABSENT, Reference
 from sagas.definition.compiled import CompiledDefinition
-from sagas.definition.payloads import ABSENT
 from sagas.runtime import stored_values
 from sagas.runtime.retries import until_answered
 from sagas.storage.interface import Database

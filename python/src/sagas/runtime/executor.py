@@ -22,7 +22,7 @@ from sagas.core.outcomes import Outcome
 from sagas.core.shard import ShardDriver
 from sagas.core.states import OutcomeKind, Suspension
 from sagas.core.suspensions import SuspensionRow
-from sagas.definition.blobs import BlobUnavailable
+from sagas.definition.payloads import BlobUnavailable
 from sagas.definition.tracing import Tracer
 from sagas.runtime import remote_steps
 from sagas.runtime.calls import Calls

@@ -14,7 +14,7 @@ from sagas.core.model import Attempt
 from sagas.core.outcomes import Outcome
 from sagas.core.shard import ShardDriver
 from sagas.core.suspensions import SuspensionRow
-from sagas.definition.shelf import DefinitionRegistry
+from sagas.definition.registry import DefinitionRegistry
 from sagas.runtime.declared_calls import DefinitionCaller
 from sagas.runtime.dispatcher import TurnPolicy
 from sagas.storage.interface import Database

@@ -17,13 +17,12 @@ from sagas.core.lease_signature import Signer
 from sagas.core.model import Attempt
 from sagas.core.offers import task_name, offered_task_name
 from sagas.core.suspensions import Lease
-from sagas.definition.blobs import BlobUnavailable
+from sagas.definition.payloads import BlobUnavailable
 from sagas.definition.compiled import CompiledDefinition
-from sagas.definition.control import Progress
+from sagas.definition.task_data import Progress, TaskSnapshot
 from sagas.definition import compensation_task, report_undos, shape_validation, undo_text
-from sagas.definition.shape_values import ShapeValues
+from sagas.definition.layout import ShapeValues
 from sagas.definition.task import Task
-from sagas.definition.task_data import TaskSnapshot
 from sagas.runtime import given_values
 from sagas.runtime.external_reports import ExternalReports
 from sagas.runtime.leased_tasks import Heartbeat, LeasedTask, Queue, Word

@@ -30,7 +30,7 @@ from sagas.core.model import FINISHED, SUSPENDED, Attempt
 from sagas.core.outcomes import CANNOT_DECODE, FAILED, PERMANENT, SUCCEEDED, UNKNOWN, Outcome
 from sagas.core.states import OutcomeKind, Suspension
 from sagas.definition import tokens
-from sagas.definition.blobs import BlobUnavailable
+from sagas.definition.payloads import BlobUnavailable
 from sagas.definition.capacity import SHARD_CAPACITY
 from sagas.runtime.offer_check import awaits_worker
 from sagas.runtime.retries import until_answered

@@ -12,7 +12,7 @@ from sagas.core.model import SagaInstance
 from sagas.core.shard import ShardDriver, ShardIdentity
 from sagas.core.shard_definitions import ShardDefinitions
 from sagas.definition.compiled import CompiledDefinition
-from sagas.definition.shelf import DefinitionSet, DefinitionRegistry
+from sagas.definition.registry import DefinitionRegistry, DefinitionSet
 from sagas.runtime.instances import Instances
 from sagas.runtime.shard_runner import ShardRunner
 from sagas.storage.interface import Database

@@ -10,9 +10,8 @@ from sagas.base.errors import KeyConflict, SagaMoved, SagasError
 from sagas.core.batch import Batch, LoadedShard, SagaRow
 from sagas.core.model import SagaInstance
 from sagas.core.shard import ShardDriver
-from sagas.definition import input_equality, mismatches
-from sagas.definition.blobs import Reference
-from sagas.definition.payloads import PLAIN, Payloads
+from sagas.definition import input_equality, type_checks
+from sagas.definition.payloads import PLAIN, Payloads, Reference
 from sagas.runtime.commit_queue import CommitQueue
 from sagas.runtime.executor import Executor
 from sagas.runtime.instances import Instances
@@ -59,7 +58,7 @@ def conflict(
             return KeyConflict(f"key {key!r} belongs to a saga with another input. Use another key")
         stored_input = stored.decode(stored_input)
     if stored_input != text and (differ := input_equality.differences(kind, stored_input, text)):
-        paths = mismatches.joined_paths(differ)
+        paths = type_checks.joined_paths(differ)
         return KeyConflict(
             f"key {key!r} belongs to a saga with another input, which differs at {paths}. "
             "Use another key"

@@ -7,7 +7,7 @@ from collections.abc import Awaitable, Callable
 from typing import TypeVar
 
 from sagas.base.errors import StoreUnavailable
-from sagas.definition.blobs import BlobUnavailable
+from sagas.definition.payloads import BlobUnavailable
 
 T = TypeVar("T")
 FIRST_PAUSE, MAX_PAUSE = 0.02, 2.0

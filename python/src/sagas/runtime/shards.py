@@ -18,7 +18,7 @@ from sagas.core.shard import ShardDriver, ShardIdentity
 from sagas.core.shard_definitions import ShardDefinitions
 from sagas.core.states import ShardState
 from sagas.definition.compiled import CompiledDefinition
-from sagas.definition.shelf import DefinitionRegistry
+from sagas.definition.registry import DefinitionRegistry
 from sagas.engine.pool import EnginePool
 from sagas.engine.process import EngineProcess
 from sagas.runtime import decode_check

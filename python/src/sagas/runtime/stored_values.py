@@ -7,7 +7,7 @@ from collections.abc import Callable, Sequence
 
 from sagas.core.held_values import StoredValues
 from sagas.core.model import Attempt
-from sagas.definition.blobs import BlobUnavailable, Reference
+from sagas.definition.payloads import BlobUnavailable, Reference
 from sagas.runtime.executor_host import CoordinatorForExecutor
 from sagas.runtime.retries import until_answered
 from sagas.storage.interface import Database

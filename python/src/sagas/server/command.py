@@ -24,8 +24,7 @@ from sagas.base import module_values
 from sagas.base.errors import DefinitionError, InvalidStore, SagasError
 from sagas.base.option_values import age, integer_from, positive
 from sagas.definition import arguments, payloads
-from sagas.definition.blobs import LEAST
-from sagas.definition.blobs import check as check_blobs
+from sagas.definition.payloads import MIN_THRESHOLD, check_blobs
 from sagas.server import auth, definition_files, log_format
 from sagas.server.app_store import AppStore
 from sagas.server.quotas import Quota
@@ -366,7 +365,7 @@ def options_of(parsed: argparse.Namespace, app: AppStore | None) -> dict[str, An
     result |= {name: value for name, value in set_options.items() if value is not None}
     try:
         payloads.checked(result.get("codec"))
-        check_blobs(result.get("blobs"), result.get("blob_threshold", LEAST))
+        check_blobs(result.get("blobs"), result.get("blob_threshold", MIN_THRESHOLD))
         arguments.keeping(result.get("retention"), result.get("archive_dir"))
     except (TypeError, ValueError) as error:
         raise Trouble(str(error)) from error

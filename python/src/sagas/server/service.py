@@ -29,8 +29,7 @@ from sagas.definition import tokens
 from sagas.definition.compiled import version_of
 from sagas.definition.labels import Labels
 from sagas.definition.saga import Saga
-from sagas.inspection import activity
-from sagas.inspection import saga as one_saga
+from sagas.inspection import activity, saga as one_saga
 from sagas.inspection.question import Question
 from sagas.inspection.stored_values import stored
 from sagas.inspection.views import SagaView

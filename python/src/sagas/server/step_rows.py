@@ -7,7 +7,7 @@ from collections import Counter
 from collections.abc import Mapping, Sequence
 from typing import Union
 
-from sagas.definition.groups import Block, Group
+from sagas.definition.drawing import Block, Group
 from sagas.engine.plan import Choice
 from sagas.inspection import wording
 from sagas.inspection.group_boxes import StepDisplay, counted, urgency

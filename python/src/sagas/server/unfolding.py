@@ -5,7 +5,7 @@ from __future__ import annotations
 from collections.abc import Iterable
 from urllib.parse import urlencode
 
-from sagas.definition.groups import ALL, Group, Groups
+from sagas.definition.drawing import ALL, Group, Groups
 from sagas.server.shapes import Field, Text
 
 FIELD = Field(

@@ -9,7 +9,7 @@ from typing import Any
 from sagas.base.errors import DefinitionError, InvalidStore
 from sagas.definition import definition_text
 from sagas.definition.compiled import digest_of
-from sagas.definition.shelf import DefinitionRegistry
+from sagas.definition.registry import DefinitionRegistry
 from sagas.storage.interface import Database
 from sagas.storage.record_file import record_path
 from sagas.storage.sqlite.storage import Sqlite

@@ -13,9 +13,7 @@ from starlette.responses import RedirectResponse, Response
 
 from sagas.base.errors import SagasError
 from sagas.definition.labels import checked
-from sagas.inspection import lists
-from sagas.inspection import pages as pages_module
-from sagas.inspection import wording
+from sagas.inspection import lists, pages as pages_module, wording
 from sagas.inspection.lists import COUNTED
 from sagas.runtime.leased_tasks import Queue
 from sagas.server import renderer

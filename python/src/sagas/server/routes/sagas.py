@@ -15,9 +15,7 @@ from starlette.responses import PlainTextResponse, Response
 from sagas.base.errors import DefinitionError, NoSuchSaga
 from sagas.definition import children, tracing
 from sagas.engine.plan import certificate_text
-from sagas.inspection import families, pages
-from sagas.inspection import picture as picture_module
-from sagas.inspection import what_if as what_if_module
+from sagas.inspection import families, pages, picture as picture_module, what_if as what_if_module
 from sagas.inspection.stored_values import StoredValue
 from sagas.inspection.views import SagaView
 from sagas.server import answers, json_views, renderer, unfolding
