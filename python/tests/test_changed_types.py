@@ -19,7 +19,7 @@ from cases import QUICK, Task, run, until
 
 import sagas
 from sagas.definition import decoders
-from sagas.definition.step import Manner
+from sagas.definition.call_options import Manner
 from sagas.definition.task_data import TaskSnapshot
 
 

@@ -23,7 +23,8 @@ from sagas.core.outcomes import Outcome, reported_outcome
 from sagas.core.results import HistoryEvent, SagaResult
 from sagas.definition import arguments, children, payloads, serialization
 from sagas.definition.payloads import BlobStore, Codec, MIN_THRESHOLD, Payloads, check_blobs
-from sagas.definition.compiled import CompiledDefinition, version_of
+from sagas.definition.compiled import CompiledDefinition
+from sagas.definition.definition_text import version_of
 from sagas.definition.labels import Labels
 from sagas.definition.saga import Saga
 from sagas.definition.start_options import Deadline

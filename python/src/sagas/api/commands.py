@@ -27,7 +27,7 @@ from sagas.core.outcomes import Outcome
 from sagas.core.states import Action
 from sagas.definition import children, serialization
 from sagas.definition.compiled import ActionKey
-from sagas.definition.validation import meant
+from sagas.definition.arguments import meant
 from sagas.runtime import current_step, operator_commands
 from sagas.storage import operator_requests
 

@@ -15,7 +15,7 @@ from sagas.api.sync_store import SyncStore
 from sagas.base.events import Hook
 from sagas.definition.payloads import BlobStore, Codec
 from sagas.definition.saga import Saga
-from sagas.definition.step import Seconds
+from sagas.definition.call_options import Seconds
 
 P = ParamSpec("P")
 

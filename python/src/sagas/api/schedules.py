@@ -11,7 +11,7 @@ from typing import Any, TypeVar
 
 from sagas.api.batches import Batches, over_own_connection
 from sagas.base.logger import logger
-from sagas.definition import serialization, timing, validation
+from sagas.definition import serialization, timing, waits
 from sagas.definition.labels import Labels, checked
 from sagas.definition.payloads import Payloads
 from sagas.definition.saga import Saga
@@ -84,7 +84,7 @@ class Schedules(Batches):
             Closed: The store is closed.
         """
         timing.check_name(name)
-        validation.check_given(saga)
+        waits.check_is_saga(saga)
         times = timing.timing(cron, every, timezone, catch_up, max, overlap)
         labels_text = json.dumps(dict(checked(labels)))
         location, text = self._location(), serialization.write_value(input, "input")

@@ -21,7 +21,7 @@ from sagas.base.errors import (
 from sagas.base.events import Event
 from sagas.core.results import EndQueries
 from sagas.core.states import WAITS_FOR
-from sagas.definition.layout import FIXED, Fan
+from sagas.definition.task import FIXED, Fan
 
 ERRORS: dict[str, type[SagasError]] = {
     kind.__name__: kind

@@ -32,7 +32,7 @@ from sagas.definition.registry import DefinitionRegistry
 from sagas.definition.labels import Labels
 from sagas.definition.saga import Saga
 from sagas.definition.start_options import Deadline
-from sagas.definition.step import Seconds
+from sagas.definition.call_options import Seconds
 from sagas.runtime import blob_sweep, current_step, operator_commands, retention as retention_module
 from sagas.runtime.coordinator import Coordinator
 from sagas.runtime.scheduler import Scheduler

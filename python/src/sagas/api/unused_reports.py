@@ -14,7 +14,7 @@ from sagas.base.logger import logger
 from sagas.core import step_reports
 from sagas.core.batch import Batch, StoredSaga, SagaRow, RequestRef
 from sagas.core.states import Action, EarlyReason
-from sagas.definition import children, report_undos, serialization, tokens
+from sagas.definition import children, serialization, tokens, undo_sagas
 from sagas.definition.capacity import SHARD_CAPACITY
 from sagas.definition.compiled import CompiledDefinition
 from sagas.definition.labels import TOKEN
@@ -22,7 +22,7 @@ from sagas.definition.layout import ShapeValues
 from sagas.definition.start_options import StartOptions
 from sagas.definition.task import Task
 from sagas.definition.task_data import TaskSnapshot
-from sagas.definition.validation import meant
+from sagas.definition.arguments import meant
 from sagas.runtime import given_values, stored_values
 from sagas.storage import operator_requests
 
@@ -66,7 +66,7 @@ class UnusedReports:
         number = kind.names.index(step)
         rows = await coordinator.store.read(step_reports.EARLY, row.id, number, Action.RUN.value)
         reason, text = rows[0] if rows else (None, None)
-        if reason == EarlyReason.UNDONE and report_undos.fault(kind.steps[number]) is None:
+        if reason == EarlyReason.UNDONE and undo_sagas.report_fault(kind.steps[number]) is None:
             return
         subject = f"saga {key!r}, step {step!r}"
         if reason != EarlyReason.RESULT:
@@ -82,7 +82,7 @@ class UnusedReports:
                 f"{subject}: this program does not have the definition. Ask one that has it, or "
                 "undo the step by hand, and resolve the saga"
             )
-        if fault := report_undos.fault(declared):
+        if fault := undo_sagas.report_fault(declared):
             raise StepNotWaiting(f"{subject}: {fault}. Undo it by hand, and resolve the saga")
         saga = coordinator.registry.report_undo(kind.saga, declared)
         input = await self._input(row, known, kind, number, text or "null")

@@ -38,9 +38,9 @@ from sagas.api.worker_task import (
     step_name,
 )
 from sagas.base.errors import DefinitionError
-from sagas.definition import tracing, validation
+from sagas.definition import step as step_module, tracing
 from sagas.definition.task_data import Context
-from sagas.definition.step import UNKNOWN, Unknowns
+from sagas.definition.call_options import UNKNOWN, Unknowns
 from sagas.definition.task import Task
 
 logger = logging.getLogger("sagas.worker")
@@ -166,8 +166,8 @@ class Worker:
             existing = self._steps.get(step)
             if existing is not None:
                 locations = (
-                    f"{validation.location_of(function) or '?'} and "
-                    f"{validation.location_of(existing.function) or '?'}"
+                    f"{step_module.location_of(function) or '?'} and "
+                    f"{step_module.location_of(existing.function) or '?'}"
                 )
                 raise DefinitionError(
                     f"{step} is declared twice, at {locations}. Remove one of them"

@@ -18,7 +18,7 @@ from sagas.definition import awaitables, serialization, task_data
 from sagas.definition.task_data import Context, TaskSnapshot
 from sagas.definition.arguments import shown
 from sagas.definition.task import RemoteStepLocation, Task
-from sagas.definition.step import Unknowns
+from sagas.definition.call_options import Unknowns
 from sagas.definition.tracing import Tracer
 
 logger = logging.getLogger("sagas.worker")

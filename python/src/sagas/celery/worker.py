@@ -20,7 +20,8 @@ from sagas.definition import awaitables, children, decoders, serialization, toke
 from sagas.definition.compiled import CompiledDefinition
 from sagas.definition.task import StepLocation, Task
 from sagas.definition.layout import ShapeValues
-from sagas.definition.step import Function, Manner, Step
+from sagas.definition.call_options import Function, Manner
+from sagas.definition.step import Step
 from sagas.definition.task_data import TaskSnapshot
 
 if TYPE_CHECKING:

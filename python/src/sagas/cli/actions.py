@@ -21,7 +21,7 @@ from sagas.core.states import Suspension
 from sagas.definition import children
 from sagas.definition.payloads import ENVELOPE
 from sagas.definition.serialization import TOO_DEEP, is_deeper
-from sagas.definition.validation import meant
+from sagas.definition.arguments import meant
 from sagas.inspection import lists
 from sagas.inspection.names import step_names
 from sagas.inspection.views import Waits

@@ -11,7 +11,7 @@ from typing import Any
 from sagas.core.model import Attempt
 from sagas.core.suspensions import FunctionResult, FunctionOption, tenant_of
 from sagas.definition import serialization
-from sagas.definition.step import Until
+from sagas.definition.waits import Until
 from sagas.definition.task import Task
 
 

@@ -25,7 +25,8 @@ from sagas.definition.compiled import ActionKey
 from sagas.definition.serialization import Decoder
 from sagas.definition.payloads import ABSENT
 from sagas.definition.task import StepLocation, Task
-from sagas.definition.step import Manner, Step
+from sagas.definition.call_options import Manner
+from sagas.definition.step import Step
 
 if TYPE_CHECKING:
     from sagas.core.batch import RequestRef

@@ -5,7 +5,7 @@ from __future__ import annotations
 from sagas.core.batch import OfferRow
 from sagas.core.model import Attempt
 from sagas.core.states import Action
-from sagas.definition import report_undos
+from sagas.definition import undo_sagas
 
 
 def task_name(saga: str, step: str, action: str) -> str:
@@ -20,7 +20,7 @@ def offered_task_name(attempt: Attempt) -> str:
     """
     saga = attempt.instance.kind.saga
     if saga is not None and saga.undoes is not None and saga.undoes_step is not None:
-        path = report_undos.path_of(saga.undoes, saga.undoes_step)
+        path = undo_sagas.declared_path(saga.undoes, saga.undoes_step)
         return task_name(saga.undoes.name, path or attempt.name, Action.COMPENSATE)
     undoes = attempt.instance.kind.undoes
     if undoes is not None:

@@ -7,7 +7,8 @@ from collections.abc import Sequence
 from sagas.core import protocol
 from sagas.core.batch import DefinitionRow
 from sagas.definition.capacity import MOST_ADDED
-from sagas.definition.compiled import CompiledDefinition, digest_of
+from sagas.definition.compiled import CompiledDefinition
+from sagas.definition.definition_text import digest_of
 
 
 class ShardDefinitions:

@@ -7,7 +7,7 @@ from typing import Any, Protocol
 
 from sagas.base.errors import ShardLost
 from sagas.core.model import Attempt
-from sagas.definition.step import Function
+from sagas.definition.call_options import Function
 from sagas.definition.task import Task
 
 TakeConnection = Callable[[], Any]

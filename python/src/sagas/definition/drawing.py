@@ -7,9 +7,8 @@ import re
 from collections import Counter
 from collections.abc import Collection, Iterable, Sequence
 
-from sagas.definition import shape_text
-from sagas.definition.joins import ENDING
-from sagas.definition.layout import StepOrigin, parse_origin
+from sagas.definition import definition_text
+from sagas.definition.layout import JOIN_ENDING, StepOrigin, parse_origin
 
 ALL = "*"
 """The name that unfolds every group."""
@@ -88,7 +87,7 @@ class Groups:
     @classmethod
     def read(cls, text: str) -> Groups:
         """Return the groups of a definition, given its text."""
-        listed = shape_text.steps(text) if shape_text.is_shaped(text) else []
+        listed = definition_text.shaped_steps(text) if definition_text.is_shaped(text) else []
         return cls([parse_origin(step["of"]) for step in listed])
 
     def _outer(self, name: str) -> Group | None:
@@ -102,8 +101,8 @@ class Groups:
     def _add_joins(self) -> None:
         """Add the joining step that follows a group to the group."""
         for number, origin in enumerate(self.origins):
-            joined = StepOrigin(origin.scope, origin.name.removesuffix(ENDING)).declared
-            if origin.name.endswith(ENDING) and joined in self.by_name:
+            joined = StepOrigin(origin.scope, origin.name.removesuffix(JOIN_ENDING)).declared
+            if origin.name.endswith(JOIN_ENDING) and joined in self.by_name:
                 self._of[number].append(self.by_name[joined])
 
     def of(self, step: int) -> list[Group]:

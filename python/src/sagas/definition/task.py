@@ -10,10 +10,9 @@ from typing import Any, Generic, Protocol, TYPE_CHECKING, TypeVar, overload
 
 from sagas.base.errors import CannotDecode, ResultNotSerializable, StepFailed
 from sagas.definition import serialization, tokens, type_checks
-from sagas.definition.collection import Collection, of_names
 from sagas.definition.layout import Layout, RemoteLayout, Scope, ShapeValues, StepOrigin
-from sagas.definition.selection import Selection
 from sagas.definition.serialization import Decoder
+from sagas.definition.step import Collection, Selection, collected_of
 from sagas.definition.task_data import Cancellation, Progress, TaskData, TaskSnapshot, snapshot
 
 if TYPE_CHECKING:
@@ -324,7 +323,7 @@ class Task(Generic[I]):
         if location is None:
             return self._result(step if isinstance(step, str) else step.path[0])
         if isinstance(step, Collection):
-            return of_names(location.gather(step, str), self._result)
+            return collected_of(location.gather(step, str), self._result)
         return location.gather(step, self._result)
 
     def _result(self, name: str) -> Any:
@@ -666,3 +665,41 @@ class RemoteStepLocation(StepLocation):
     def given(self, data: TaskData) -> Any:
         """Return the value that the service computed: a new object at each call."""
         return serialization.read(self._given)
+
+
+class Fan:
+    """Find the steps of a declared step in one saga.
+
+    Args:
+        layout: The layout of the definition, or None if the saga has fixed steps.
+        text: The stored values of the saga's shape, or None. It is parsed at the first use.
+    """
+
+    __slots__ = ("_layout", "_text", "_values")
+
+    def __init__(self, layout: Layout | None, text: str | None = None) -> None:
+        self._layout, self._text = layout, text
+        self._values: ShapeValues | None = None
+
+    def gather(self, step: Selection[Any] | str, value_of: Callable[[str], Any]) -> Any:
+        """Return the values of the steps that are selected, as `Layout.gather` does.
+
+        Args:
+            step: The declared step, or its name.
+            value_of: Returns the value of a step, given its name.
+
+        Raises:
+            KeyError: The saga has no such step.
+        """
+        layout, name = self._layout, step if isinstance(step, str) else step.path[0]
+        if layout is None and getattr(step, "for_each", None) is not None:
+            raise KeyError(f"the items of {step!r} are not known here. Name one: {name}-0")
+        if layout is None or name in layout.origins:
+            return value_of(name)
+        path = (step,) if isinstance(step, str) else step.path
+        if self._values is None:
+            self._values = ShapeValues() if self._text is None else ShapeValues.read(self._text)
+        return layout.gather((), path, self._values, value_of)
+
+
+FIXED = Fan(None)

@@ -4,7 +4,7 @@ from __future__ import annotations
 
 from collections.abc import Iterable
 
-from sagas.definition import listed_steps
+from sagas.definition import definition_text
 from sagas.definition.drawing import Groups
 from sagas.inspection.question import Query, Question
 from sagas.storage.queries import OF_SHARD as OF_SHARD
@@ -51,7 +51,7 @@ class Names:
 
 def step_names(definition: str) -> list[str]:
     """Return the names of a definition's steps."""
-    return [step.name for step in listed_steps.of(definition)]
+    return [step.name for step in definition_text.listed_steps(definition)]
 
 
 def of_digests(digests: Iterable[str]) -> Question[Names]:

@@ -6,7 +6,7 @@ import dataclasses
 from typing import Any, Optional
 
 from sagas.core.results import Summary
-from sagas.definition import arguments, labels as labels_module, validation
+from sagas.definition import arguments, labels as labels_module
 from sagas.definition.labels import Labels
 from sagas.inspection.lists import SUMMARY, summary_of
 from sagas.inspection.question import Query, Question
@@ -37,7 +37,7 @@ def check(phase: str | None, after: object, limit: int) -> None:
     """Raise `ValueError` or `TypeError` if the arguments of a page are invalid."""
     if phase is not None and phase not in PHASES:
         raise ValueError(f"phase={phase!r}: must be one of {', '.join(PHASES)}")
-    if not (after is None or isinstance(after, Summary) or validation.is_count(after)):
+    if not (after is None or isinstance(after, Summary) or arguments.is_count(after)):
         raise TypeError(
             f"after={after!r}: must be the last saga of the previous page: list(after=page[-1])"
         )

@@ -5,8 +5,8 @@ from __future__ import annotations
 from collections.abc import Iterable
 
 from sagas.definition.labels import TOKEN
-from sagas.definition.shape_text import OF
-from sagas.definition.validation import meant
+from sagas.definition.definition_text import OF
+from sagas.definition.arguments import meant
 from sagas.inspection.names import Names
 from sagas.inspection.question import Query, Question
 from sagas.storage.filters import EVERYTHING, Filter

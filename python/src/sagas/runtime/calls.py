@@ -20,7 +20,7 @@ from sagas.core.model import QUEUED, RUNNING, Attempt, SagaInstance, finish_all,
 from sagas.core.outcomes import Outcome
 from sagas.definition import awaitables
 from sagas.definition.payloads import BlobUnavailable
-from sagas.definition.step import Manner
+from sagas.definition.call_options import Manner
 from sagas.definition.tracing import Tracer
 from sagas.runtime import invocation
 from sagas.runtime.acknowledgements import Acknowledgements

@@ -19,7 +19,7 @@ from sagas.core.model import Attempt
 from sagas.core.outcomes import Outcome
 from sagas.core.step_transactions import StepTransactions
 from sagas.definition import awaitables
-from sagas.definition.step import Function
+from sagas.definition.call_options import Function
 from sagas.definition.task import Task
 from sagas.runtime import invocation
 from sagas.runtime.current_step import CALLED

@@ -20,7 +20,7 @@ from sagas.core.suspensions import Lease
 from sagas.definition.payloads import BlobUnavailable
 from sagas.definition.compiled import CompiledDefinition
 from sagas.definition.task_data import Progress, TaskSnapshot
-from sagas.definition import compensation_task, report_undos, shape_validation, undo_text
+from sagas.definition import definition_text, step as step_module, undo_sagas
 from sagas.definition.layout import ShapeValues
 from sagas.definition.task import Task
 from sagas.runtime import given_values
@@ -79,7 +79,7 @@ class ExternalQueue(ExternalReports):
     async def open(self) -> None:
         """Read the secret that signs leases. Raises `StoreUnavailable`."""
         for saga in self.coordinator.registry.sagas.values():
-            for pattern in shape_validation.patterns(saga):
+            for pattern in step_module.patterns(saga):
                 step = pattern.step
                 if step.concurrency is not None:
                     self._limited.add(task_name(saga.name, pattern.path, "run"))
@@ -336,10 +336,10 @@ class ExternalQueue(ExternalReports):
             attempt=task.attempt,
         )
         if kind.saga is not None and kind.saga.undoes_step is not None:
-            task = report_undos.compensation(task, kind.saga)
+            task = undo_sagas.report_task(task, kind.saga)
         elif kind.undoes is not None:
-            sees = undo_text.sees_of(kind.text).get(task.step, ())
-            task = compensation_task.of(task, kind.undoes, sees)
+            sees = definition_text.sees_of(kind.text).get(task.step, ())
+            task = undo_sagas.compensation_task(task, kind.undoes, sees)
         lease = self._signer.issue(claim.attempt, claim.lease, holder)
         try:
             given_text = given_values.text_of(task)

@@ -16,8 +16,8 @@ from sagas.base.errors import CannotDecode, Fail
 from sagas.core import outcomes
 from sagas.core.outcomes import Outcome, Unawaited
 from sagas.definition import awaitables
-from sagas.definition.approvals import answering
-from sagas.definition.step import Manner
+from sagas.definition.waits import answering
+from sagas.definition.call_options import Manner
 from sagas.definition.task import Task
 from sagas.runtime import current_step
 

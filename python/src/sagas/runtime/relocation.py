@@ -10,7 +10,7 @@ from sagas.base.errors import KeyConflict, SagaMoved, SagasError
 from sagas.core.batch import Batch, LoadedShard, SagaRow
 from sagas.core.model import SagaInstance
 from sagas.core.shard import ShardDriver
-from sagas.definition import input_equality, type_checks
+from sagas.definition import compiled, type_checks
 from sagas.definition.payloads import PLAIN, Payloads, Reference
 from sagas.runtime.commit_queue import CommitQueue
 from sagas.runtime.executor import Executor
@@ -57,7 +57,7 @@ def conflict(
                 return None
             return KeyConflict(f"key {key!r} belongs to a saga with another input. Use another key")
         stored_input = stored.decode(stored_input)
-    if stored_input != text and (differ := input_equality.differences(kind, stored_input, text)):
+    if stored_input != text and (differ := compiled.input_differences(kind, stored_input, text)):
         paths = type_checks.joined_paths(differ)
         return KeyConflict(
             f"key {key!r} belongs to a saga with another input, which differs at {paths}. "

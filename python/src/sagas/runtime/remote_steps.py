@@ -19,7 +19,8 @@ from sagas.definition.payloads import ABSENT
 if TYPE_CHECKING:
     from sagas.core.model import Attempt
     from sagas.definition.saga import Saga
-    from sagas.definition.step import Manner, RemoteQueue, Step
+    from sagas.definition.call_options import Manner, RemoteQueue
+    from sagas.definition.step import Step
     from sagas.runtime.executor_host import ExternalTasks
     from sagas.storage.interface import Database
 

@@ -14,7 +14,7 @@ from starlette.responses import Response
 from starlette.routing import Route
 
 from sagas.base.errors import SagasError
-from sagas.definition.validation import meant
+from sagas.definition.arguments import meant
 from sagas.server import json_texts, problems
 from sagas.server.access import authorize, body_of, check_capacity, service_of, unslashed
 from sagas.server.auth import ANONYMOUS, Permission, Principal

@@ -31,12 +31,12 @@ from sagas.core.shard import MAX_CLAIMS, ShardDriver, ShardIdentity
 from sagas.core.shard_definitions import ShardDefinitions
 from sagas.core.states import Action, OutcomeKind, SagaPhase, Suspension, saga_phase, step_state
 from sagas.core.suspensions import SuspensionRow
-from sagas.definition import serialization, shape_text, tokens, undo_sagas
+from sagas.definition import serialization, tokens, undo_sagas
 from sagas.definition.children import undoes_child
 from sagas.definition.compiled import CompiledDefinition
 from sagas.definition.payloads import Payloads
 from sagas.definition.saga import Saga
-from sagas.definition.shape import Shape
+from sagas.definition.shape import Shape, write_definition
 from sagas.definition.start_options import StartOptions, deadline_at
 from sagas.definition.task_data import Context
 from sagas.runtime import invocation
@@ -490,7 +490,7 @@ class Family:
         text, values = serialization.write_value(input, "input"), None
         if saga.is_shaped:
             shape = Shape(saga, text)
-            definition, values = shape_text.write(shape), self._payloads.encode(shape.values.text())
+            definition, values = write_definition(shape), self._payloads.encode(shape.values.text())
         else:
             definition = saga.toml()
         kind = CompiledDefinition(definition, saga, self._context, self._payloads)

@@ -9,7 +9,7 @@ from typing import Any
 from sagas.core.outcomes import FAILED, PERMANENT, SUCCEEDED
 from sagas.core.results import EndQueries
 from sagas.definition.task_data import Progress
-from sagas.definition.layout import FIXED, Fan
+from sagas.definition.task import FIXED, Fan
 
 
 class Clock:

@@ -25,7 +25,7 @@ from sagas.core import undo_check
 from sagas.core.batch import ShardRow
 from sagas.core.undo_check import CompletedChild
 from sagas.definition.capacity import SHARD_CAPACITY
-from sagas.definition.compiled import version_of
+from sagas.definition.definition_text import version_of
 from sagas.storage.codec_note import NOTED, missing
 from sagas.storage.postgresql import codec_note, notifications
 from sagas.storage.postgresql.codec_note import ALLOWS
