@@ -4,7 +4,7 @@ from __future__ import annotations
 
 import json
 from collections.abc import Callable, Mapping
-from typing import Any, Protocol, TYPE_CHECKING
+from typing import Any, TYPE_CHECKING
 
 import tomllib
 
@@ -368,17 +368,10 @@ class CompiledDefinition:
 # -- equality of two inputs
 
 
-class HasSteps(Protocol):
-    """A saga, or a compiled definition."""
+def input_differences(definition: CompiledDefinition | Saga, first: str, second: str) -> list[str]:
+    """Return the paths of the values in which two inputs differ, under their present types.
 
-    @property
-    def steps(self) -> list[Step[Any]] | list[Step[Any] | None]:
-        ...
-
-
-def input_differences(definition: HasSteps, first: str, second: str) -> list[str]:
-    """Return the paths of the values in which two inputs differ.
-
+    A stored input may be older than a field of its type, so it is decoded before it is compared.
     The list is empty if the decoders of all functions make equal values of both inputs. If some
     function reads the input without a type, fields that no type declares are compared as well. If
     a decoder fails, the inputs are compared as JSON.
@@ -404,7 +397,7 @@ def input_differences(definition: HasSteps, first: str, second: str) -> list[str
     return list(paths)
 
 
-def _input_readers(definition: HasSteps) -> tuple[list[Decoder], bool]:
+def _input_readers(definition: CompiledDefinition | Saga) -> tuple[list[Decoder], bool]:
     """Return the decoders of the functions' inputs, and whether each function has one."""
     by_hint: dict[Any, Decoder] = {}
     is_complete = True

@@ -584,7 +584,7 @@ class Declaration:
             self._costs[step] = [(name, cost) for name, cost in costs if callable(cost)]
         return self._costs[step]
 
-    # -- the protocol `place.ScopeReader`
+    # -- of a scope
 
     def saga(self, scope: Scope) -> str:
         """Return the name of the saga in a scope."""

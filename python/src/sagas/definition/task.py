@@ -5,18 +5,17 @@ from __future__ import annotations
 import contextlib
 import dataclasses
 import datetime
-from collections.abc import Callable, Iterator, Mapping, Sequence
-from typing import Any, Generic, Protocol, TYPE_CHECKING, TypeVar, overload
+from collections.abc import Callable, Iterator, Mapping
+from typing import Any, Generic, TYPE_CHECKING, TypeVar, overload
 
 from sagas.base.errors import CannotDecode, ResultNotSerializable, StepFailed
 from sagas.definition import serialization, tokens, type_checks
-from sagas.definition.layout import Layout, RemoteLayout, Scope, ShapeValues, StepOrigin
-from sagas.definition.serialization import Decoder
+from sagas.definition.layout import Layout, RemoteLayout, ShapeValues, StepOrigin
 from sagas.definition.step import Collection, Selection, collected_of
 from sagas.definition.task_data import Cancellation, Progress, TaskData, TaskSnapshot, snapshot
 
 if TYPE_CHECKING:
-    from sagas.definition.saga import Saga
+    from sagas.definition.shape import Declaration
 
 I = TypeVar("I")
 R = TypeVar("R")
@@ -445,31 +444,6 @@ NO_ITEM = {"index": None, "item_key": None, "item": None}
 """The item of a step that has none, as a worker outside of the store gets it."""
 
 
-class ScopeReader(Protocol):
-    """The declared names, decoders and functions of a saga's scopes.
-
-    Attributes:
-        root: The saga, or None if the program does not have it.
-    """
-
-    root: Saga | None
-
-    def saga(self, scope: Scope) -> str:
-        """Return the name of the saga in a scope."""
-
-    def input(self, scope: Scope) -> Decoder | None:
-        """Return the decoder of the input of the saga in a scope."""
-
-    def item(self, origin: StepOrigin) -> Decoder | None:
-        """Return the decoder of the items of a step, or of an inclusion."""
-
-    def fan_outs(self, scope: Scope) -> Sequence[str]:
-        """Return the names of the fan-outs of the saga in a scope."""
-
-    def given(self, scope: Scope) -> Callable[[Any], Any] | None:
-        """Return the function `given=` of the inclusion of a scope, or None."""
-
-
 class StepLocation:
     """The location of one step in one saga. It reads the values that the step may see.
 
@@ -479,23 +453,23 @@ class StepLocation:
         values: The stored values of the saga's shape.
     """
 
-    __slots__ = ("origin", "layout", "values", "_reader", "_input")
+    __slots__ = ("origin", "layout", "values", "_declared", "_input")
 
     def __init__(
         self,
         origin: StepOrigin,
         layout: Layout,
         values: ShapeValues,
-        reader: ScopeReader,
+        declared: Declaration,
         input: str,
     ) -> None:
         self.origin, self.layout, self.values = origin, layout, values
-        self._reader, self._input = reader, input
+        self._declared, self._input = declared, input
 
     @property
     def saga(self) -> str:
         """The name of the saga that declares the step."""
-        return self._reader.saga(self.origin.scope)
+        return self._declared.saga(self.origin.scope)
 
     @property
     def index(self) -> int | str | None:
@@ -509,7 +483,7 @@ class StepLocation:
 
     def item(self) -> Any:
         """Return its item. Errors of the item's type pass through."""
-        return self.values.item(self.origin, self._reader.item(self.origin))
+        return self.values.item(self.origin, self._declared.item(self.origin))
 
     @property
     def plain(self) -> dict[str, Any]:
@@ -539,7 +513,7 @@ class StepLocation:
 
         Each is a pair: the declared name, and a list, or a dict by the keys of the items.
         """
-        for name in self._reader.fan_outs(self.origin.scope):
+        for name in self._declared.fan_outs(self.origin.scope):
             with contextlib.suppress(KeyError):
                 yield name, self.gather(name, lambda step: serialization.read(texts[step]))
 
@@ -574,7 +548,7 @@ class StepLocation:
     @property
     def lacks_given(self) -> bool:
         """Whether the definition has a function `given=` that this program does not have."""
-        return self._reader.root is None and self.layout.gives(self.origin.scope)
+        return self._declared.root is None and self.layout.gives(self.origin.scope)
 
     def given(self, data: TaskData) -> Any:
         """Return the result of `given=`, called with the task of the including saga.
@@ -587,16 +561,16 @@ class StepLocation:
         """
 
         scope = self.origin.scope
-        function = self._reader.given(scope) if scope else None
+        function = self._declared.given(scope) if scope else None
         if function is None:
             return None
         outer = StepOrigin(scope[:-1], *scope[-1])
-        location = StepLocation(outer, self.layout, self.values, self._reader, self._input)
+        location = StepLocation(outer, self.layout, self.values, self._declared, self._input)
         outer_data = dataclasses.replace(
             snapshot(data),
             location=location,
             input=location.input,
-            hint=self._reader.input(outer.scope),
+            hint=self._declared.input(outer.scope),
         )
         return function(Task(outer_data))
 

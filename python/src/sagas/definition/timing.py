@@ -21,9 +21,6 @@ from zoneinfo import ZoneInfo, ZoneInfoNotFoundError
 from sagas.base.errors import InvalidSchedule
 from sagas.definition.arguments import BELOW, shown
 
-# -- cron expressions
-
-
 MINUTE, DAY = datetime.timedelta(minutes=1), datetime.timedelta(days=1)
 MOST_DAYS = 366 * 8 + 1
 """Days in which the next time is searched: a 29th of February may be eight years away."""

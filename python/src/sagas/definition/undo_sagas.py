@@ -1,4 +1,8 @@
-"""Sagas that call compensations: to undo a completed child, or an unused report."""
+"""Sagas that call compensations: to undo a completed child, or an unused report.
+
+An unused report is that of a step that did not start before its saga ended. The saga that undoes it
+has one step, which calls the compensation. Its input has the data of the compensation's task.
+"""
 
 from __future__ import annotations
 
@@ -18,9 +22,6 @@ from sagas.definition.serialization import Decoder
 from sagas.definition.step import Step, is_compensated, saga_error, step_error
 from sagas.definition.task import RemoteStepLocation, Task
 from sagas.definition.task_data import TaskSnapshot
-
-# -- of children
-
 
 def undo_saga(child: Saga) -> Saga | None:
     """Return the saga that undoes a completed child, by its present definition.

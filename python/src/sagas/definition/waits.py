@@ -47,7 +47,6 @@ class ChildSteps:
         undoes_step: The step whose unused report it undoes, or None.
         undo_text: Its definition as a text if it undoes another saga.
         has_children: Whether a step starts another saga.
-        is_shaped: Whether its steps come from its input.
     """
 
     name: str
@@ -56,7 +55,11 @@ class ChildSteps:
     undoes_step: Step[Any] | None = None
     undo_text: str = ""
     has_children: bool = False
-    is_shaped: bool
+
+    @property
+    def is_shaped(self) -> bool:
+        """Whether its steps come from its input."""
+        raise NotImplementedError
 
     @overload
     def child(
