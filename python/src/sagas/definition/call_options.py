@@ -43,7 +43,6 @@ MOST_COST, MOST_TRIES = 1_000_000_000, 9
 
 def is_cost(value: object) -> bool:
     """Return whether a value is a valid cost: a number in the range, or `NEVER`."""
-
     return value is NEVER or (is_count(value) and 0 <= value <= MOST_COST)  # type: ignore[operator]
 
 

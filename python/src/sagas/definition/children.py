@@ -8,7 +8,7 @@ from typing import Any, TYPE_CHECKING, TypedDict
 from sagas.base.errors import InvalidKey, NotAbortable
 from sagas.definition import arguments, decoders
 from sagas.definition.arguments import BELOW
-from sagas.definition.definition_text import Compensation, ListedStep
+from sagas.definition.definition_text import Compensation, ListedStep, MOST_NAME
 from sagas.definition.serialization import Decoder
 
 if TYPE_CHECKING:
@@ -17,7 +17,6 @@ if TYPE_CHECKING:
 
 UNDO = ":undo"
 """The ending of the key of a saga that undoes a child."""
-MOST_NAME = 32
 NUMBERS = 4
 """Characters of a key that are reserved for the number of a repeated child."""
 

@@ -161,6 +161,7 @@ def shaped_steps(text: str) -> list[dict[str, Any]]:
 
 
 MOST_NAME = 32
+"""Maximum length of the name of a saga or of a step, in characters."""
 UNDO_ENDING = "-undo"
 UNDOES = re.compile(r"^# undoes (\S+)$", re.M)
 """The line of the head with the name of the child."""

@@ -654,7 +654,6 @@ if sys.version_info < (3, 11):  # pragma: no cover
 
 def fixed_text(saga: Saga) -> str:
     """Return the definition of a saga whose steps do not come from its input."""
-
     if saga.undo_text:
         return saga.undo_text
     lines = [f"# version {saga.version}"] if saga.version != 1 else []

@@ -505,7 +505,6 @@ def _cost_line(name: str, cost: Cost) -> str:
 
 def inclusions(saga: Saga, outer: str = "") -> Iterator[tuple[str, Inclusion]]:
     """Yield the inclusions of a saga and of its included sagas, each with its path."""
-
     for part in saga.parts:
         if isinstance(part, Inclusion):
             path = f"{outer}{part.name}"
@@ -665,7 +664,6 @@ def item_decoder(part: Part) -> Decoder | None:
 
 def _item_hint(part: Part) -> Any:
     """Return the item's type: of the hint `ItemTask[..., T]`, else of `for_each`."""
-
     if isinstance(part, Step) and part.run.function:
         arguments = decoders.task_hints(part.run.function)
         if len(arguments) > 1:

@@ -395,7 +395,6 @@ def collect(step: FanOut[Any, R]) -> Collection[R]:
         >>> sagas.testing.run(batch, {"numbers": [2, 0]}).result_of(report)
         [{'0': 0.5}, {'1': 'ZeroDivisionError: division by zero'}]
     """
-
     if not isinstance(step, FanOut):
         raise DefinitionError(f"{caller(2)}: collect({step!r}): must be a step with for_each=")
     return Collection(step)
@@ -598,7 +597,6 @@ def is_compensated(step: Step[Any]) -> bool:
 
 def is_each(need: object) -> bool:
     """Return whether a need means only the step of the same item."""
-
     return isinstance(need, Each)
 
 
@@ -649,7 +647,6 @@ class Pattern(NamedTuple):
 
 def patterns(saga: Saga, prefix: str = "", path: str = "", where: str = "") -> Iterator[Pattern]:
     """Yield the patterns of a saga's steps and of those of included sagas."""
-
     for part in saga.parts:
         name = prefix + part.name + ("" if part.for_each is None else "-#")
         if isinstance(part, Inclusion):

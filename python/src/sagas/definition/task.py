@@ -559,7 +559,6 @@ class StepLocation:
         Returns:
             None if the inclusion has no `given=`.
         """
-
         scope = self.origin.scope
         function = self._declared.given(scope) if scope else None
         if function is None:

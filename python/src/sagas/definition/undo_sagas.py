@@ -23,6 +23,7 @@ from sagas.definition.step import Step, is_compensated, saga_error, step_error
 from sagas.definition.task import RemoteStepLocation, Task
 from sagas.definition.task_data import TaskSnapshot
 
+
 def undo_saga(child: Saga) -> Saga | None:
     """Return the saga that undoes a completed child, by its present definition.
 

@@ -11,6 +11,7 @@ from sagas.base.errors import DefinitionError
 from sagas.definition import arguments, children, decoders, definition_text
 from sagas.definition.arguments import is_count, meant
 from sagas.definition.call_options import Bounds, MOST_COST, NEVER, is_cost
+from sagas.definition.definition_text import MOST_NAME
 from sagas.definition.layout import JOIN_ENDING
 from sagas.definition.step import (
     Collection,
@@ -54,7 +55,6 @@ def check_name(saga: Saga) -> None:
 
 def check_step(step: Step[Any]) -> None:
     """Raise `DefinitionError` for errors that the declaration of a single step shows."""
-
     check_part_name(step)
     check_costs(step)
     check_part(step)
@@ -153,7 +153,6 @@ def check_bounds(step: Step[Any], bounds: Bounds) -> None:
 
 def check_needs(step: Part) -> None:
     """Raise `DefinitionError` if an entry of `needs` is not valid."""
-
     seen = set()
     for need in step._needs:
         if isinstance(need, Decorator):
@@ -226,7 +225,6 @@ def check_saga(saga: Saga) -> None:
 
 def check_compensation(step: Step[Any]) -> None:
     """Raise `DefinitionError` if a compensation that options need is missing."""
-
     undo = step._costs["undo"]
     if undo is not None and undo is not NEVER and not step.has_compensation:
         remedy = f"Declare @{step.name}.compensation, or set undo=0 if there is nothing to undo"
@@ -275,7 +273,7 @@ def _cycle(steps: list[Part]) -> list[Part]:
 # -- of sagas whose steps come from their input
 
 
-MOST_NAME, MOST_DEPTH = 32, 8
+MOST_DEPTH = 8
 MANY = "-1023"
 """The longest ending that the number of an item adds to a name."""
 
@@ -373,7 +371,6 @@ def _check_shaped_needs(saga: Saga, part: Part) -> None:
 
 def _joining_names(saga: Saga, prefix: str = "", where: str = "") -> Iterator[tuple[str, str]]:
     """Yield the possible names of joining steps, each with its file and line."""
-
     for part in saga.parts:
         outer_where = where or part.where
         if part.for_each is not None:
@@ -471,7 +468,6 @@ def _unread(saga: Saga) -> Iterator[str]:
 
 def _undoing_nothing(saga: Saga) -> Iterator[str]:
     """Yield a warning for each step with a cost `undo` whose child cannot be undone."""
-
     for step, child in children.children_of(saga):
         undo = step.declared_cost("undo")
         if not isinstance(undo, int) or not step.undo.implied or child.is_shaped:

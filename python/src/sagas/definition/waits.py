@@ -362,7 +362,6 @@ class WaitSteps(ChildSteps):
 
 def check_is_saga(saga: object) -> None:
     """Raise `DefinitionError` if an argument is not a saga."""
-
     if not isinstance(saga, ChildSteps):
         raise DefinitionError(f"expected a sagas.Saga, got {saga!r}")
 
