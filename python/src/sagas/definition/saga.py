@@ -645,10 +645,6 @@ class Saga(WaitSteps):
         return f"<saga {self.name}, version {self.version}, {number(len(self.steps), 'step')}>"
 
 
-if sys.version_info < (3, 11):  # pragma: no cover
-    raise ImportError("sagas needs Python 3.11 or later")
-
-
 # -- texts
 
 
@@ -703,3 +699,7 @@ def declared_text(saga: Saga) -> str:
 
 def _option_text(value: object) -> str:
     return "function" if callable(value) else repr(value)
+
+
+if sys.version_info < (3, 11):  # pragma: no cover
+    raise ImportError("sagas needs Python 3.11 or later")
