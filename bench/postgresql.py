@@ -509,7 +509,7 @@ def opening(server: Server, options: argparse.Namespace) -> None:
 
     The open sagas are in one shard, and in a hundred.
     """
-    import sagas.definition.shelf
+    import sagas.definition.registry
 
     async def opened(url: str) -> float:
         called: list[float] = []
@@ -528,10 +528,10 @@ def opening(server: Server, options: argparse.Namespace) -> None:
         return max(called)
 
     for room in (1000, 10):
-        setattr(sagas.definition.shelf, "SHARD_CAPACITY", 1000)
+        setattr(sagas.definition.registry, "SHARD_CAPACITY", 1000)
         url = server.create()
         asyncio.run(ended(url, max(2, int(100 * options.scale))))
-        setattr(sagas.definition.shelf, "SHARD_CAPACITY", room)
+        setattr(sagas.definition.registry, "SHARD_CAPACITY", room)
         asyncio.run(opened(url))
         times = []
         for _ in range(options.turns):
@@ -543,7 +543,7 @@ def opening(server: Server, options: argparse.Namespace) -> None:
             flush=True,
         )
         server.drop(url)
-        setattr(sagas.definition.shelf, "SHARD_CAPACITY", 1000)
+        setattr(sagas.definition.registry, "SHARD_CAPACITY", 1000)
 
 
 def prune(server: Server, options: argparse.Namespace) -> None:

@@ -352,7 +352,7 @@ def turn(way: str, failing: bool, count: int, together: int) -> Timing:
 
 MANY = """
 import asyncio, os, pathlib, signal, sys, time
-import sagas, sagas.definition.shelf
+import sagas, sagas.definition.registry
 
 path, count, each, again = sys.argv[1], int(sys.argv[2]), int(sys.argv[3]), sys.argv[4] == "again"
 began = time.perf_counter()
@@ -372,7 +372,7 @@ def memory(pid):
     return next(int(line.split()[1]) for line in text.splitlines() if line.startswith("Pss:"))
 
 async def main():
-    sagas.definition.shelf.SHARD_CAPACITY = each
+    sagas.definition.registry.SHARD_CAPACITY = each
     async with sagas.open(path, [saga]) as store:
         if not again:
             for begin in range(0, count, 500):

@@ -40,7 +40,7 @@ from features_shop import (
 from world import chance, is_unexpected
 
 import sagas
-import sagas.definition.shelf
+import sagas.definition.registry
 from sagas.core.deliveries import TYPES
 from sagas.server.webhooks import Webhook, Webhooks
 
@@ -329,7 +329,7 @@ if __name__ == "__main__":
     logging.basicConfig(level=logging.WARNING, format="%(asctime)s %(name)s %(message)s")
     logging.getLogger("sagas").addFilter(is_unexpected)
     settings = Settings.read(sys.argv[1])
-    setattr(sagas.definition.shelf, "SHARD_CAPACITY", 10)
+    setattr(sagas.definition.registry, "SHARD_CAPACITY", 10)
     if settings.wrong:
         features_wrong.VARIANTS[settings.wrong].apply()
     asyncio.run(Node(settings, sys.argv[2], int(sys.argv[3])).run())

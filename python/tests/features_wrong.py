@@ -16,9 +16,9 @@ from typing import Any
 import sagas
 from sagas.api.commands import Commands
 from sagas.core.outcomes import SUCCEEDED, Outcome
-from sagas.definition.context import Context
+from sagas.definition.task_data import Context
 from sagas.definition.payloads import Payloads
-from sagas.definition.shelf import DefinitionRegistry
+from sagas.definition.registry import DefinitionRegistry
 from sagas.definition.start_options import StartOptions
 from sagas.definition.task import Task
 from sagas.core.limits import Slots

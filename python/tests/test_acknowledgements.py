@@ -20,7 +20,7 @@ from sagas.core.attempt import Attempt
 from sagas.core.saga_instance import SagaInstance
 from sagas.core.shard import ShardDefinitions, ShardDriver, ShardIdentity
 from sagas.core.states import ShardState
-from sagas.definition.shelf import DefinitionRegistry
+from sagas.definition.registry import DefinitionRegistry
 from sagas.runtime.acknowledgements import Acknowledgements
 from sagas.storage.record_file import BEYOND, RecordFile, number
 

@@ -22,7 +22,7 @@ from driving import program
 from serving import FEW, report, served, start, take
 
 import sagas
-from sagas.definition.blobs import Reference
+from sagas.definition.payloads import Reference
 from sagas.storage import blob_layer
 from sagas.storage.postgresql import connections
 

@@ -24,7 +24,7 @@ from witness import notes_of, witness_at
 
 import sagas
 import sagas.testing
-from sagas.definition.control import Control
+from sagas.definition.task_data import Control
 
 
 def pair(long: Any, fails: Any, **options: Any) -> sagas.Saga:

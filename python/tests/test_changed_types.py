@@ -19,8 +19,8 @@ from cases import QUICK, Task, run, until
 
 import sagas
 from sagas.definition import decoders
-from sagas.definition.step import Manner
-from sagas.definition.task import TaskSnapshot
+from sagas.definition.call_options import Manner
+from sagas.definition.task_data import TaskSnapshot
 
 
 @dataclasses.dataclass

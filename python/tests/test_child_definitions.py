@@ -16,9 +16,9 @@ import sagas
 import sagas.testing
 from sagas.api import worker
 from sagas.cli import listings as listings_module
-from sagas.definition import definition_text, listed_steps, undo_sagas, undo_text
-from sagas.definition.context import Context
-from sagas.definition.shelf import DefinitionRegistry
+from sagas.definition import definition_text, undo_sagas
+from sagas.definition.task_data import Context
+from sagas.definition.registry import DefinitionRegistry
 from sagas.definition.start_options import StartOptions
 from sagas.server import json_views
 
@@ -324,7 +324,7 @@ def test_a_compensation_is_in_the_definition(location: str) -> None:
     assert (
         "\n# compensated\n" in had.toml()
         and "# compensated" not in has.toml()
-        and definition_text.declared(had) == had.toml()
+        and saga_module.declared_text(had) == had.toml()
     )
     older = had.toml().replace("# compensated\n", "")
     assert (
@@ -336,9 +336,10 @@ def test_a_compensation_is_in_the_definition(location: str) -> None:
     without = shaped.toml({"items": [1, 2]})
     shaped.steps[0].compensation(lambda task: None)
     text = shaped.toml({"items": [1, 2]})
-    assert [step.is_compensated for step in listed_steps.of(text)] == [True, True] and text.replace(
-        "# compensated\n", ""
-    ) == without
+    assert [step.is_compensated for step in definition_text.listed_steps(text)] == [
+        True,
+        True,
+    ] and text.replace("# compensated\n", "") == without
     saga, plain = sagas.Saga("plain"), sagas.Saga("plain")
     for one in saga, plain:
         one.approval(
@@ -379,10 +380,10 @@ def test_definitions_that_undo_children() -> None:
         ' sees x\nundo = "never"\nskip = 9\n\n[[step]]\nname = "x"\n# sees\nneeds = ["y"]\nundo'
         ' = "never"\nskip = 9\n'
     )
-    steps = undo_text.read(saga.toml())
+    steps = definition_text.read_compensations(saga.toml())
     assert (
-        undo_text.write("child", 3, steps) == saga.toml()
-        and undo_text.child_of(child.toml()) is None
+        definition_text.write_undo_definition("child", 3, steps) == saga.toml()
+        and definition_text.child_of(child.toml()) is None
     )
     older = "".join(
         line
@@ -404,7 +405,9 @@ def test_definitions_that_undo_children() -> None:
     )
     less = DefinitionRegistry(world.parent(world.child("x", version=3))).kind(saga.toml())
     assert less.lacks() == "step 'y' has no compensation in this program"
-    assert [(step.name, step.sees, step.tries) for step in undo_text.read(older)] == [
+    assert [
+        (step.name, step.sees, step.tries) for step in definition_text.read_compensations(older)
+    ] == [
         ("y", (), 1),
         ("x", (), 1),
     ]

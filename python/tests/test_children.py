@@ -539,7 +539,7 @@ def test_a_child_of_another_node(url: str) -> None:
 
 def test_children_stay_with_their_parents(location: str, monkeypatch: pytest.MonkeyPatch) -> None:
     """A finished child is not deleted as long as its parent is open."""
-    monkeypatch.setattr("sagas.definition.shelf.SHARD_CAPACITY", 1)
+    monkeypatch.setattr("sagas.definition.registry.SHARD_CAPACITY", 1)
     world = Slow(keep=0, undo=3)
 
     async def closed(store: sagas.Store, count: int) -> None:

@@ -17,7 +17,7 @@ from test_service_workers import working
 
 import sagas
 import sagas.testing
-from sagas.definition.task import TaskSnapshot
+from sagas.definition.task_data import TaskSnapshot
 
 
 class Clients:

@@ -90,7 +90,7 @@ def test_a_damaged_shard_is_set_aside(
     served, and new sagas are started. Once it is repaired, its sagas continue, if the program has
     their definitions; else after the next opening.
     """
-    monkeypatch.setattr("sagas.definition.shelf.SHARD_CAPACITY", 2)
+    monkeypatch.setattr("sagas.definition.registry.SHARD_CAPACITY", 2)
     monkeypatch.setattr("sagas.runtime.shard_runner.PAUSE_ASIDE", 0.3)
     kind, names = signed(), list[str]()
     text, why = DAMAGES[damage]
@@ -175,7 +175,7 @@ def test_a_damaged_shard_is_deleted(
     """It is exported before, while a program has the store open, and its keys are free again; a
     sound shard is not deleted.
     """
-    monkeypatch.setattr("sagas.definition.shelf.SHARD_CAPACITY", 2)
+    monkeypatch.setattr("sagas.definition.registry.SHARD_CAPACITY", 2)
     monkeypatch.setattr("sagas.runtime.shard_runner.PAUSE_ASIDE", 0.3)
     kind, names, owner = signed(), list[str](), location.replace("//app@", "//owner@")
 

@@ -304,7 +304,7 @@ def test_an_audit_is_killed(
     """It has reported nothing about the log, which is audited again, and is closed as a
     valid one.
     """
-    monkeypatch.setattr("sagas.definition.shelf.SHARD_CAPACITY", 2)
+    monkeypatch.setattr("sagas.definition.registry.SHARD_CAPACITY", 2)
     killed, once, event_names = tmp_path / "killed", tmp_path / "once", list[str]()
     killed.write_text(KILLED_ONCE.format(once=once, program=program()))
     killed.chmod(0o755)
@@ -1420,7 +1420,7 @@ def test_an_abort_of_a_saga_that_ends_is_answered(
     location: str, monkeypatch: pytest.MonkeyPatch
 ) -> None:
     """This holds also if its shard is closed in the meantime."""
-    monkeypatch.setattr("sagas.definition.shelf.SHARD_CAPACITY", 1)
+    monkeypatch.setattr("sagas.definition.registry.SHARD_CAPACITY", 1)
     jobs: list[asyncio.Task[bool]] = []
 
     async def main() -> None:
@@ -1442,7 +1442,7 @@ def test_closing_while_starts_wait(location: str, monkeypatch: pytest.MonkeyPatc
     """Sagas that wait for a log, and logs that wait for an engine, do not delay it: callers whose
     start was not acknowledged get Closed.
     """
-    monkeypatch.setattr("sagas.definition.shelf.SHARD_CAPACITY", 4)
+    monkeypatch.setattr("sagas.definition.registry.SHARD_CAPACITY", 4)
     saga = sagas.Saga("pair")
     begun, gate = asyncio.Event(), asyncio.Event()
 

@@ -25,7 +25,7 @@ from driving import program
 
 import sagas
 from sagas.core.batch import Grant
-from sagas.definition.step import Bounds
+from sagas.definition.call_options import Bounds
 from sagas.runtime import fleet_limits
 from sagas.storage.postgresql.limit_slots import LimitSlots
 

@@ -319,7 +319,7 @@ def test_a_wrong_guess_in_a_file(
     """Nothing of its log is written, by the loop as by the thread, and the other logs of that
     commit are; then all its sagas are started.
     """
-    monkeypatch.setattr("sagas.definition.shelf.SHARD_CAPACITY", 10)
+    monkeypatch.setattr("sagas.definition.registry.SHARD_CAPACITY", 10)
     monkeypatch.setattr(writer, "AT_ONCE", 60.0 if fast else 0.0)
     path, kind, lost = str(tmp_path / "store.db"), step(), set[int]()
     put = writer.Writer._put

@@ -121,7 +121,7 @@ def test_labels_leave_with_their_sagas(
     tmp_path: pathlib.Path, monkeypatch: pytest.MonkeyPatch
 ) -> None:
     """Their shard is exported with them before."""
-    monkeypatch.setattr("sagas.definition.shelf.SHARD_CAPACITY", 2)
+    monkeypatch.setattr("sagas.definition.registry.SHARD_CAPACITY", 2)
     path = str(tmp_path / "store.db")
 
     async def main() -> None:
@@ -292,7 +292,7 @@ BATCH = """
     sagas.cli.store_command.main([{path!r}, "abort", "--all", *words])
 """
 DRIVER = """
-    import asyncio, sagas, sagas.definition.shelf
+    import asyncio, sagas, sagas.definition.registry
     from test_command import signed
     async def main():
         async with sagas.open({path!r}, [kind := signed()], lease=2.0) as store:

@@ -33,7 +33,7 @@ def logs(url: str, monkeypatch: pytest.MonkeyPatch) -> list[int]:
     """Return logs of a node `me`, with sagas whose first step is over, at a whole second, and whose
     second one waits for an operator.
     """
-    monkeypatch.setattr("sagas.definition.shelf.SHARD_CAPACITY", ROOM)
+    monkeypatch.setattr("sagas.definition.registry.SHARD_CAPACITY", ROOM)
     kind, events = sagas.Saga("signed"), list[sagas.Event]()
 
     @kind.step

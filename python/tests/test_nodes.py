@@ -680,7 +680,7 @@ def test_a_node_past_its_lease_keeps_its_own_logs(
     """Another node has taken one of its two logs in the meantime: it ends the engines of both,
     releases that one, and continues with the other.
     """
-    monkeypatch.setattr("sagas.definition.shelf.SHARD_CAPACITY", 1)
+    monkeypatch.setattr("sagas.definition.registry.SHARD_CAPACITY", 1)
     gate, calls, events = asyncio.Event(), list[str](), list[tuple[str, str | None]]()
     kind = pair(gate, calls)
 
@@ -774,7 +774,7 @@ def test_new_sagas_go_to_a_log_of_the_nodes_own(url: str) -> None:
 
 def test_takeover_in_batches_skips_a_locked_log(url: str, monkeypatch: pytest.MonkeyPatch) -> None:
     """There are more logs than a batch takes; a locked one is left, and taken later."""
-    monkeypatch.setattr("sagas.definition.shelf.SHARD_CAPACITY", 1)
+    monkeypatch.setattr("sagas.definition.registry.SHARD_CAPACITY", 1)
     calls: list[str] = []
 
     async def main() -> None:
@@ -808,7 +808,7 @@ def test_a_node_renews_its_lease_between_batches(url: str, monkeypatch: pytest.M
     """It takes over the shards of another node, and has the functions of some: one batch for each
     heartbeat.
     """
-    monkeypatch.setattr("sagas.definition.shelf.SHARD_CAPACITY", 1)
+    monkeypatch.setattr("sagas.definition.registry.SHARD_CAPACITY", 1)
     monkeypatch.setattr(
         node_lease,
         "CANDIDATES",
@@ -1128,7 +1128,7 @@ def test_a_start_without_a_server_is_refused(url: str, monkeypatch: pytest.Monke
     """No number of a log is reserved, and none can be requested: the start fails as it does without
     a server, and no caller waits forever.
     """
-    monkeypatch.setattr("sagas.definition.shelf.SHARD_CAPACITY", 1)
+    monkeypatch.setattr("sagas.definition.registry.SHARD_CAPACITY", 1)
     kind = pair()
 
     async def main() -> None:

@@ -17,7 +17,7 @@ from hypothesis import HealthCheck, given, settings, strategies as st
 
 import sagas
 import sagas.testing
-from sagas.testing.engine import Engine
+from sagas.testing.simulation import Engine
 
 Task = sagas.Task[Any]
 Failures = dict[tuple[str, str], int]

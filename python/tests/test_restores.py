@@ -73,7 +73,7 @@ def test_a_backup_is_restored_under_a_running_node(
     the reason. Sagas that were open then end; later ones do not exist and can be started again,
     under other idempotency keys. No log has a gap.
     """
-    monkeypatch.setattr("sagas.definition.shelf.SHARD_CAPACITY", room)
+    monkeypatch.setattr("sagas.definition.registry.SHARD_CAPACITY", room)
     world = World()
     back_up, restore = (
         (postgresql.snapshot, postgresql.go_back)

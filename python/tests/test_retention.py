@@ -40,7 +40,7 @@ MONTH = 30 * 86400.0
 @pytest.fixture(autouse=True)
 def small(monkeypatch: pytest.MonkeyPatch) -> None:
     """Make logs of four sagas, so that some are full and closed."""
-    monkeypatch.setattr("sagas.definition.shelf.SHARD_CAPACITY", ROOM)
+    monkeypatch.setattr("sagas.definition.registry.SHARD_CAPACITY", ROOM)
 
 
 def shop() -> sagas.Saga:

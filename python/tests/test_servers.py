@@ -94,7 +94,7 @@ def test_an_asynchronous_standby_may_lack_the_last_commits(
     has what was acknowledged and lost; it is not allowed if a synchronous standby is claimed.
     """
     record = tmp_path / "record"
-    monkeypatch.setattr("sagas.definition.shelf.SHARD_CAPACITY", room)
+    monkeypatch.setattr("sagas.definition.registry.SHARD_CAPACITY", room)
     calls: Counter[tuple[str, str]] = Counter()
     keys_of: dict[str, set[str]] = defaultdict(set)
     late = asyncio.Event()
@@ -172,7 +172,7 @@ def test_a_log_that_is_about_to_be_closed(
     The saga in it, which is open on that server, continues; the log is closed once that saga is
     over there too.
     """
-    monkeypatch.setattr("sagas.definition.shelf.SHARD_CAPACITY", 1)
+    monkeypatch.setattr("sagas.definition.registry.SHARD_CAPACITY", 1)
     held = HeldAudits(tmp_path)
     monkeypatch.setenv("SAGAS_PROGRAM", str(held.program))
     calls: list[str] = []

@@ -36,7 +36,7 @@ from shaped import (
 
 import sagas
 from sagas.definition import serialization
-from sagas.definition.shelf import Fitted, DefinitionRegistry
+from sagas.definition.registry import DefinitionRegistry, Fitted
 
 
 def names(saga: sagas.Saga, input: Any) -> dict[str, list[str]]:

@@ -16,7 +16,7 @@ from cases import run
 from shaped import Hotel, Order, Package, Parcel, Trip, order, parcels, ship, trip
 
 import sagas
-from sagas.definition import shape_text
+from sagas.definition import definition_text
 from sagas.engine.plan import Plan
 
 many = sagas.Saga("many")
@@ -125,7 +125,9 @@ def is_closed(kept: set[str], needs: dict[str, list[str]]) -> bool:
 
 def least_of_all(plan: Plan) -> int:
     """Return the least cost of all plans, each of which is tried."""
-    needs = {one["name"]: one.get("needs", []) for one in shape_text.steps(plan.definition)}
+    needs = {
+        one["name"]: one.get("needs", []) for one in definition_text.shaped_steps(plan.definition)
+    }
     costs = {one.step: (one.cost_to_keep, one.cost_to_drop) for one in plan.choices}
     sums = []
     for word in itertools.product((True, False), repeat=len(costs)):

@@ -644,7 +644,7 @@ def test_full_logs_are_audited_and_closed(location: str, monkeypatch: pytest.Mon
     """New sagas go to the newest log until it is full; a finished one is audited once and marked
     closed, and then never again.
     """
-    monkeypatch.setattr("sagas.definition.shelf.SHARD_CAPACITY", 15)
+    monkeypatch.setattr("sagas.definition.registry.SHARD_CAPACITY", 15)
     saga, right, audits = row(), program.run, Counter[str]()
 
     def counting(
@@ -896,7 +896,7 @@ def lives(pid: int) -> bool:
 
 def test_few_children_for_many_logs(location: str, monkeypatch: pytest.MonkeyPatch) -> None:
     """Sagas in many logs share two engines, also after a restart."""
-    monkeypatch.setattr("sagas.definition.shelf.SHARD_CAPACITY", 7)
+    monkeypatch.setattr("sagas.definition.registry.SHARD_CAPACITY", 7)
     gate, most = asyncio.Event(), 0
     saga = row(gate)
     others = set(children(os.getpid()))  # servers that other tests use
@@ -934,7 +934,7 @@ def test_few_children_for_many_logs(location: str, monkeypatch: pytest.MonkeyPat
 
 def test_one_slot_for_many_logs(location: str, monkeypatch: pytest.MonkeyPatch) -> None:
     """Logs that find no slot are served when one is released unused, too: nothing hangs."""
-    monkeypatch.setattr("sagas.definition.shelf.SHARD_CAPACITY", 4)
+    monkeypatch.setattr("sagas.definition.registry.SHARD_CAPACITY", 4)
     saga = sagas.Saga("pair")
 
     @saga.step
@@ -976,7 +976,7 @@ def test_one_transaction_takes_what_all_logs_have(
     location: str, monkeypatch: pytest.MonkeyPatch
 ) -> None:
     """Steps end in eight logs while a commit is in progress: one more holds all of it."""
-    monkeypatch.setattr("sagas.definition.shelf.SHARD_CAPACITY", 2)
+    monkeypatch.setattr("sagas.definition.registry.SHARD_CAPACITY", 2)
     gate, far = asyncio.Event(), sagas.Saga("far")
     far.step(external=True, name="b")  # it stays open, so that no log is closed in the meantime
     calls: list[str] = []

@@ -25,7 +25,7 @@ from test_service_workers import ONE
 
 import sagas
 from sagas.cli.store_command import main
-from sagas.definition.groups import ALL, Groups
+from sagas.definition.drawing import ALL, Groups
 from sagas.inspection import layout, picture, saga as one_saga
 from sagas.inspection.picture import MAX_ITEMS as MOST_ITEMS, StepDisplay, boxes_of
 from sagas.inspection.question import StoreReader

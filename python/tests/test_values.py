@@ -20,7 +20,7 @@ from hypothesis import given, strategies as st
 
 import sagas
 from sagas.definition import decoders, serialization, type_checks
-from sagas.definition.mismatches import Mismatch
+from sagas.definition.type_checks import Mismatch
 
 JSON = st.recursive(
     st.none()

@@ -33,7 +33,7 @@ import psycopg
 from witness import Witness
 
 import sagas
-import sagas.definition.shelf
+import sagas.definition.registry
 from sagas.core import states
 
 states.Check.is_on = True
@@ -594,7 +594,7 @@ async def main(options: argparse.Namespace) -> None:
         package = "wrong_stores" if options.node else "wrong"
         importlib.import_module(f"{package}.{options.wrong}").apply()
     if options.small:
-        setattr(sagas.definition.shelf, "SHARD_CAPACITY", 10)
+        setattr(sagas.definition.registry, "SHARD_CAPACITY", 10)
     children = 2 if options.small else 16
     async with contextlib.AsyncExitStack() as stack:
 

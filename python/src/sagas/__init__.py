@@ -96,15 +96,12 @@ from sagas.core.results import (
     Summary,
     UnknownAttempt,
 )
-from sagas.definition.approvals import Approved, Rejected
-from sagas.definition.blobs import BlobStore
-from sagas.definition.collection import Collected, collect
-from sagas.definition.item_task import ItemTask
-from sagas.definition.parts import FanOut, FanOutInclusion, Inclusion
-from sagas.definition.payloads import Codec
+from sagas.definition.waits import Approved, Rejected
+from sagas.definition.payloads import BlobStore, Codec
+from sagas.definition.step import Collected, FanOut, FanOutInclusion, Inclusion, Step, collect
+from sagas.definition.task import ItemTask, Task
 from sagas.definition.saga import Saga
-from sagas.definition.step import NEVER, Backoff, Cost, Step
-from sagas.definition.task import Task
+from sagas.definition.call_options import Backoff, Cost, NEVER
 from sagas.engine.library import InvalidText, Verdict, audit, check, plan
 from sagas.engine.plan import Choice, Plan
 from sagas.runtime.leased_tasks import Heartbeat, LeasedTask, Queue

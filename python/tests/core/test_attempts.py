@@ -36,7 +36,7 @@ from sagas.core.attempt import Attempt, SuspensionRow
 from sagas.core.saga_instance import SagaInstance
 from sagas.core.outcomes import Outcome
 from sagas.core.states import AttemptState, EarlyReason, OutcomeKind, Suspension
-from sagas.definition.shelf import DefinitionRegistry
+from sagas.definition.registry import DefinitionRegistry
 
 NOW = 1000.0
 WAIT = sagas.Backoff(initial=10, maximum=100)

@@ -17,7 +17,7 @@ from sagas.core.attempt_machine import AttemptMachine, CALL, Decision, Do, REPOR
 from sagas.core.attempt import Attempt
 from sagas.core.saga_instance import SagaInstance
 from sagas.core.states import AttemptState, OutcomeKind, Suspension
-from sagas.definition.shelf import DefinitionRegistry
+from sagas.definition.registry import DefinitionRegistry
 
 
 @dataclasses.dataclass

@@ -20,7 +20,7 @@ from sagas.core.attempt_machine import (
 from sagas.core.attempt import Attempt
 from sagas.core.saga_instance import SagaInstance
 from sagas.core.states import OutcomeKind, Suspension
-from sagas.definition.shelf import DefinitionRegistry
+from sagas.definition.registry import DefinitionRegistry
 
 NOW = 1000.0
 WAIT = sagas.Backoff(initial=10, maximum=60)

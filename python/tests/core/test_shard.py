@@ -18,7 +18,7 @@ from sagas.core.attempt import Attempt, SuspensionRow
 from sagas.core.saga_instance import SagaInstance
 from sagas.core.shard import MAX_REPORTS, ShardDefinitions, ShardDriver, ShardIdentity
 from sagas.core.states import AttemptState, Check, IllegalTransition, ShardState, Suspension
-from sagas.definition.shelf import DefinitionRegistry
+from sagas.definition.registry import DefinitionRegistry
 from sagas.definition.start_options import StartOptions
 
 NUMBER, NOW = 7, 50.0

@@ -15,7 +15,7 @@ from sagas.core.attempt import Attempt
 from sagas.core.saga_instance import SagaInstance
 from sagas.core.outcomes import Outcome
 from sagas.core.states import AttemptState, OutcomeKind, Suspension
-from sagas.definition.shelf import DefinitionRegistry
+from sagas.definition.registry import DefinitionRegistry
 
 SAGA = sagas.Saga("one")
 

@@ -15,7 +15,7 @@ from sagas.core.attempt import Attempt, finish_all, start_all
 from sagas.core.saga_instance import SagaInstance
 from sagas.core.outcomes import succeeded
 from sagas.core.states import AttemptState, IllegalTransition, StepState, Suspension
-from sagas.definition.shelf import DefinitionRegistry
+from sagas.definition.registry import DefinitionRegistry
 
 TABLES: dict[type[enum.Enum], Any] = {
     AttemptState: states.ATTEMPT_TRANSITIONS,

@@ -6,7 +6,8 @@ import dataclasses
 from typing import Any
 
 from sagas.celery.worker import Work
-from sagas.definition.task import Task, snapshot
+from sagas.definition.task import Task
+from sagas.definition.task_data import snapshot
 from sagas.core.external_work import AttemptTexts, Order
 
 FINDS = "input"

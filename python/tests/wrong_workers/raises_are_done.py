@@ -4,7 +4,7 @@ from __future__ import annotations
 
 from sagas.core import outcomes
 from sagas.core.outcomes import Outcome
-from sagas.definition.step import Manner
+from sagas.definition.call_options import Manner
 
 FINDS = "no-effect"
 STRIKES = "run"

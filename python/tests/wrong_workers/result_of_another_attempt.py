@@ -6,7 +6,7 @@ from typing import Any
 
 from sagas.celery import worker
 from sagas.core.outcomes import Outcome
-from sagas.definition.step import Function, Manner
+from sagas.definition.call_options import Function, Manner
 from sagas.definition.task import Task
 
 FINDS = "not-called"

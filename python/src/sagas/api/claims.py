@@ -10,9 +10,10 @@ from sagas.api.store_access import StoreAccess
 from sagas.core import outcomes
 from sagas.core.deliveries import ENDS
 from sagas.core.outcomes import reported_outcome
+from sagas.definition.task_data import checked_progress
 from sagas.definition.compiled import Hooks
-from sagas.definition.control import checked
-from sagas.definition.shelf import DefinitionRegistry
+from sagas.definition.task_data import checked_progress as checked
+from sagas.definition.registry import DefinitionRegistry
 from sagas.runtime.leased_tasks import Heartbeat, LeasedTask, Queue, Word
 from sagas.storage import deliveries
 from sagas.storage.deliveries import Claimed, Posted
@@ -95,7 +96,7 @@ class Workers:
             StoreUnavailable: The database does not answer.
             Closed: The store is closed.
         """
-        reported_progress = None if progress is None else checked(progress, detail)
+        reported_progress = None if progress is None else checked_progress(progress, detail)
         external = self._access.coordinator.external
         return await external.heartbeat(attempt_id, lease, holder, seconds, reported_progress)
 

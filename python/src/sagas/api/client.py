@@ -19,11 +19,12 @@ from sagas.core import attention, history, reports, waits
 from sagas.core.batch import SagaRow, StoredSaga
 from sagas.core.outcomes import Outcome, reported_outcome
 from sagas.core.results import HistoryEvent, SagaResult
+from sagas.definition.payloads import MIN_THRESHOLD, Codec, Payloads
 from sagas.definition import arguments, children, payloads, serialization
-from sagas.definition.blobs import LEAST, BlobStore, check as check_blobs
-from sagas.definition.compiled import CompiledDefinition, version_of
+from sagas.definition.payloads import BlobStore, MIN_THRESHOLD as LEAST, check_blobs
+from sagas.definition.compiled import CompiledDefinition
+from sagas.definition.definition_text import version_of
 from sagas.definition.labels import Labels
-from sagas.definition.payloads import Codec, Payloads
 from sagas.definition.saga import Saga
 from sagas.definition.start_options import Deadline
 from sagas.definition.step import Step
@@ -111,9 +112,11 @@ class Client(SharedCalls):
         self._notifier: notifications.Notifications | None = None
         self._record = RecordFile.of(record_path(arguments.record(record)), secrets.token_hex(4))
         self._kinds: dict[str, CompiledDefinition] = {}
-        check_blobs(blobs, LEAST)
+        check_blobs(blobs, MIN_THRESHOLD)
         self._payloads = payloads.checked(codec)
-        self._blobs = Blobs(blobs, LEAST, self._payloads, self.path) if blobs is not None else None
+        self._blobs = (
+            Blobs(blobs, MIN_THRESHOLD, self._payloads, self.path) if blobs is not None else None
+        )
         self._sagas: dict[tuple[str, int], Saga] = {}
         self._starter = client_start.ClientStarter(
             self._asker, self.path, connections, self._payloads

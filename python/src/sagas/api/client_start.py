@@ -12,16 +12,17 @@ from weakref import WeakKeyDictionary, WeakSet
 import psycopg
 
 from sagas.base.errors import StoreUnavailable
+from sagas.definition import saga as saga_module, waits
 from sagas.definition import (
     arguments,
     children,
     definition_text,
     serialization,
-    shape_text,
+    shape,
     tracing,
     validation,
 )
-from sagas.definition.compiled import digest_of
+from sagas.definition.definition_text import digest_of
 from sagas.definition.labels import Labels, checked
 from sagas.definition.payloads import Payloads
 from sagas.definition.saga import Saga
@@ -180,7 +181,7 @@ def shape_check(saga: Saga, input: Any) -> Callable[[], object] | None:
     if not saga.is_shaped:
         return None
     plain = serialization.write_value(input, "input")
-    return lambda: shape_text.write(Shape(saga, plain))
+    return lambda: shape.write_definition(Shape(saga, plain))
 
 
 class ClientStarter:
@@ -211,11 +212,11 @@ class ClientStarter:
         """
         arguments.key(key)
         labels_text = json.dumps(dict(checked(labels)))
-        validation.check_given(saga)
+        waits.check_is_saga(saga)
         if saga.has_children:
             children.check_key(key, saga)
         if saga not in self._digests:  # its definition is whole by now
-            self._digests[saga] = digest_of(definition_text.declared(saga)) if saga.parts else None
+            self._digests[saga] = digest_of(saga_module.declared_text(saga)) if saga.parts else None
         request = {"key": key, "saga": saga.name, "version": saga.version, "of": saga}
         plain = serialization.write_value(input, "input")
         text = self._payloads.encode(plain)

@@ -30,16 +30,16 @@ from sagas.core.attempt import Attempt
 from sagas.core.saga_instance import SagaInstance
 from sagas.core.outcomes import SUCCEEDED, Outcome
 from sagas.core.states import Action, EarlyReason
-from sagas.definition import children, report_undos, serialization, tokens
+from sagas.definition import children, serialization, tokens, undo_sagas
 from sagas.definition.capacity import SHARD_CAPACITY
 from sagas.definition.compiled import ActionKey, CompiledDefinition
 from sagas.definition.labels import TOKEN
 from sagas.definition.payloads import Payloads
-from sagas.definition.shape_values import ShapeValues
+from sagas.definition.layout import ShapeValues
 from sagas.definition.start_options import StartOptions
 from sagas.definition.task import Task
 from sagas.definition.task_data import TaskSnapshot
-from sagas.definition.validation import meant
+from sagas.definition.arguments import meant
 from sagas.runtime import (
     invocation,
     leased_tasks,
@@ -448,7 +448,7 @@ class UnusedReports:
         number = kind.names.index(step)
         rows = await coordinator.store.read(reports.EARLY_QUERY, row.id, number, Action.RUN.value)
         reason, text = rows[0] if rows else (None, None)
-        if reason == EarlyReason.UNDONE and report_undos.fault(kind.steps[number]) is None:
+        if reason == EarlyReason.UNDONE and undo_sagas.report_fault(kind.steps[number]) is None:
             return
         subject = f"saga {key!r}, step {step!r}"
         if reason != EarlyReason.RESULT:
@@ -464,7 +464,7 @@ class UnusedReports:
                 f"{subject}: this program does not have the definition. Ask one that has it, or "
                 "undo the step by hand, and resolve the saga"
             )
-        if fault := report_undos.fault(declared):
+        if fault := undo_sagas.report_fault(declared):
             raise StepNotWaiting(f"{subject}: {fault}. Undo it by hand, and resolve the saga")
         saga = coordinator.registry.report_undo(kind.saga, declared)
         input = await self._input(row, known, kind, number, text or "null")

@@ -18,7 +18,7 @@ from sagas.definition import arguments, serialization
 from sagas.definition.labels import Labels, selecting
 from sagas.definition.payloads import Payloads
 from sagas.definition.saga import Saga
-from sagas.definition.shelf import DefinitionRegistry
+from sagas.definition.registry import DefinitionRegistry
 from sagas.definition.step import Step
 from sagas.inspection import lists
 from sagas.inspection.views import Waits

@@ -14,7 +14,7 @@ from sagas.base.errors import NoSuchSaga
 from sagas.core.batch import SagaRow
 from sagas.core.waits import active_attempts
 from sagas.core.results import ActiveAttempt, HistoryEvent, SagaResult, UnknownAttempt
-from sagas.definition import arguments, folded_drawing
+from sagas.definition import arguments, drawing
 from sagas.engine.plan import Plan
 from sagas.inspection import lists, saga as one_saga
 from sagas.inspection.question import AsyncStoreReader, Question
@@ -133,7 +133,7 @@ class Questions(SharedCalls):
         if (last_plan := await self._answer(one_saga.plan(row))) is not None:
             return await asyncio.to_thread(last_plan.draw, unfold=unfold)
         text = await self._answer(one_saga.definition(row.id))
-        return folded_drawing.fold(await asyncio.to_thread(program.draw, text), text, {*unfold})
+        return drawing.fold(await asyncio.to_thread(program.draw, text), text, {*unfold})
 
     async def audit(self) -> dict[str, str]:
         """Audit every shard, including shards that still grow.

@@ -44,9 +44,8 @@ from sagas.api.service_replies import (
 from sagas.base.errors import Closed, NoSuchSaga
 from sagas.core.waits import timeout_error
 from sagas.definition import arguments, tracing
-from sagas.definition.blobs import BlobStore
+from sagas.definition.payloads import BlobStore, Codec
 from sagas.definition.labels import Labels, checked
-from sagas.definition.payloads import Codec
 from sagas.definition.saga import Saga
 from sagas.definition.start_options import Deadline, deadline_at
 from sagas.definition.step import Step

@@ -26,9 +26,15 @@ from sagas.base.errors import (
 from sagas.base.events import Event
 from sagas.core.results import EndQueries
 from sagas.core.states import WAITS_FOR
-from sagas.definition.blobs import LEAST, BlobStore, Reference, check as check_blobs
-from sagas.definition.fan import FIXED, Fan
-from sagas.definition.payloads import Codec, checked
+from sagas.definition.payloads import (
+    BlobStore,
+    Codec,
+    MIN_THRESHOLD,
+    Reference,
+    check_blobs,
+    checked,
+)
+from sagas.definition.task import FIXED, Fan
 
 ERRORS: dict[str, type[SagasError]] = {
     kind.__name__: kind
@@ -193,7 +199,7 @@ class ServiceValues:
 
     def __init__(self, codec: Codec | None, blobs: BlobStore | None) -> None:
         """Make a reader. Raises `TypeError` if an argument has the wrong type."""
-        check_blobs(blobs, LEAST)
+        check_blobs(blobs, MIN_THRESHOLD)
         self._payloads, self._blobs = checked(codec, blobs is not None), blobs
 
     def saga(self, reply: Mapping[str, Any]) -> Mapping[str, Any]:

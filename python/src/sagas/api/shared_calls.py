@@ -17,7 +17,7 @@ from sagas.base.errors import StoreUnavailable
 from sagas.base.logger import logger
 from sagas.core.attention import Attention
 from sagas.core.results import DefinitionCount, Summary
-from sagas.definition import arguments, serialization, timing, validation
+from sagas.definition import arguments, serialization, timing, waits
 from sagas.definition.labels import Labels, checked, selecting
 from sagas.definition.payloads import Payloads
 from sagas.definition.saga import Saga
@@ -313,7 +313,7 @@ class SharedCalls:
             Closed: The store is closed.
         """
         timing.check_name(name)
-        validation.check_given(saga)
+        waits.check_is_saga(saga)
         times = timing.timing(cron, every, timezone, catch_up, max, overlap)
         labels_text = json.dumps(dict(checked(labels)))
         location, text = self._location(), serialization.write_value(input, "input")

@@ -26,15 +26,16 @@ from sagas.core import history
 from sagas.core.batch import SagaRow
 from sagas.core.saga_instance import SagaInstance
 from sagas.core.results import HistoryEvent, SagaResult
+from sagas.definition.payloads import Codec
 from sagas.definition import arguments, payloads, tracing
-from sagas.definition.blobs import BlobStore, check as check_blobs
+from sagas.definition.payloads import BlobStore, check_blobs
 from sagas.definition.compiled import CompiledDefinition
 from sagas.definition.labels import Labels
-from sagas.definition.payloads import Codec
 from sagas.definition.saga import Saga
-from sagas.definition.shelf import DefinitionRegistry
+from sagas.definition.registry import DefinitionRegistry
 from sagas.definition.start_options import Deadline, StartOptions
-from sagas.definition.step import Seconds, Step
+from sagas.definition.call_options import Seconds
+from sagas.definition.step import Step
 from sagas.engine.plan import Plan
 from sagas.inspection import saga as saga_questions, what_if
 from sagas.inspection.question import AsyncStoreReader

@@ -30,7 +30,7 @@ from sagas.definition.compiled import CompiledDefinition
 from sagas.definition.labels import Labels, checked, with_token
 from sagas.definition.payloads import ABSENT
 from sagas.definition.saga import Saga
-from sagas.definition.shelf import DefinitionRegistry, Fitted
+from sagas.definition.registry import DefinitionRegistry, Fitted
 from sagas.definition.start_options import Deadline, StartOptions, deadline_at
 from sagas.runtime import instances, invocation, stored_values
 from sagas.runtime.coordinator import Coordinator

@@ -12,9 +12,8 @@ from sagas.api import client_start
 from sagas.api.client import Client, ClientRun
 from sagas.api.loop_thread import Facade, Loop, blocking
 from sagas.core.results import SagaResult
-from sagas.definition.blobs import BlobStore
+from sagas.definition.payloads import BlobStore, Codec
 from sagas.definition.labels import Labels
-from sagas.definition.payloads import Codec
 from sagas.definition.saga import Saga
 from sagas.definition.start_options import Deadline
 from sagas.storage.postgresql import caller_connection

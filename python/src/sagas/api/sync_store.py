@@ -19,7 +19,7 @@ from sagas.definition.labels import Labels
 from sagas.definition.payloads import Codec
 from sagas.definition.saga import Saga
 from sagas.definition.start_options import Deadline
-from sagas.definition.step import Seconds
+from sagas.definition.call_options import Seconds
 
 P = ParamSpec("P")
 

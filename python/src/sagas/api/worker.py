@@ -34,13 +34,12 @@ from sagas.api.service_connection import REPEAT, ServiceConnection, ServiceRefus
 from sagas.base.errors import DefinitionError, NotSerializable
 from sagas.core import outcomes
 from sagas.core.states import OutcomeKind
-from sagas.definition import awaitables, context, serialization, tracing, validation
+from sagas.definition import step as step_module
+from sagas.definition import awaitables, serialization, task_data, tracing, validation
 from sagas.definition.arguments import shown
-from sagas.definition.context import Context
-from sagas.definition.place import RemoteStepLocation
-from sagas.definition.step import UNKNOWN, Unknowns
-from sagas.definition.task import Task
-from sagas.definition.task_data import TaskSnapshot
+from sagas.definition.task_data import Context, TaskSnapshot
+from sagas.definition.task import RemoteStepLocation, Task
+from sagas.definition.call_options import UNKNOWN, Unknowns
 from sagas.definition.tracing import Tracer
 
 logger = logging.getLogger("sagas.worker")
@@ -174,8 +173,8 @@ class Worker:
             existing = self._steps.get(step)
             if existing is not None:
                 locations = (
-                    f"{validation.location_of(function) or '?'} and "
-                    f"{validation.location_of(existing.function) or '?'}"
+                    f"{step_module.location_of(function) or '?'} and "
+                    f"{step_module.location_of(existing.function) or '?'}"
                 )
                 raise DefinitionError(
                     f"{step} is declared twice, at {locations}. Remove one of them"
@@ -473,12 +472,12 @@ def lifespan(source: Any, shared: Context) -> Iterator[None]:
 
     Raises `TypeError` if it is an async context manager, because threads have no event loop.
     """
-    if not context.is_factory(source):
+    if not task_data.is_context_factory(source):
         if source is not None:
             shared.put(source)
         yield
         return
-    manager = context.made(source)
+    manager = task_data.context_manager(source)
     if not isinstance(manager, contextlib.AbstractContextManager):
         raise TypeError(
             f"context={shown(source)}: returned {type(manager).__name__}, but a worker has no "

@@ -17,8 +17,8 @@ from sagas.celery import store_check, worker
 from sagas.celery.sender import Sender
 from sagas.core.external_work import Order
 from sagas.definition.saga import Saga
-from sagas.definition.decorators import Declare
-from sagas.definition.step import Manner, Step
+from sagas.definition.step import Declare, Step
+from sagas.definition.call_options import Manner
 from sagas.storage.factory import open_worker_session
 from sagas.storage.worker_session import WorkerSession
 

@@ -16,19 +16,19 @@ from sagas.core import outcomes
 from sagas.core.external_work import AlreadyReported, AttemptTexts, Order
 from sagas.core.outcomes import Outcome
 from sagas.core.states import OutcomeKind
-from sagas.definition import awaitables, children, decoders, tokens, tracing
+from sagas.definition import awaitables, children, decoders, serialization, tokens, tracing
 from sagas.definition.compiled import CompiledDefinition
-from sagas.definition.place import StepLocation
-from sagas.definition.shape_values import ShapeValues
-from sagas.definition.step import Function, Manner, Step
-from sagas.definition.task import Task
+from sagas.definition.task import StepLocation, Task
+from sagas.definition.layout import ShapeValues
+from sagas.definition.call_options import Function, Manner
+from sagas.definition.step import Step
 from sagas.definition.task_data import TaskSnapshot
 
 if TYPE_CHECKING:
     from sagas.celery import Queue
 
 T = TypeVar("T")
-Decoders = Mapping[str, decoders.Decoder]
+Decoders = Mapping[str, serialization.Decoder]
 FIRST_PAUSE, MOST_PAUSE = 0.05, 2.0  # seconds
 UNKNOWN = "this worker does not know the saga {!r}. Import the module that declares it"
 
@@ -42,7 +42,7 @@ class Work:
         """The definition of the last message of a saga whose steps come from its input."""
 
     @functools.cached_property
-    def hint(self) -> decoders.Decoder | None:
+    def hint(self) -> serialization.Decoder | None:
         """The decoder of the input."""
         assert self.manner.function
         return decoders.hints(self.manner.function)[0]
@@ -53,7 +53,7 @@ class Work:
         return tracing.tracer()
 
     @functools.cached_property
-    def decoders(self) -> dict[str, decoders.Decoder]:
+    def decoders(self) -> dict[str, serialization.Decoder]:
         """The decoders of results, by step."""
         by_step = {step.name: children.hints(step)[1] for step in self.step.saga.steps}
         return {name: decoder for name, decoder in by_step.items() if decoder}

@@ -19,7 +19,7 @@ from sagas.core.states import Suspension
 from sagas.definition import children
 from sagas.definition.payloads import ENVELOPE
 from sagas.definition.serialization import TOO_DEEP, clean, is_deeper
-from sagas.definition.validation import meant
+from sagas.definition.arguments import meant
 from sagas.inspection import lists
 from sagas.inspection.names import step_names, unmatched_warnings
 from sagas.inspection.views import SagaView, Waits

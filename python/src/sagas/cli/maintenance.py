@@ -10,8 +10,7 @@ from sagas.base.options import age, integer_from
 from sagas.base.wording import number
 from sagas.cli.formatting import CANNOT, GOOD, show_json
 from sagas.cli.nodes import check_database
-from sagas.definition.blobs import LEAST, check
-from sagas.definition.payloads import PLAIN
+from sagas.definition.payloads import MIN_THRESHOLD, PLAIN, check_blobs
 from sagas.runtime import retention
 from sagas.storage import admin, store_name
 from sagas.storage.admin import Trouble
@@ -146,14 +145,14 @@ def own_blobs(path: str, options: argparse.Namespace) -> int:
     """
     try:
         store = blobs_of(options.blobs)
-        check(store, LEAST)
+        check_blobs(store, MIN_THRESHOLD)
     except (ValueError, TypeError) as error:
         raise Trouble(str(error), 2) from error
     with admin.writing(path) as link:
         name, rows = link.name, link.ask(SECRET)
     if not rows:
         raise Trouble(f"{name}: no program has opened this store with a blob store", CANNOT)
-    blobs = Blobs(store, LEAST, PLAIN, name)
+    blobs = Blobs(store, MIN_THRESHOLD, PLAIN, name)
     asyncio.run(blobs.mark(path, bytes.fromhex(rows[0][0])).take())
     if options.json:
         show_json({"store": name, "blobs": options.blobs})

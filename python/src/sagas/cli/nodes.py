@@ -8,7 +8,7 @@ from typing import Any
 
 from sagas.cli.formatting import GOOD, moment, show_json, table
 from sagas.definition.capacity import SHARD_CAPACITY
-from sagas.definition.compiled import name_of, version_of
+from sagas.definition.definition_text import name_of, version_of
 from sagas.storage import queries, store_name
 from sagas.storage.admin import DatabaseSource, Trouble
 

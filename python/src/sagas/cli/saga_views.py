@@ -18,7 +18,7 @@ from sagas.cli.snapshot import Snapshot
 from sagas.core.history import FAILURE_EVENTS, was_called
 from sagas.core.results import HistoryEvent, Summary
 from sagas.core.states import known_state, state_text
-from sagas.definition import folded_drawing
+from sagas.definition import drawing
 from sagas.engine.plan import certificate_text
 from sagas.inspection import pages, picture
 from sagas.inspection.views import SagaView, StepView
@@ -245,7 +245,7 @@ def draw(path: str, options: argparse.Namespace) -> int:
         text = view.plan.draw(unfold=options.unfold)
     else:
         whole = program.draw(view.definition)
-        text = folded_drawing.fold(whole, view.definition, options.unfold)
+        text = drawing.fold(whole, view.definition, options.unfold)
     if options.json:
         show_json({"key": options.key, "svg" if options.svg else "dot": text})
     else:

@@ -15,15 +15,14 @@ from sagas.core.batch import RequestRef
 from sagas.core.outcomes import Outcome
 from sagas.core.saga_instance import SagaInstance
 from sagas.core.states import ATTEMPT_TRANSITIONS, Action, AttemptState, Check, Suspension, check
+from sagas.definition.task_data import Context, Control
 from sagas.definition import serialization, tokens
 from sagas.definition.compiled import ActionKey
-from sagas.definition.context import Context
-from sagas.definition.control import Control
-from sagas.definition.decoders import Decoder
+from sagas.definition.serialization import Decoder
 from sagas.definition.payloads import ABSENT
-from sagas.definition.place import StepLocation
-from sagas.definition.step import Manner, Step
-from sagas.definition.task import Task
+from sagas.definition.task import StepLocation, Task
+from sagas.definition.call_options import Manner
+from sagas.definition.step import Step
 from sagas.definition.task_data import snapshot
 
 CLAIMED, SUSPENDED, QUEUED = AttemptState.CLAIMED, AttemptState.SUSPENDED, AttemptState.QUEUED

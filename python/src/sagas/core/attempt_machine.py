@@ -54,7 +54,7 @@ from sagas.core.states import (
     Suspension,
 )
 from sagas.definition import serialization
-from sagas.definition.blobs import BlobUnavailable
+from sagas.definition.payloads import BlobUnavailable
 from sagas.definition.step import Step
 
 MAX_SLEEP = 30.0

@@ -11,7 +11,7 @@ from sagas.core.attempt import Attempt
 from sagas.core.outcomes import SUCCEEDED, Outcome, failure
 from sagas.core.results import SagaEnd
 from sagas.core.states import SagaPhase, StepState
-from sagas.definition import children, listed_steps, serialization, undo_sagas, undo_text
+from sagas.definition import children, definition_text, serialization, undo_sagas
 from sagas.definition.compiled import CompiledDefinition
 
 
@@ -220,9 +220,9 @@ def missing_compensation(
 
 def _undone_by_sagas(kind: CompiledDefinition, is_open: bool) -> Iterator[str]:
     """Return the steps whose children separate sagas undo when the parent is undone."""
-    listed = listed_steps.of(kind.text)
+    listed = definition_text.listed_steps(kind.text)
     declared = {name: step for name, step in zip(kind.names, kind.steps) if step is not None}
-    planned = {listed_step.name for listed_step in undo_text.planned(listed, declared)}
+    planned = {listed_step.name for listed_step in children.planned_compensations(listed, declared)}
     for listed_step in listed:
         is_undone = listed_step.undo != "never" if is_open else listed_step.name in planned
         step = declared.get(listed_step.name)

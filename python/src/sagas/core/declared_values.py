@@ -11,7 +11,7 @@ from typing import Any
 from sagas.base.logger import logger
 from sagas.core.attempt import Attempt, FunctionOption, FunctionResult
 from sagas.definition import serialization
-from sagas.definition.step import Until
+from sagas.definition.waits import Until
 from sagas.definition.task import Task
 
 

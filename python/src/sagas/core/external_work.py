@@ -14,7 +14,7 @@ from typing import TYPE_CHECKING, Any, NamedTuple
 from sagas.base.errors import InvalidLease, SagasError
 from sagas.core.batch import OfferRow
 from sagas.core.states import Action
-from sagas.definition import report_undos, tokens
+from sagas.definition import tokens, undo_sagas
 from sagas.definition.capacity import SHARD_CAPACITY
 
 if TYPE_CHECKING:
@@ -40,7 +40,7 @@ def offered_task_name(attempt: Attempt) -> str:
     """
     saga = attempt.instance.kind.saga
     if saga is not None and saga.undoes is not None and saga.undoes_step is not None:
-        path = report_undos.path_of(saga.undoes, saga.undoes_step)
+        path = undo_sagas.declared_path(saga.undoes, saga.undoes_step)
         return task_name(saga.undoes.name, path or attempt.name, Action.COMPENSATE)
     undoes = attempt.instance.kind.undoes
     if undoes is not None:

@@ -14,10 +14,9 @@ from sagas.base.events import quoted
 from sagas.base.logger import logger
 from sagas.core.states import OutcomeKind
 from sagas.definition import serialization
-from sagas.definition.approvals import Answer
-from sagas.definition.blobs import BlobUnavailable
-from sagas.definition.payloads import Payloads
-from sagas.definition.step import Manner, Unknowns
+from sagas.definition.waits import Answer
+from sagas.definition.payloads import BlobUnavailable, Payloads
+from sagas.definition.call_options import Manner, Unknowns
 from sagas.definition.task import Task
 
 MAX_TEXT = 4000

@@ -9,12 +9,12 @@ from typing import TYPE_CHECKING, Any, Protocol, TypeVar, overload
 
 from sagas.core.states import state_text
 from sagas.definition import serialization
-from sagas.definition.collection import Collection, of_names
-from sagas.definition.fan import FIXED, Fan
+from sagas.definition.step import Collection, collected_of
+from sagas.definition.task import FIXED, Fan
 
 if TYPE_CHECKING:
-    from sagas.definition.parts import FanOut
-    from sagas.definition.selection import Selection
+    from sagas.definition.step import FanOut
+    from sagas.definition.step import Selection
 
 R = TypeVar("R")
 MAX_ERROR = 120
@@ -115,7 +115,7 @@ class EndQueries:
         """
         one = functools.partial(_result, self)
         if isinstance(step, Collection):
-            return of_names(self.fan.gather(step, str), one)
+            return collected_of(self.fan.gather(step, str), one)
         return self.fan.gather(step, one)
 
     def each(self: SagaEnd, step: FanOut[Any, R]) -> dict[int | str, R]:

@@ -14,7 +14,7 @@ from sagas.definition import start_options
 from sagas.definition.capacity import SHARD_CAPACITY
 from sagas.definition.compiled import ActionKey, CompiledDefinition
 from sagas.definition.payloads import ABSENT
-from sagas.definition.shape_values import ShapeValues
+from sagas.definition.layout import ShapeValues
 from sagas.definition.start_options import StartOptions
 
 if TYPE_CHECKING:

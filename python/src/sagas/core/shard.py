@@ -52,7 +52,8 @@ from sagas.core.states import (
     check,
 )
 from sagas.definition.capacity import MOST_ADDED
-from sagas.definition.compiled import CompiledDefinition, digest_of
+from sagas.definition.compiled import CompiledDefinition
+from sagas.definition.definition_text import digest_of
 
 MAX_REPORTS = 256
 """The number of attempts that one request reports, or of sagas that it opens."""

@@ -6,7 +6,7 @@ from collections.abc import Awaitable, Callable
 from typing import Any, Protocol
 
 from sagas.core.attempt import Attempt
-from sagas.definition.step import Function
+from sagas.definition.call_options import Function
 from sagas.definition.task import Task
 
 TakeConnection = Callable[[], Any]

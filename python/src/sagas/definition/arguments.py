@@ -1,4 +1,4 @@
-"""Checks of the arguments of `open`, `start` and `Client`.
+"""Checks of the arguments of `open`, `start` and `Client`, and values for messages.
 
 Each check raises an error that names the argument, its value and the rule.
 """
@@ -6,16 +6,18 @@ Each check raises an error that names the argument, its value and the rule.
 from __future__ import annotations
 
 import datetime
+import difflib
 import inspect
 import os
 import pathlib
+from collections.abc import Iterable
 from typing import Any
 
 from sagas.base.errors import InvalidKey, InvalidStore
-from sagas.definition import validation
-from sagas.definition.mismatches import MOST_SHOWN
 
 MOST_KEY = 512
+MOST_SHOWN = 80
+"""Maximum length of a value in a message, in characters."""
 BELOW = "/:"
 """The separator in a child's key, between the parent's key and the name of the step."""
 TIME = "must be seconds or a timedelta"
@@ -37,7 +39,7 @@ def count(name: str, value: Any) -> int:
     Raises:
         ValueError: It is not such an integer.
     """
-    if not validation.is_count(value) or value < 1:
+    if not is_count(value) or value < 1:
         raise ValueError(f"{name}={shown(value)}: must be an integer >= 1")
     return int(value)
 
@@ -208,3 +210,14 @@ def key(value: Any, or_child: bool = False) -> None:
 def root_of(key: str) -> str:
     """Return the key of the root saga: of the ancestor that no other saga started."""
     return key.partition(BELOW)[0]
+
+
+def is_count(value: object) -> bool:
+    """Return whether a value is an integer, and not a bool."""
+    return isinstance(value, int) and not isinstance(value, bool)
+
+
+def meant(name: str, names: Iterable[str]) -> str:
+    """Return a question for the nearest name, for a message, or an empty text."""
+    near = difflib.get_close_matches(name, names, 1)
+    return f"; did you mean {near[0]!r}?" if near else ""

@@ -1,25 +1,22 @@
-"""Child sagas: steps that start another saga and wait for its end."""
+"""Child sagas: their keys, their declared steps, and the compensations that undo them."""
 
 from __future__ import annotations
 
-import inspect
-from collections.abc import Callable, Iterable, Iterator
-from typing import TYPE_CHECKING, Any, Literal, TypedDict, overload
+from collections.abc import Iterable, Iterator, Mapping, Sequence
+from typing import Any, TYPE_CHECKING, TypedDict
 
 from sagas.base.errors import InvalidKey, NotAbortable
-from sagas.definition import arguments, decoders, validation
+from sagas.definition import arguments, decoders
 from sagas.definition.arguments import BELOW
-from sagas.definition.decoders import Decoder
-from sagas.definition.decorators import Decorator
-from sagas.definition.step import NEVER, Cost, CostOf, Manner, Step
+from sagas.definition.definition_text import Compensation, ListedStep, MOST_NAME
+from sagas.definition.serialization import Decoder
 
 if TYPE_CHECKING:
-    from sagas.definition.parts import ForEach, Need
     from sagas.definition.saga import Saga
+    from sagas.definition.step import Step
 
 UNDO = ":undo"
 """The ending of the key of a saga that undoes a child."""
-MOST_NAME = 32
 NUMBERS = 4
 """Characters of a key that are reserved for the number of a repeated child."""
 
@@ -36,201 +33,6 @@ class ChildResult(TypedDict):
     key: str
     phase: str
     results: dict[str, Any]
-
-
-class ChildSteps:
-    """The part of `Saga` that declares child sagas.
-
-    Attributes:
-        name: Its name.
-        steps: Its steps.
-        undoes: The saga whose completed runs it undoes, or None.
-        undoes_step: The step whose unused report it undoes, or None.
-        undo_text: Its definition as a text if it undoes another saga.
-        has_children: Whether a step starts another saga.
-        is_shaped: Whether its steps come from its input.
-    """
-
-    name: str
-    steps: list[Step[Any]]
-    undoes: Saga | None = None
-    undoes_step: Step[Any] | None = None
-    undo_text: str = ""
-    has_children: bool = False
-    is_shaped: bool
-
-    @overload
-    def child(
-        self,
-        saga: Saga,
-        *,
-        input: Callable[[Any], Any],
-        name: str | None = None,
-        needs: Iterable[Need] = (),
-        undo: Cost | None = None,
-        skip: Cost = 0,
-        keep: Cost | None = None,
-        on_exhausted: Literal["fail", "ask"] = "fail",
-        undo_on_exhausted: Literal["fail", "ask"] = "ask",
-    ) -> Step[ChildResult]:
-        ...
-
-    @overload
-    def child(
-        self,
-        saga: Saga,
-        *,
-        input: None = None,
-        name: str | None = None,
-        needs: Iterable[Need] = (),
-        undo: Cost | None = None,
-        skip: Cost = 0,
-        keep: Cost | None = None,
-        on_exhausted: Literal["fail", "ask"] = "fail",
-        undo_on_exhausted: Literal["fail", "ask"] = "ask",
-    ) -> Callable[[Callable[[Any], Any]], Step[ChildResult]]:
-        ...
-
-    def child(
-        self,
-        saga: Saga,
-        *,
-        input: Callable[[Any], Any] | None = None,
-        name: str | None = None,
-        needs: Iterable[Need] = (),
-        undo: Cost | None = None,
-        skip: Cost = 0,
-        keep: Cost | None = None,
-        on_exhausted: Literal["fail", "ask"] = "fail",
-        undo_on_exhausted: Literal["fail", "ask"] = "ask",
-    ) -> Any:
-        """Declare a step that starts another saga, and waits for its end.
-
-        The function returns the child's input. It may be called again: the first child that is
-        started counts. The child's key is `KEY/:STEP`, by the saga's own key and the step's name.
-        The step succeeds with a `ChildResult` once the child has completed. If the child ends
-        otherwise, the step fails. An abort of the saga aborts the child. The compensation starts a
-        saga of the child's compensations, with the key `KEY/:STEP:undo`. Its steps, needs and costs
-        are those of the definition that the child ran with.
-
-        Args:
-            saga: The child's definition, which the store must have, too.
-            input: The function, if the step is declared without a decorator.
-            name: The step's name (default: the decorated function's, else the child's).
-            undo: Cost of undoing the child (default: the sum of its own; `NEVER` if one is). With
-                another number, child steps that cannot be undone stay in place.
-            keep: Cost of leaving the completed child in place (default: the sum of its own).
-            on_exhausted: What follows if the child does not complete: `fail`, or `ask` (wait for
-                `Store.retry`, which starts another child with the key `KEY/:STEP/2`,
-                `Store.complete` or `Store.fail`). An input that the child cannot have fails the
-                step in any case (default: `fail`).
-            undo_on_exhausted: What follows if the child cannot be undone as a whole: `fail` leaves
-                the rest in place, or `ask` (wait for `Store.retry`, which undoes the rest in
-                another saga with the key `KEY/:STEP:undo/2`, `Store.complete` or `Store.fail`)
-                (default: `ask`). A compensation of its own has its own option.
-
-        See `Saga.step` for `needs` and `skip`.
-
-        Returns:
-            The `Step`, or without `input` a decorator that returns it.
-
-        Raises:
-            DefinitionError: An argument is not valid, or the saga would be its own child.
-
-        Example:
-            >>> hotel = sagas.Saga("hotel")
-            >>> @hotel.step(keep=9)
-            ... def room(task):
-            ...     return task.input["nights"]
-            >>> @room.compensation
-            ... def cancel(task):
-            ...     print("cancel", task.result, "nights of", task.key)
-            >>> trip = sagas.Saga("trip")
-            >>> @trip.child(hotel)
-            ... def stay(task):
-            ...     return {"nights": task.input["days"] - 1}
-            >>> @trip.step(needs=[stay])
-            ... def tour(task):
-            ...     return task.result_of(stay)["results"]["room"]
-            >>> sagas.testing.run(trip, {"days": 4}).results["tour"]
-            3
-            >>> sagas.testing.run(trip, {"days": 4}, fail={tour: 1}).states
-            cancel 3 nights of test/:stay
-            {'stay': 'undone', 'tour': 'failed'}
-        """
-
-        def declare(function: Callable[[Any], Any]) -> Step[Any]:
-            manner = Manner(function, on_exhausted=on_exhausted)
-            costs: dict[str, CostOf | None] = {"run": 0, "undo": undo, "skip": skip, "keep": keep}
-            named = name or (None if input is None else getattr(saga, "name", None))
-            step = self._add(function, named, "child", needs, costs, manner, None)
-            step.child = saga
-            self.has_children = True
-            _check(step, saga)
-            if undo_on_exhausted not in ("fail", "ask"):
-                rule = f"undo_on_exhausted={undo_on_exhausted!r}: must be fail or ask"
-                raise validation.of_step(step, rule)
-            step.undo.on_exhausted = undo_on_exhausted
-            return step
-
-        validation.check_given(saga)
-        if input is not None:
-            return declare(input)
-        of: Any = self
-        return Decorator(of, f"{of.name}.child", name, declare)
-
-    def total_cost(self, word: str) -> Cost:
-        """Return the cost of undoing all steps of a completed saga, or of keeping them.
-
-        Args:
-            word: `undo` or `keep`.
-        """
-        if self.is_shaped:
-            of: Any = self
-            raise validation.of_saga(
-                of,
-                "its steps come from its input, so its costs as a child are not known. Set keep=, "
-                "and undo= with a compensation or undo=sagas.NEVER, for the step that starts it",
-            )
-        total = 0
-        for step in self.steps:
-            cost = step.cost(word)
-            if cost is NEVER:
-                return NEVER
-            total += cost
-        return min(total, validation.MOST_COST)
-
-    def _add(
-        self,
-        function: Callable[[Any], Any] | None,
-        name: str | None,
-        kind: str,
-        needs: Iterable[Need],
-        costs: dict[str, CostOf | None],
-        manner: Manner,
-        concurrency: int | None,
-        for_each: ForEach | None = None,
-        when: Callable[[Any], Any] | None = None,
-    ) -> Step[Any]:
-        raise NotImplementedError
-
-
-def _check(step: Step[Any], child: Saga) -> None:
-    """Raise `DefinitionError` if a step cannot start this child."""
-    function = step.run.function
-    if inspect.iscoroutinefunction(function):
-        raise validation.of_step(
-            step,
-            "its function is async, but the function of a child's input must be a plain function. "
-            "Compute the input in a step that this one needs",
-        )
-    if step.run.on_exhausted == "retry":
-        rule = "must be fail or ask, because a child is not repeated without end"
-        raise validation.of_step(step, f"on_exhausted='retry': {rule}")
-    if step.saga is child or step.saga in descendants(child):
-        raise validation.of_step(
-            step, f"saga {step.saga.name!r} would be its own child. Declare another saga"
-        )
 
 
 def children_of(saga: Saga) -> Iterator[tuple[Step[Any], Saga]]:
@@ -333,3 +135,92 @@ def check_key(key: str, saga: Saga) -> None:
             f"key={arguments.shown(key)}: the keys of the saga's children begin with it, so it "
             f"must have at most {arguments.MOST_KEY - room} characters"
         )
+
+
+# -- compensations
+
+
+def planned_compensations(
+    child: Sequence[ListedStep], declared: Mapping[str, Step[Any]]
+) -> list[Compensation]:
+    """Return the compensations that undo a completed child, last step first.
+
+    A step that cannot be undone keeps its effect, and so do the steps that it needs.
+
+    Args:
+        child: The steps of the definition that the child ran with.
+        declared: The steps of the child as this program declares them, by name.
+    """
+    below = _below(child)
+    fixed = {step.name for step in child if step.undo == "never"}
+    fixed = fixed.union(*(below[name] for name in fixed))
+    undone = {
+        step.name
+        for step in child
+        if step.name not in fixed and not _is_empty(step, declared.get(step.name))
+    }
+    above = _above(child)
+    return [
+        Compensation(
+            step.name,
+            tuple(sorted(_first_of(above, step.name, undone))),
+            0 if _starts_child(declared.get(step.name)) else step.undo,
+            step.keep,
+            step.undo_tries,
+            tuple(need.name for need in child if need.name in below[step.name]),
+        )
+        for step in reversed(child)
+        if step.name in undone
+    ]
+
+
+def _is_empty(listed: ListedStep, declared: Step[Any] | None) -> bool:
+    """Return whether a step has nothing to undo.
+
+    It has no compensation in this program, and had none when the child started.
+    """
+    if declared is None or listed.is_compensated:
+        return False
+    return declared.undo.implied and declared.child is None
+
+
+def _starts_child(declared: Step[Any] | None) -> bool:
+    return declared is not None and declared.starts_child("undo")
+
+
+def _above(child: Iterable[ListedStep]) -> dict[str, list[str]]:
+    """Return, for each step, the steps that need it directly."""
+    above: dict[str, list[str]] = {step.name: [] for step in child}
+    for step in child:
+        for need in step.needs:
+            above[need].append(step.name)
+    return above
+
+
+def _below(child: Iterable[ListedStep]) -> dict[str, set[str]]:
+    """Return, for each step, the steps that it needs, directly or not."""
+    needs = {step.name: step.needs for step in child}
+    below: dict[str, set[str]] = {}
+    for name in needs:
+        seen, left = set[str](), [*needs[name]]
+        while left:
+            if (need := left.pop()) not in seen:
+                seen.add(need)
+                left += needs[need]
+        below[name] = seen
+    return below
+
+
+def _first_of(above: Mapping[str, list[str]], name: str, among: set[str]) -> set[str]:
+    """Return the nearest steps among some that need the named step, directly or not."""
+    nearest, seen, left = set[str](), set[str](), [*above[name]]
+    while left:
+        step = left.pop()
+        if step in seen:
+            continue
+        seen.add(step)
+        if step in among:
+            nearest.add(step)
+        else:
+            left += above[step]
+    return nearest

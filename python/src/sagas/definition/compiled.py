@@ -2,57 +2,29 @@
 
 from __future__ import annotations
 
-import hashlib
 import json
-import re
 from collections.abc import Callable, Mapping
-from typing import Any
+from typing import Any, TYPE_CHECKING
 
 import tomllib
 
 from sagas.base.errors import CannotDecode, InvalidInput
-from sagas.definition import (
-    decoders,
-    listed_steps,
-    mismatches,
-    serialization,
-    shape_text,
-    shape_validation,
-    type_checks,
-    undo_text,
-)
-from sagas.definition.context import Context
-from sagas.definition.declaration import Declaration
-from sagas.definition.decoders import Decoder
-from sagas.definition.layout import Layout
+from sagas.definition import decoders, definition_text, serialization, type_checks
+from sagas.definition.call_options import Function
+from sagas.definition.definition_text import name_of, version_of
+from sagas.definition.layout import Layout, ShapeValues, layout_of
 from sagas.definition.payloads import PLAIN as PLAIN_PAYLOADS, Payloads
-from sagas.definition.place import StepLocation
-from sagas.definition.saga import Saga
-from sagas.definition.shape_values import ShapeValues
-from sagas.definition.step import Function, Step
+from sagas.definition.serialization import Decoder
+from sagas.definition.shape import Declaration
+from sagas.definition.step import Step, plain_steps
+from sagas.definition.task import StepLocation
+from sagas.definition.task_data import Context
+
+if TYPE_CHECKING:
+    from sagas.definition.saga import Saga
 
 ActionKey = tuple[int, str]
 """A step's number, and `run` or `undo`."""
-VERSION = re.compile(r"# version (\d+)\n")
-NAME = re.compile(r'^name = "(.*)"$', re.M)
-
-
-def digest_of(text: str) -> str:
-    """Return the digest of one definition, given its text."""
-    return hashlib.sha256(text.encode()).hexdigest()[:16]
-
-
-def version_of(text: str) -> int:
-    """Return the version of the saga that a definition declares."""
-    match = VERSION.match(text)
-    return int(match[1]) if match else 1
-
-
-def name_of(text: str) -> str:
-    """Return the name of the saga that a definition declares."""
-    match = NAME.search(text)
-    assert match
-    return match[1]
 
 
 def _simple(step: Step[Any] | None, kind: str, is_fair: bool) -> Function | None:
@@ -75,14 +47,14 @@ def _simple(step: Step[Any] | None, kind: str, is_fair: bool) -> Function | None
     return step.manner(kind).function if step.manner(kind).is_simple else None
 
 
-def _fault(text: str, decoder: Decoder) -> mismatches.Mismatch | None:
+def _fault(text: str, decoder: Decoder) -> type_checks.Mismatch | None:
     """Return why a decoder cannot read a stored value, or None if it can."""
     try:
         decoder(serialization.read(text))
     except NameError as error:
-        return mismatches.Mismatch(f": {error}")
+        return type_checks.Mismatch(f": {error}")
     except Exception as error:  # of the type's own code
-        return mismatches.of(error)
+        return type_checks.mismatch_of(error)
     return None
 
 
@@ -169,11 +141,11 @@ class CompiledDefinition:
         self.payloads = payloads
         self.hooks: Hooks = {}
         self.declared = declared or Declaration(saga)
-        is_shaped = shape_text.is_shaped(text)
-        listed = shape_text.steps(text) if is_shaped else tomllib.loads(text)["step"]
-        self.layout: Layout | None = shape_text.layout(text, listed) if is_shaped else None
+        is_shaped = definition_text.is_shaped(text)
+        listed = definition_text.shaped_steps(text) if is_shaped else tomllib.loads(text)["step"]
+        self.layout: Layout | None = layout_of(text, listed) if is_shaped else None
         self.text, self.name = text, name_of(text)
-        self.undoes = undo_text.child_of(text)
+        self.undoes = definition_text.child_of(text)
         if self.undoes is None and saga is not None and saga.undoes is not None:
             self.undoes = saga.undoes.name  # a text of an older release
         self.names: list[str] = [step["name"] for step in listed]
@@ -230,7 +202,7 @@ class CompiledDefinition:
         """Return the steps as this program declares them."""
         if self.layout is not None:
             return [self.declared.step(origin) for origin in self.layout.origins.values()]
-        plain = shape_validation.plain_steps(saga) if saga else {}
+        plain = plain_steps(saga) if saga else {}
         return [plain.get(name) for name in self.names]
 
     def location(self, step: str, values: ShapeValues, input: str) -> StepLocation | None:
@@ -329,7 +301,7 @@ class CompiledDefinition:
                 continue
             except Exception as error:  # of the type's own code
                 return InvalidInput(
-                    f"saga {self.name!r}, step {step.name!r}: input{mismatches.of(error)}"
+                    f"saga {self.name!r}, step {step.name!r}: input{type_checks.mismatch_of(error)}"
                 )
         return None
 
@@ -373,7 +345,7 @@ class CompiledDefinition:
         """
         if self.saga is None:
             return "this program did not open the store with that saga"
-        for path, (name, version) in shape_text.included(self.text).items():
+        for path, (name, version) in definition_text.included(self.text).items():
             inner = self.declared.included(path)
             if inner is None or (inner.name, inner.version) != (name, version):
                 has = f"version {inner.version} of {inner.name!r}" if inner else "no saga"
@@ -382,7 +354,7 @@ class CompiledDefinition:
                     f"includes {has} there"
                 )
         function = "function" if self.undoes is None else "compensation"
-        for listed, step in zip(listed_steps.of(self.text), self.steps):
+        for listed, step in zip(definition_text.listed_steps(self.text), self.steps):
             if step is None:
                 return f"step {listed.name!r} has no {function} in this program"
             has_compensation = step.has_compensation and not (
@@ -391,3 +363,72 @@ class CompiledDefinition:
             if listed.undo != "never" and not has_compensation:
                 return f"step {listed.name!r} has no compensation in this program"
         return None
+
+
+# -- equality of two inputs
+
+
+def input_differences(definition: CompiledDefinition | Saga, first: str, second: str) -> list[str]:
+    """Return the paths of the values in which two inputs differ, under their present types.
+
+    A stored input may be older than a field of its type, so it is decoded before it is compared.
+    The list is empty if the decoders of all functions make equal values of both inputs. If some
+    function reads the input without a type, fields that no type declares are compared as well. If
+    a decoder fails, the inputs are compared as JSON.
+
+    Args:
+        definition: The saga or its definition.
+        first: An input as JSON.
+        second: Another input as JSON.
+    """
+    decoders, is_complete = _input_readers(definition)
+    values = serialization.read(first), serialization.read(second)
+    if not decoders:
+        return list(type_checks.differences(*values))
+    paths: dict[str, None] = {}
+    for decoder in decoders:
+        normalized = _normalized(first, decoder), _normalized(second, decoder)
+        if normalized[0] is None or normalized[1] is None:
+            return list(type_checks.differences(*values))
+        pair = serialization.read(normalized[0]), serialization.read(normalized[1])
+        if not is_complete:
+            pair = _merged(values[0], pair[0]), _merged(values[1], pair[1])
+        paths |= dict.fromkeys(type_checks.differences(*pair))
+    return list(paths)
+
+
+def _input_readers(definition: CompiledDefinition | Saga) -> tuple[list[Decoder], bool]:
+    """Return the decoders of the functions' inputs, and whether each function has one."""
+    by_hint: dict[Any, Decoder] = {}
+    is_complete = True
+    for step in definition.steps:
+        for manner in (step.run, step.undo) if step else ():
+            if manner.function is None:
+                is_complete = is_complete and not manner.external
+            elif not manner.implied:
+                hint = decoders.input_hint(manner.function)
+                decoder = decoders.decoder(hint)
+                is_complete = is_complete and decoder is not None
+                if decoder:
+                    by_hint[repr(hint), id(hint)] = decoder
+    return list(by_hint.values()), is_complete
+
+
+def _normalized(text: str, decoder: Decoder) -> str | None:
+    """Return the JSON of a value after decoding it; None if it cannot be decoded."""
+    try:
+        return serialization.write(decoder(serialization.read(text)))
+    except Exception:  # of the type's own code
+        return None
+
+
+def _merged(value: Any, normalized: Any) -> Any:
+    """Return a normalized value with those fields that its type does not have."""
+    if isinstance(value, dict) and isinstance(normalized, dict):
+        return value | {
+            name: _merged(value[name], part) if name in value else part
+            for name, part in normalized.items()
+        }
+    if isinstance(value, list) and isinstance(normalized, list) and len(value) == len(normalized):
+        return [_merged(item, part) for item, part in zip(value, normalized)]
+    return normalized

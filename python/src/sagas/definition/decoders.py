@@ -17,10 +17,10 @@ from collections.abc import Callable, Iterable
 from typing import Any
 
 from sagas.base.errors import NotSerializable
-from sagas.definition import mismatches, type_checks
-from sagas.definition.mismatches import Mismatch
+from sagas.definition import serialization, type_checks
+from sagas.definition.serialization import Decoder, is_old_model
+from sagas.definition.type_checks import Mismatch
 
-Decoder = Callable[[Any], Any]
 _MADE: dict[Any, type] = {
     collections.abc.Sequence: list,
     collections.abc.MutableSequence: list,
@@ -48,11 +48,6 @@ _BY_TEXT: dict[type, Decoder] = {
     uuid.UUID: uuid.UUID,
     decimal.Decimal: _decimal,
 }
-
-
-def is_old_model(kind: type) -> bool:
-    """Return whether a class is a model of pydantic 1, or of `pydantic.v1`."""
-    return hasattr(kind, "__fields__") and hasattr(kind, "parse_obj")
 
 
 def hints(function: Callable[..., Any]) -> tuple[Decoder | None, Decoder | None]:
@@ -159,7 +154,7 @@ def _leaf(make: Decoder) -> Decoder:
         try:
             return make(value)
         except Exception as error:
-            raise mismatches.of(error) from None
+            raise type_checks.mismatch_of(error) from None
 
     return read
 
@@ -181,8 +176,6 @@ def _of_enum(hint: type[enum.Enum]) -> Decoder:
         try:
             return hint(value)
         except ValueError:  # a member whose value has another form in JSON: a tuple, a date
-            from sagas.definition import serialization
-
             text = serialization.write(value)
             for member in hint:
                 with contextlib.suppress(NotSerializable):
@@ -216,11 +209,11 @@ def _of_dataclass(hint: Any, whole: Any) -> Decoder:
                 except NameError:
                     raise
                 except Exception as error:
-                    raise mismatches.of(error, mismatches.part(name)) from None
+                    raise type_checks.mismatch_of(error, type_checks.part_path(name)) from None
         try:
             return hint(**decoded)
         except Exception as error:
-            missing = mismatches.lacking(value, hint)
+            missing = type_checks.lacking_fields(value, hint)
             raise missing or Mismatch(
                 f": {hint.__name__} rejects it ({type(error).__name__})"
             ) from None
@@ -263,7 +256,7 @@ def _first_error(value: Iterable[Any], part: Decoder) -> Exception | None:
         except NameError as error:
             return error
         except Exception as error:
-            return mismatches.of(error, f"[{index}]")
+            return type_checks.mismatch_of(error, f"[{index}]")
     return None
 
 
@@ -276,7 +269,7 @@ def _each(value: Iterable[Any], parts: Iterable[Decoder]) -> list[Any]:
         except NameError:
             raise
         except Exception as error:
-            raise mismatches.of(error, f"[{index}]") from None
+            raise type_checks.mismatch_of(error, f"[{index}]") from None
     return decoded
 
 
@@ -313,7 +306,7 @@ def _of_dict(key: Decoder | None, inner: Decoder | None) -> Decoder | None:
             except NameError:
                 raise
             except Exception as error:
-                raise mismatches.of(error, mismatches.part(text)) from None
+                raise type_checks.mismatch_of(error, type_checks.part_path(text)) from None
         return decoded
 
     return read
@@ -368,7 +361,7 @@ def _of_union(members: tuple[Any, ...]) -> Decoder | None:
             return value
         has_more = any(hint is not type(None) for hint in plain)
         if len(errors) == 1 and (isinstance(value, dict) or not has_more):
-            raise mismatches.of(errors[0])
+            raise type_checks.mismatch_of(errors[0])
         raise Mismatch(": matches none of its types")
 
     return make

@@ -1,23 +1,16 @@
-"""Stored forms of inputs and results: JSON, or the output of a codec."""
+"""Stored forms of inputs and results: JSON, the output of a codec, or a reference to a blob."""
 
 from __future__ import annotations
 
 import base64
+import hashlib
 import json
 import re
-from typing import Any, Protocol
+from collections.abc import Awaitable, Iterable
+from typing import Any, NamedTuple, Protocol
 
-from sagas.base.errors import CannotDecode, NotSerializable
-from sagas.definition.blobs import Reference
-
-ENVELOPE = re.compile(r'\{"\$codec":"([A-Za-z0-9+/]*={0,2})"\}\Z')
-"""A stored value that a codec encoded. It is JSON, so programs without the codec can list it."""
-ESCAPED = '{"$plain":'
-"""The beginning of a stored value that is escaped, because it begins as a reserved one."""
-ABSENT = '{"$absent":true}'
-"""The placeholder of a stored value that is not in memory. It is never stored."""
-RESERVED = ('{"$codec":', '{"$blob":', '{"$absent":', ESCAPED)
-"""The beginnings of stored texts that are not plain values."""
+from sagas.base.errors import CannotDecode, NotSerializable, StoreUnavailable
+from sagas.definition.arguments import shown
 
 
 class Codec(Protocol):
@@ -40,6 +33,130 @@ class Codec(Protocol):
         Args:
             data: The bytes that `encode` returned.
         """
+
+
+# -- blobs: large values outside of the database
+
+
+BLOB_HEAD = '{"$blob":"'
+"""The beginning of a reference. A value that begins with it is stored escaped."""
+REFERENCE = re.compile(
+    r'\{"\$blob":"([0-9a-f/]{1,200})","bytes":(\d{1,15}),"digest":"([0-9a-f]{64})"\}\Z'
+)
+MIN_THRESHOLD = 256
+"""The least threshold in bytes. References would be larger than values below it."""
+
+
+class BlobStore(Protocol):
+    """Keep large inputs and results outside the database.
+
+    Made by you, as a class with these functions; or use `FolderBlobStore` or `PostgresBlobStore`.
+    Plain functions are called in several threads at once. Coroutine functions are awaited in the
+    event loop of the store. A key has up to 200 of the characters `0-9`, `a-f` and `/`, and no key
+    is put with two different values. All nodes and clients of a store must reach the same blobs.
+    """
+
+    def put(self, key: str, data: bytes, /) -> Awaitable[None] | None:
+        """Store a value. When it returns, the value survives a crash of the machine.
+
+        Args:
+            key: Its name.
+            data: The value.
+        """
+
+    def get(self, key: str, /) -> Awaitable[bytes] | bytes:
+        """Return a value that was put.
+
+        Args:
+            key: Its name.
+
+        Raises:
+            KeyError: No value has this name. Raise another exception if that is unknown.
+        """
+
+    def delete(self, key: str, /) -> Awaitable[None] | None:
+        """Delete a value. It is not an error if there is none.
+
+        Args:
+            key: Its name.
+        """
+
+    def keys(self, prefix: str, before: float, /) -> Awaitable[Iterable[str]] | Iterable[str]:
+        """Return the keys that begin with `prefix` and were put before a time.
+
+        Args:
+            prefix: The beginning of the keys.
+            before: Seconds since 1970.
+        """
+
+
+class BlobUnavailable(StoreUnavailable):
+    """The blob store cannot read or write one value."""
+
+
+class Reference(NamedTuple):
+    """The reference to a blob that a row has in place of a large value."""
+
+    key: str
+    size: int
+    digest: str
+
+    @classmethod
+    def to(cls, key: str, text: str, size: int) -> Reference:
+        """Return a reference to a value that the blob store has under this key."""
+        return cls(key, size, _digest(key, text))
+
+    @classmethod
+    def of(cls, text: str) -> Reference | None:
+        """Return the reference in a stored text, or None if the text is a value."""
+        match = REFERENCE.match(text) if text.startswith(BLOB_HEAD) else None
+        return None if match is None else cls(match[1], int(match[2]), match[3])
+
+    def __str__(self) -> str:
+        return f'{BLOB_HEAD}{self.key}","bytes":{self.size},"digest":"{self.digest}"}}'
+
+    def is_of(self, text: str) -> bool:
+        """Return whether it refers to this value, as JSON before a codec encodes it."""
+        return self.digest == _digest(self.key, text)
+
+
+def _digest(key: str, text: str) -> str:
+    """Return the digest of a value with its key.
+
+    Keys are random, so equal values have different digests.
+    """
+    return hashlib.sha256(f"{key} {text}".encode("utf-8", "surrogatepass")).hexdigest()
+
+
+def check_blobs(blobs: Any, threshold: Any) -> None:
+    """Check the arguments `blobs` and `blob_threshold`.
+
+    Raises:
+        TypeError: It is not a blob store, or the threshold is not a number.
+        ValueError: The threshold is too small.
+    """
+    if isinstance(threshold, bool) or not isinstance(threshold, int):
+        raise TypeError(f"blob_threshold={shown(threshold)}: must be a number of bytes")
+    if threshold < MIN_THRESHOLD:
+        raise ValueError(f"blob_threshold={threshold}: must be at least {MIN_THRESHOLD} bytes")
+    for name in ("put", "get", "delete", "keys") if blobs is not None else ():
+        if not callable(getattr(blobs, name, None)):
+            raise TypeError(
+                f"blobs={type(blobs).__name__}: must have the functions put, get, delete and keys"
+            )
+
+
+# -- stored texts
+
+
+ENVELOPE = re.compile(r'\{"\$codec":"([A-Za-z0-9+/]*={0,2})"\}\Z')
+"""A stored value that a codec encoded. It is JSON, so programs without the codec can list it."""
+ESCAPED = '{"$plain":'
+"""The beginning of a stored value that is escaped, because it begins as a reserved one."""
+ABSENT = '{"$absent":true}'
+"""The placeholder of a stored value that is not in memory. It is never stored."""
+RESERVED = ('{"$codec":', '{"$blob":', '{"$absent":', ESCAPED)
+"""The beginnings of stored texts that are not plain values."""
 
 
 class Payloads:
@@ -144,7 +261,7 @@ class Payloads:
         return json.loads(text if Reference.of(text) else self.decode(text))
 
 
-def shown(value: Any) -> Any:
+def unescaped_value(value: Any) -> Any:
     """Return the parsed value of a stored text without its escape."""
     is_escaped = isinstance(value, dict) and [*value] == ["$plain"]
     return value["$plain"] if is_escaped else value

@@ -1,52 +1,60 @@
-"""`Saga`."""
+"""`Saga`, and the texts of its definition."""
 
 from __future__ import annotations
 
 import datetime
+import hashlib
 import sys
-from collections.abc import Awaitable, Callable, Iterable, Mapping, Sequence
+from collections.abc import Awaitable, Callable, Iterable, Iterator, Mapping, Sequence
 from typing import Any, Literal, TypeVar, overload
 
 from sagas.base import program
 from sagas.base.errors import DefinitionError
 from sagas.base.wording import number
-from sagas.definition import (
-    collection,
-    definition_text,
-    folded_drawing,
-    serialization,
-    shape,
-    shape_text,
-    validation,
-    warnings,
-)
-from sagas.definition.decorators import Declare, Decorator
-from sagas.definition.inclusions import Inclusions
-from sagas.definition.parts import DeclareEach, DeclareKeyed, FanOut, ForEach, Need, Part
-from sagas.definition.step import (
-    NEVER,
-    UNKNOWN,
+from sagas.definition import definition_text, drawing, serialization, shape, validation
+from sagas.definition.call_options import (
     Backoff,
     Bounds,
     CostOf,
     EarlyUnused,
     Manner,
+    NEVER,
     OnExhausted,
-    R,
     RemoteQueue,
     Seconds,
-    Step,
+    UNKNOWN,
     Unknowns,
-    _rate,
     nothing,
+    rate_limit_of,
     seconds,
 )
-from sagas.definition.waits import WaitSteps
+from sagas.definition.serialization import Decoder
+from sagas.definition.step import (
+    Declare,
+    DeclareEach,
+    DeclareKeyed,
+    Decorator,
+    FanOut,
+    FanOutInclusion,
+    ForEach,
+    Inclusion,
+    Need,
+    Part,
+    R,
+    Step,
+    caller,
+    has_computed_costs,
+    is_compensated,
+    is_shaped_step,
+    location_of,
+    mark_collected,
+)
+from sagas.definition.waits import WaitSteps, check_is_saga
 
 T = TypeVar("T")
 
 
-class Saga(WaitSteps, Inclusions):
+class Saga(WaitSteps):
     """Declare a type of saga: a name, a version, and its steps in order.
 
     Open sagas of an older version continue with its functions, as long as `open` gets both
@@ -73,6 +81,7 @@ class Saga(WaitSteps, Inclusions):
         steps: The steps.
         outers: The sagas that include it.
         decorators: Decorators that no function has yet.
+        has_children: Whether a step of it, or of a saga that it includes, starts another saga.
 
     Raises:
         DefinitionError: The name, the version or the deadline is not valid.
@@ -100,7 +109,7 @@ class Saga(WaitSteps, Inclusions):
         fair_by: Callable[[Any], Any] | None = None,
         input: Any = None,
     ) -> None:
-        self.name, self.version, self.where = name, version, validation.caller(2)
+        self.name, self.version, self.where = name, version, caller(2)
         self.deadline, self.fair_by = deadline, fair_by
         self.input_type = input
         self.parts: list[Part] = []
@@ -382,8 +391,7 @@ class Saga(WaitSteps, Inclusions):
         """
         if not isinstance(external, bool):
             raise DefinitionError(
-                f"{validation.caller(2)}: saga {self.name!r}: external={external!r}: must be "
-                "True or False"
+                f"{caller(2)}: saga {self.name!r}: external={external!r}: must be " "True or False"
             )
 
         def declare(function: Callable[[Any], Any] | None) -> Step[Any]:
@@ -408,7 +416,7 @@ class Saga(WaitSteps, Inclusions):
             step.concurrency_by, step.early_unused = concurrency_by, early_unused
             validation.check_early_unused(step)
             if fleet_concurrency is not None or rate_limit is not None:
-                rate, is_keyed = _rate(rate_limit), concurrency_by is not None
+                rate, is_keyed = rate_limit_of(rate_limit), concurrency_by is not None
                 step.bounds = Bounds(fleet_concurrency, rate, is_keyed)
                 validation.check_bounds(step, step.bounds)
             validation.check_concurrency_by(step)
@@ -432,21 +440,158 @@ class Saga(WaitSteps, Inclusions):
         for_each: ForEach | None = None,
         when: Callable[[Any], Any] | None = None,
     ) -> Step[Any]:
-        where = validation.location_of(function) or validation.caller(4)
+        where = location_of(function) or caller(4)
         step_name = name or str(getattr(function, "__name__", "?"))
-        needed = validation.listed(needs, self, step_name, where)
+        needed = validation.listed_needs(needs, self, step_name, where)
         make: type[Step[Any]] = Step if for_each is None else FanOut
         step = make(self, step_name, where, kind, needed, costs, manner, for_each, when)
         step.concurrency = concurrency
         if costs["undo"] is not NEVER and (kind != "step" or costs["undo"] == 0):
             step.undo = Manner(nothing, implied=True)
         validation.check_step(step)
-        collection.mark(needed)
+        mark_collected(needed)
         self.steps.append(step)
         self.parts.append(step)
         if manner.queue:
             manner.queue.declare(step, "run", manner)
         return step
+
+    @overload
+    def include(
+        self,
+        saga: Saga,
+        *,
+        name: str | None = None,
+        needs: Iterable[Need] = (),
+        input: str | Callable[[Any], Any] | None = None,
+        given: Callable[[Any], Any] | None = None,
+        when: Callable[[Any], Any] | None = None,
+        for_each: None = None,
+    ) -> Inclusion:
+        ...
+
+    @overload
+    def include(
+        self,
+        saga: Saga,
+        *,
+        for_each: ForEach,
+        name: str | None = None,
+        needs: Iterable[Need] = (),
+        input: str | Callable[[Any], Any] | None = None,
+        given: Callable[[Any], Any] | None = None,
+        when: Callable[[Any], Any] | None = None,
+    ) -> FanOutInclusion:
+        ...
+
+    def include(
+        self,
+        saga: Saga,
+        *,
+        name: str | None = None,
+        needs: Iterable[Need] = (),
+        input: str | Callable[[Any], Any] | None = None,
+        given: Callable[[Any], Any] | None = None,
+        when: Callable[[Any], Any] | None = None,
+        for_each: ForEach | None = None,
+    ) -> Inclusion:
+        """Include the steps of another saga in this one, under one plan.
+
+        The step `room` of an inclusion `hotel` has the name `hotel-room`. The functions of the
+        included saga see only its own input and its own steps.
+
+        Args:
+            saga: The saga, which may include others. It can also be started on its own.
+            name: The inclusion's name (default: the saga's).
+            needs: As of `Saga.step`: what commits before any step of the included saga.
+            input: Of the included saga: the name of a part of the input, or a function of the
+                input; with `for_each` of the item (default: the input itself, or the item).
+            given: A plain function of the task that a step here would get. The functions of the
+                included saga read its result as `task.given` (default: None).
+            when: As of `Saga.step` (default: it is always there).
+            for_each: As of `Saga.step`: the saga is included once for each item (default: once).
+
+        Returns:
+            The `Inclusion`. It can be needed as a step can; `hotel[room]` is a step of it.
+
+        Raises:
+            DefinitionError: An argument is not valid.
+        """
+        check_is_saga(saga)
+        where = caller(2)
+        inclusion_name = saga.name if name is None else name
+        needed = validation.listed_needs(needs, self, inclusion_name, where)
+        make = Inclusion if for_each is None else FanOutInclusion
+        inclusion = make(self, saga, inclusion_name, where, needed, input, given, for_each, when)
+        validation.check_inclusion(inclusion)
+        mark_collected(needed)
+        self.parts.append(inclusion)
+        saga.outers.append(self)
+        self.has_children = self.has_children or saga.has_children
+        return inclusion
+
+    @property
+    def is_shaped(self) -> bool:
+        """Whether its steps, or their costs, come from its input."""
+        return any(isinstance(part, Inclusion) or is_shaped_step(part) for part in self.parts)
+
+    @property
+    def calls_functions(self) -> bool:
+        """Whether functions of the input determine its steps or their costs."""
+        return any(
+            callable(part.for_each)
+            or part.when is not None
+            or (
+                callable(part.input) or part.inner.calls_functions
+                if isinstance(part, Inclusion)
+                else has_computed_costs(part)
+            )
+            for part in self.parts
+        )
+
+    @property
+    def parts_by_name(self) -> dict[str, Part]:
+        """Its steps and inclusions, by name."""
+        return {part.name: part for part in self.parts}
+
+    def outer(self, name: str, version: int) -> Saga | None:
+        """Return this saga, or one that includes it, directly or not.
+
+        Args:
+            name: The name of the saga to return.
+            version: Its version.
+
+        Returns:
+            The saga, or None.
+        """
+        if (self.name, self.version) == (name, version):
+            return self
+        candidates = (outer.outer(name, version) for outer in self.outers)
+        return next((candidate for candidate in candidates if candidate is not None), None)
+
+    @property
+    def declared_steps(self) -> Iterator[tuple[str, Step[Any]]]:
+        """Its steps and those of included sagas, with their declared names: `hotel/room`."""
+        for part in self.parts:
+            if isinstance(part, Inclusion):
+                for name, step in part.inner.declared_steps:
+                    yield f"{part.name}/{name}", step
+            else:
+                yield part.name, part
+
+    @property
+    def all_steps(self) -> Iterator[Step[Any]]:
+        """Its steps, and those of the sagas that it includes."""
+        for part in self.parts:
+            if isinstance(part, Inclusion):
+                yield from part.inner.all_steps
+            else:
+                yield part
+
+    @property
+    def input_decoder(self) -> Decoder | None:
+        """The decoder of its input, for the functions that determine steps and costs."""
+        return shape.saga_input_decoder(self)
 
     def check(self) -> None:
         """Check the whole definition, as `toml` and `open` do.
@@ -461,7 +606,7 @@ class Saga(WaitSteps, Inclusions):
 
         For example, a compensation that can never be called, or a type hint that cannot be read.
         """
-        return warnings.warnings(self)
+        return validation.warnings_of(self)
 
     def toml(self, input: Any = None) -> str:
         """Return the definition in the format of a definition file.
@@ -477,9 +622,9 @@ class Saga(WaitSteps, Inclusions):
         """
         self.check()
         if not self.is_shaped:
-            return definition_text.fixed(self)
+            return fixed_text(self)
         text = serialization.write_value(input, "input")
-        return shape_text.write(shape.Shape(self, text))
+        return shape.write_definition(shape.Shape(self, text))
 
     def draw(self, input: Any = None, *, unfold: Iterable[str] = ()) -> str:
         """Return the saga as text for Graphviz, for example for `dot -Tsvg`.
@@ -494,10 +639,66 @@ class Saga(WaitSteps, Inclusions):
             EngineError: The program `sagas` cannot be run.
         """
         text = self.toml(input)
-        return folded_drawing.fold(program.draw(text), text, {*unfold})
+        return drawing.fold(program.draw(text), text, {*unfold})
 
     def __repr__(self) -> str:
         return f"<saga {self.name}, version {self.version}, {number(len(self.steps), 'step')}>"
+
+
+# -- texts
+
+
+def fixed_text(saga: Saga) -> str:
+    """Return the definition of a saga whose steps do not come from its input."""
+    if saga.undo_text:
+        return saga.undo_text
+    lines = [f"# version {saga.version}"] if saga.version != 1 else []
+    lines += ["format = 2", f'name = "{saga.name}"']
+    for step in saga.steps:
+        lines += ["", "[[step]]", f'name = "{step.name}"']
+        if is_compensated(step):
+            lines.append(definition_text.COMPENSATED)
+        if step.needs:
+            lines.append("needs = [" + ", ".join(f'"{need}"' for need in step.needs) + "]")
+        for word in ("run", "undo", "skip", "keep"):
+            cost = step.cost(word)
+            if cost is NEVER:
+                lines.append(f'{word} = "never"')
+            elif cost:
+                lines.append(f"{word} = {cost}")
+        if step.run.tries != 1:
+            lines.append(f"tries = {step.run.tries}")
+        if step.undo.tries != 1:
+            lines.append(f"undo_tries = {step.undo.tries}")
+    return "\n".join(lines) + "\n"
+
+
+def declared_text(saga: Saga) -> str:
+    """Return a text that differs if the declaration differs.
+
+    It is the definition. If the steps come from the input, it lists the declared parts instead.
+    """
+    if not saga.is_shaped:
+        return saga.toml()
+    saga.check()
+    lines = [f"# version {saga.version}", f'name = "{saga.name}"']
+    for part in saga.parts:
+        needs = [repr(need) for need in part._needs]
+        lines += [f'[{part.kind}] "{part.name}"', f"needs = {needs}"]
+        lines += [f"{word} = {_option_text(getattr(part, word))}" for word in ("for_each", "when")]
+        inner = getattr(part, "inner", None)
+        if inner is not None:
+            lines.append(f"of = {hashlib.sha256(declared_text(inner).encode()).hexdigest()}")
+            continue
+        step: Any = part
+        lines += [f"{word} = {_option_text(cost)}" for word, cost in step._costs.items()]
+        lines.append(f"tries = {step.run.tries}, {step.undo.tries}")
+        lines += [definition_text.COMPENSATED] * is_compensated(step)
+    return "\n".join(lines) + "\n"
+
+
+def _option_text(value: object) -> str:
+    return "function" if callable(value) else repr(value)
 
 
 if sys.version_info < (3, 11):  # pragma: no cover

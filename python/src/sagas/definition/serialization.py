@@ -14,7 +14,14 @@ from collections.abc import Callable, Iterable
 from typing import Any
 
 from sagas.base.errors import CannotDecode, NotSerializable, ResultNotSerializable, StepFailed
-from sagas.definition.decoders import Decoder, is_old_model
+
+Decoder = Callable[[Any], Any]
+
+
+def is_old_model(kind: type) -> bool:
+    """Return whether a class is a model of pydantic 1, or of `pydantic.v1`."""
+    return hasattr(kind, "__fields__") and hasattr(kind, "parse_obj")
+
 
 NUMBERS = {int, float, bool}
 UNSTORABLE = "unstorable"

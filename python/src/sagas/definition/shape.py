@@ -1,4 +1,4 @@
-"""`Shape`: the steps of a saga for an input, with their needs and costs.
+"""`Shape`: the steps of a saga for an input, with their needs and costs, and its definition.
 
 A shape is computed once, when a saga starts. The store keeps the definition that it makes, and the
 values of the shape.
@@ -6,28 +6,36 @@ values of the shape.
 
 from __future__ import annotations
 
+import collections.abc
 import dataclasses
+import inspect
 import traceback
+import typing
 from collections.abc import Callable, Iterator, Mapping, Sequence
-from typing import TYPE_CHECKING, Any
+from typing import Any, TYPE_CHECKING
 
 from sagas.base.errors import InvalidInput, SagasError, TooLarge
-from sagas.definition import (
-    joins,
-    mismatches,
-    serialization,
-    shape_validation,
-    validation,
+from sagas.definition import children, decoders, definition_text, layout, serialization, type_checks
+from sagas.definition.call_options import Cost, MOST_COST, Manner, is_cost, nothing
+from sagas.definition.definition_text import OF
+from sagas.definition.layout import JOIN_ENDING, Scope, ShapeValues, StepOrigin
+from sagas.definition.serialization import Decoder
+from sagas.definition.step import (
+    FanOut,
+    ForEach,
+    Inclusion,
+    MOST_NEEDS,
+    MOST_STEPS,
+    Part,
+    Step,
+    is_compensated,
+    is_each,
+    need_name,
 )
-from sagas.definition.declaration import Declaration
-from sagas.definition.layout import Scope, StepOrigin
-from sagas.definition.parts import Inclusion
-from sagas.definition.shape_values import ShapeValues
 
 if TYPE_CHECKING:
-    from sagas.definition.parts import ForEach, Part
     from sagas.definition.saga import Saga
-    from sagas.definition.step import Cost, Step
+    from sagas.definition.task import Task
 
 ONE = (None,)
 """The numbers of items of a part without `for_each`."""
@@ -134,7 +142,9 @@ class Shape:
         try:
             value = serialization.read(text, self._declared.input(()))
         except Exception as error:  # of the type's own code
-            raise InvalidInput(f"saga {saga.name!r}: input{mismatches.of(error)}") from None
+            raise InvalidInput(
+                f"saga {saga.name!r}: input{type_checks.mismatch_of(error)}"
+            ) from None
         self.root = self._fill(Level(saga, (), ""), value)
         if not self.count:
             raise InvalidInput(
@@ -154,7 +164,7 @@ class Shape:
                     level.inner[part.name, index] = inside
                 continue
             self.count += len(indices)
-            if self.count > validation.MOST_STEPS:
+            if self.count > MOST_STEPS:
                 raise self._too_many()
             if costs := self._declared.computed_costs(part):
                 for index in indices:
@@ -218,8 +228,8 @@ class Shape:
     ) -> Cost:
         argument = value if origin.number is None else self._item(step, origin)
         cost: Cost = _called(step, word, function, argument)
-        if not shape_validation.is_cost(cost):
-            rule = f"an integer from 0 to {validation.MOST_COST:,}, or sagas.NEVER"
+        if not is_cost(cost):
+            rule = f"an integer from 0 to {MOST_COST:,}, or sagas.NEVER"
             raise _invalid(step, f"{word}= returned a {type(cost).__name__} that is not {rule}")
         return cost
 
@@ -227,7 +237,7 @@ class Shape:
         try:
             return self.values.item(origin, self._declared.item(origin))
         except Exception as error:  # of the type's own code
-            raise _invalid(part, f"item {origin.number}{mismatches.of(error)}") from None
+            raise _invalid(part, f"item {origin.number}{type_checks.mismatch_of(error)}") from None
 
     def _inside(self, level: Level, part: Inclusion, index: int | None, value: Any) -> Level:
         origin = StepOrigin(level.scope, part.name, index)
@@ -240,7 +250,7 @@ class Shape:
             text = serialization.write_value(plain)
             value = serialization.read(text, self._declared.input(scope))
         except Exception as error:  # of the type's own code
-            raise _invalid(part, f"input{mismatches.of(error)}") from None
+            raise _invalid(part, f"input{type_checks.mismatch_of(error)}") from None
         return self._fill(Level(part.inner, scope, prefix, (level, part, index)), value)
 
     # -- needs
@@ -252,13 +262,13 @@ class Shape:
             TooLarge: There are more steps than a saga can have.
         """
         steps = self._within(self.root)
-        if len(steps) > validation.MOST_STEPS:
+        if len(steps) > MOST_STEPS:
             raise self._too_many()
         return steps
 
     def _too_many(self) -> TooLarge:
         return TooLarge(
-            f"saga {self.saga.name!r} has more than {validation.MOST_STEPS:,} steps for this "
+            f"saga {self.saga.name!r} has more than {MOST_STEPS:,} steps for this "
             "input. Nothing was started. Give it fewer items, or start several sagas"
         )
 
@@ -309,10 +319,10 @@ class Shape:
 
     def _join(self, level: Level, part: Part, names: list[str]) -> str:
         """Return the name of the joining step that needs all steps of a part."""
-        name = level.prefix + part.name + joins.ENDING
+        name = level.prefix + part.name + layout.JOIN_ENDING
         if name not in self._joins:
-            origin = StepOrigin(level.scope, part.name + joins.ENDING)
-            step = joins.step_of(level.saga, origin.name)
+            origin = StepOrigin(level.scope, part.name + layout.JOIN_ENDING)
+            step = joining_step(level.saga, origin.name)
             assert step is not None
             self._joins[name] = level, ShapedStep(name, step, origin, names)
         return name
@@ -321,8 +331,8 @@ class Shape:
         needed: dict[str, None] = {}
         parts = level.saga.parts_by_name
         for need in part._needs:
-            other = parts[shape_validation.need_name(need)]
-            is_own = shape_validation.is_each(need) and index is not None
+            other = parts[need_name(need)]
+            is_own = is_each(need) and index is not None
             own_entry = level.entries[other.name].get(index) if is_own else None
             if own_entry is not None:
                 names = self._last_steps(level, other, own_entry)
@@ -409,3 +419,289 @@ def _plain(part: Part, name: str, value: Any) -> Any:
         return serialization.read(serialization.write_value(value, name))
     except SagasError as error:
         raise _invalid(part, str(error)) from None
+
+
+# -- the definition of a shape
+
+
+class Template:
+    """The text that the definitions of all shapes with one structure have in common."""
+
+    __slots__ = ("_pieces", "_cost_names")
+
+    def __init__(self, shape: Shape) -> None:
+        """Make the template from one of the shapes.
+
+        Raises:
+            TooLarge: The shape has more needs than a saga can have.
+        """
+        self._pieces: list[str] = []  # with a computed cost between each two pieces
+        self._cost_names: list[str] = []
+        saga, needs = shape.saga, 0
+        lines = [f"# version {saga.version}"] if saga.version != 1 else []
+        lines += [
+            f"# includes {path} {part.inner.name} {part.inner.version}"
+            f"{' given' if part.given else ''}"
+            for path, part in inclusions(saga)
+        ]
+        lines += ["format = 2", f'name = "{saga.name}"']
+        for step in shape.steps():
+            needs += len(step.needs)
+            lines = self._step(step, lines)
+        if needs > MOST_NEEDS:
+            raise TooLarge(
+                f"saga {saga.name!r} has {needs:,} needs for this input, and may have at most "
+                f"{MOST_NEEDS:,}. Nothing was started. Declare a step in between"
+            )
+        self._pieces.append(_joined_lines(lines))
+
+    def _step(self, shaped: ShapedStep, lines: list[str]) -> list[str]:
+        """Add a step to the lines, and return the lines after the last computed cost."""
+        lines += ("", "[[step]]", f'name = "{shaped.name}"', f"{OF}{shaped.origin.path}")
+        if is_compensated(shaped.step):
+            lines.append(definition_text.COMPENSATED)
+        if shaped.needs:
+            lines.append("needs = [" + ", ".join([f'"{need}"' for need in shaped.needs]) + "]")
+        for name in COSTS:
+            if callable(shaped.step.declared_cost(name)):
+                self._pieces.append(_joined_lines(lines))
+                self._cost_names.append(name)
+                lines = []
+            elif cost := _cost_line(name, shaped.step.cost(name)):
+                lines.append(cost[:-1])
+        if shaped.step.run.tries != 1:
+            lines.append(f"tries = {shaped.step.run.tries}")
+        if shaped.step.undo.tries != 1:
+            lines.append(f"undo_tries = {shaped.step.undo.tries}")
+        return lines
+
+    def text(self, costs: Sequence[Cost]) -> str:
+        """Return the definition with these computed costs."""
+        parts = [self._pieces[0]]
+        for name, cost, piece in zip(self._cost_names, costs, self._pieces[1:], strict=True):
+            parts += (_cost_line(name, cost), piece)
+        return "".join(parts)
+
+
+def write_definition(shape: Shape) -> str:
+    """Return the definition of a shape.
+
+    Raises:
+        TooLarge: It has more needs than a saga can have.
+    """
+    return Template(shape).text(shape.costs)
+
+
+def _joined_lines(lines: list[str]) -> str:
+    return "".join([f"{line}\n" for line in lines])
+
+
+def _cost_line(name: str, cost: Cost) -> str:
+    """Return the line of a cost; the empty text for the default 0."""
+    if isinstance(cost, int):
+        return f"{name} = {cost}\n" if cost else ""
+    return f'{name} = "never"\n'
+
+
+def inclusions(saga: Saga, outer: str = "") -> Iterator[tuple[str, Inclusion]]:
+    """Yield the inclusions of a saga and of its included sagas, each with its path."""
+    for part in saga.parts:
+        if isinstance(part, Inclusion):
+            path = f"{outer}{part.name}"
+            yield path, part
+            yield from inclusions(part.inner, f"{path}/")
+
+
+# -- the declaration of a saga
+
+
+COSTS = ("run", "undo", "skip", "keep")
+ComputedCosts = Sequence[tuple[str, Callable[[Any], Any]]]
+"""The costs of a step that are functions, in the order of `COSTS`."""
+Hints = tuple[Decoder | None, Decoder | None, Decoder | None]
+"""The decoders of a step's input, of its result, and of the input of its compensation."""
+
+
+class Declaration:
+    """A saga as this program declares it. Look up its steps by their origins.
+
+    It caches what it looks up, since the definitions of all shapes of the saga look up the same.
+    """
+
+    def __init__(self, saga: Saga | None) -> None:
+        self.root: Saga | None = saga
+        self._sagas: dict[tuple[str, ...], Saga | None] = {(): saga}
+        self._hints: dict[Step[Any], Hints] = {}
+        self._inputs: dict[Saga, Decoder | None] = {}
+        self._items: dict[Any, Decoder | None] = {}
+        self._costs: dict[Step[Any], ComputedCosts] = {}
+
+    def _within(self, names: tuple[str, ...]) -> Saga | None:
+        if names not in self._sagas:
+            part = self._part(names[:-1], names[-1])
+            self._sagas[names] = part.inner if isinstance(part, Inclusion) else None
+        return self._sagas[names]
+
+    def _part(self, names: tuple[str, ...], name: str) -> Any:
+        saga = self._within(names)
+        return None if saga is None else saga.parts_by_name.get(name)
+
+    def step(self, origin: StepOrigin) -> Step[Any] | None:
+        """Return the step that is declared at an origin.
+
+        Returns:
+            None if the program does not declare the step, or if only one of the program and the
+            definition has items for it.
+        """
+        names = tuple(name for name, _ in origin.scope)
+        part = self._part(names, origin.name)
+        if part is None and (saga := self._within(names)) is not None:
+            part = joining_step(saga, origin.name)
+        if part is None or isinstance(part, Inclusion):
+            return None
+        step: Step[Any] = part
+        return step if (step.for_each is None) == (origin.number is None) else None
+
+    def included(self, path: str) -> Saga | None:
+        """Return the saga that is included at a path of names, for example `p/hotel`."""
+        return self._within(tuple(path.split("/")))
+
+    def hints(self, step: Step[Any] | None) -> Hints:
+        """Return the decoders of a step's values."""
+        if step is None:
+            return None, None, None
+        if step not in self._hints:
+            undo = step.undo.function
+            undo_input = decoders.hints(undo)[0] if undo else None
+            self._hints[step] = (*children.hints(step), undo_input)
+        return self._hints[step]
+
+    def computed_costs(self, step: Step[Any]) -> ComputedCosts:
+        """Return the costs of a step that are functions of the input."""
+        if step not in self._costs:
+            costs = ((name, step.declared_cost(name)) for name in COSTS)
+            self._costs[step] = [(name, cost) for name, cost in costs if callable(cost)]
+        return self._costs[step]
+
+    # -- of a scope
+
+    def saga(self, scope: Scope) -> str:
+        """Return the name of the saga in a scope."""
+        saga = self._within(tuple(name for name, _ in scope))
+        return saga.name if saga else ""
+
+    def input(self, scope: Scope) -> Decoder | None:
+        """Return the decoder of the input of the saga in a scope."""
+        saga = self._within(tuple(name for name, _ in scope))
+        if saga is None:
+            return None
+        if saga not in self._inputs:
+            self._inputs[saga] = saga.input_decoder
+        return self._inputs[saga]
+
+    def item(self, origin: StepOrigin) -> Decoder | None:
+        """Return the decoder of the items of a step, or of an inclusion."""
+        part = self._part(tuple(name for name, _ in origin.scope), origin.name)
+        if part is None:
+            return None
+        if part not in self._items:
+            self._items[part] = item_decoder(part)
+        return self._items[part]
+
+    def fan_outs(self, scope: Scope) -> Sequence[str]:
+        """Return the names of the fan-outs of the saga in a scope."""
+        saga = self._within(tuple(name for name, _ in scope))
+        parts = saga.parts_by_name.values() if saga else ()
+        return [part.name for part in parts if isinstance(part, FanOut)]
+
+    def given(self, scope: Scope) -> Callable[[Any], Any] | None:
+        """Return the function `given=` of the inclusion of a scope, or None."""
+        names = tuple(name for name, _ in scope)
+        part = self._part(names[:-1], names[-1])
+        return part.given if isinstance(part, Inclusion) else None
+
+
+async def _join(task: Task[Any]) -> None:
+    """Do nothing: the step exists for its needs."""
+
+
+def joining_step(saga: Saga, name: str) -> Step[Any] | None:
+    """Return the joining step with this name, or None if the saga has no such part."""
+    part = saga.parts_by_name.get(name.removesuffix(JOIN_ENDING))
+    if part is None or not name.endswith(JOIN_ENDING):
+        return None
+    costs: dict[str, Any] = dict.fromkeys(("run", "undo", "skip", "keep"), 0)
+    step: Step[Any] = Step(saga, name, part.where, "step", (part.name,), costs, Manner(_join))
+    step.undo = Manner(nothing, implied=True)
+    return step
+
+
+# -- types of inputs and items
+
+
+LISTS = (list, tuple, set, frozenset, collections.abc.Sequence, collections.abc.Iterable)
+DICTS = (dict, collections.abc.Mapping)
+
+
+def saga_input_hint(saga: Saga) -> Any:
+    """Return the type of a saga's input: declared, or of the first type hint."""
+    if saga.input_type is not None:
+        return saga.input_type
+    functions = (step.run.function for step in saga.steps if step.run.function)
+    hints = (decoders.input_hint(function) for function in functions)
+    return next((hint for hint in hints if hint is not None), None)
+
+
+def saga_input_decoder(saga: Saga) -> Decoder | None:
+    """Return the decoder of a saga's input for the functions that compute its shape."""
+    return decoders.decoder(saga_input_hint(saga))
+
+
+def item_decoder(part: Part) -> Decoder | None:
+    """Return the decoder of the items of a fan-out."""
+    return decoders.decoder(_item_hint(part))
+
+
+def _item_hint(part: Part) -> Any:
+    """Return the item's type: of the hint `ItemTask[..., T]`, else of `for_each`."""
+    if isinstance(part, Step) and part.run.function:
+        arguments = decoders.task_hints(part.run.function)
+        if len(arguments) > 1:
+            return arguments[1]
+    items = part.for_each
+    hint = (
+        _hint_by_name(saga_input_hint(part.saga), items)
+        if isinstance(items, str)
+        else _returned_hint(items)
+    )
+    return _hint_inside(hint)
+
+
+def _function_hints(function: Any) -> dict[str, Any]:
+    try:
+        return typing.get_type_hints(inspect.unwrap(function))
+    except Exception:  # only a type checker imports a name, or it is not a function
+        return {}
+
+
+def _returned_hint(function: Any) -> Any:
+    return _function_hints(function).get("return")
+
+
+def _hint_by_name(hint: Any, path: str) -> Any:
+    """Return the type of a part of a value, for a path such as `hotel.rooms`."""
+    for name in path.split("."):
+        if not isinstance(hint, type):
+            return None
+        hint = _function_hints(hint).get(name)
+    return hint
+
+
+def _hint_inside(hint: Any) -> Any:
+    """Return the type of the items of a list or a dict."""
+    origin, arguments = typing.get_origin(hint), typing.get_args(hint)
+    if origin in LISTS and arguments:
+        return arguments[0]
+    if origin in DICTS and len(arguments) == 2:
+        return arguments[1]
+    return None

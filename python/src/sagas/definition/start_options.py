@@ -6,8 +6,8 @@ import dataclasses
 import datetime
 
 from sagas.definition import arguments, labels as labels_module
+from sagas.definition.call_options import Seconds, seconds
 from sagas.definition.labels import Labels
-from sagas.definition.step import Seconds, seconds
 
 Deadline = Seconds | datetime.datetime
 """A duration from now, or a datetime with a time zone."""

@@ -1,182 +1,86 @@
-"""`Step`, `Backoff` and `NEVER`."""
+"""`Step`, and what else `needs=` can name: fan-outs, included sagas, collections."""
 
 from __future__ import annotations
 
 import dataclasses
 import datetime
-import enum
 import inspect
-import random
+import re
+import sys
 import types
-from collections.abc import Callable, Iterable
-from typing import TYPE_CHECKING, Any, Literal, Protocol, TypeVar, Union, overload
+from collections.abc import Awaitable, Callable, Iterable, Iterator, Mapping, Sequence
+from typing import Any, Generic, NamedTuple, Protocol, TYPE_CHECKING, TypeVar, Union, overload
 
-from sagas.definition import validation
-from sagas.definition.decorators import Decorator
-from sagas.definition.selection import Selection
-from sagas.definition.task import Task
+from sagas.base.errors import DefinitionError, StepFailed
+from sagas.definition.call_options import (
+    Backoff,
+    Bounds,
+    Cost,
+    CostOf,
+    EarlyUnused,
+    Manner,
+    NEVER,
+    OnExhausted,
+    RemoteQueue,
+    Seconds,
+    Unknowns,
+    function_faults,
+    option_faults,
+    seconds,
+)
 
 if TYPE_CHECKING:
-    from sagas.definition.parts import ForEach, Need
     from sagas.definition.saga import Saga
+    from sagas.definition.task import ItemTask
+    from sagas.definition.waits import Until
 
+MOST_STEPS, MOST_NEEDS = 1024, 8192
+R_co = TypeVar("R_co", covariant=True)
 R = TypeVar("R")
+C = TypeVar("C")
+T = TypeVar("T")
 
 
-class _Never(enum.Enum):
-    NEVER = "never"
-
-    def __repr__(self) -> str:
-        return "sagas.NEVER"
-
-
-NEVER: Literal[_Never.NEVER] = _Never.NEVER
-"""The cost of an operation that is not allowed."""
-
-Cost = Union[int, Literal[_Never.NEVER]]
-"""A whole number from 0 to 1,000,000,000, in any unit; or `NEVER`."""
-
-CostOf = Union[Cost, Callable[[Any], Any]]
-"""A cost, or a function of the input that returns one (with `for_each`: of the item)."""
-
-Function = Callable[[Task[Any]], Any]
-Until = Union[
-    datetime.timedelta,
-    datetime.datetime,
-    Callable[[Task[Any]], Union[datetime.timedelta, datetime.datetime]],
-]
-Unknowns = tuple[type[BaseException], ...]
-
-UNKNOWN: Unknowns = (TimeoutError, ConnectionError)
-"""The exceptions after which the outcome of a function is unknown by default."""
-
-EarlyUnused = Literal["ask", "compensate"]
-"""The reaction to a report of a step that does not start before its saga ends."""
-OnExhausted = Literal["fail", "ask", "retry"]
-"""The reaction to the failure of the last attempt of a step, or of a compensation."""
-
-Seconds = Union[float, datetime.timedelta]
-"""A duration: seconds, or a timedelta."""
-
-MANY_TRIES = 9
-
-
-def seconds(time: Seconds) -> float:
-    """Return a duration in seconds."""
-    return time.total_seconds() if isinstance(time, datetime.timedelta) else time
-
-
-def _rate(rate: Any) -> Any:
-    """Return a rate limit with its period in seconds."""
-    return (rate[0], seconds(rate[1])) if isinstance(rate, tuple) and len(rate) == 2 else rate
-
-
-@dataclasses.dataclass(frozen=True, slots=True)
-class Backoff:
-    """Set the pauses between attempts: exponential, with a maximum.
-
-    Args:
-        initial: Seconds before the second attempt (default: 1).
-        maximum: The longest pause, in seconds (default: 60).
-        multiplier: The factor by which each pause is longer than the one before (default: 2).
-        jitter: A fraction from 0 to 1. Each pause is shortened at random by up to this fraction, so
-            that sagas that failed together do not retry together (default: 0).
-
-    Example:
-        >>> [sagas.Backoff(initial=5).after(attempt) for attempt in (1, 2, 3, 4, 5)]
-        [5.0, 10.0, 20.0, 40.0, 60.0]
-    """
-
-    initial: float = 1.0
-    maximum: float = 60.0
-    multiplier: float = 2.0
-    jitter: float = 0.0
-
-    def after(self, attempt: int) -> float:
-        """Return the seconds to wait after an attempt.
-
-        Args:
-            attempt: The attempt's number, from 1.
-        """
-        pause = min(self.maximum, self.initial * self.multiplier ** min(attempt - 1, 64))
-        return pause * (1 - self.jitter * random.random()) if self.jitter else pause
-
-
-@dataclasses.dataclass(frozen=True, slots=True)
-class Bounds:
-    """The limits of a step's function over all nodes.
+class Selection(Generic[R_co]):
+    """Select steps of a saga whose results together are an `R`.
 
     Attributes:
-        concurrency: Maximum concurrent calls, or None.
-        rate_limit: Maximum number of calls that start in a period, and the period in seconds.
+        saga: The saga with the steps.
     """
 
-    concurrency: int | None = None
-    rate_limit: tuple[int, float] | None = None
-    is_keyed: bool = False
-    """Whether the concurrency applies to each result of `concurrency_by` separately."""
-
-
-class RemoteQueue(Protocol):
-    """A queue whose workers call a step's function: a `sagas.celery.Queue`."""
-
-    timeout: float
-    """Seconds without a report after which the outcome is unknown, if the step has no timeout."""
-
-    def declare(self, step: Step[Any], kind: str, manner: Manner) -> None:
-        """Register a step's function (`kind` is `run`), or its compensation (`undo`)."""
-
-    async def check(self, database: Any, steps: Iterable[tuple[Step[Any], str]]) -> None:
-        """Check that the workers report into this store.
-
-        Raises:
-            WrongStore: The workers report into another store.
-            DefinitionError: A step cannot run in this queue.
-        """
-
-    async def send(self, order: Any) -> None:
-        """Send a message for an attempt. It raises an exception if that failed."""
-
-
-@dataclasses.dataclass(slots=True)
-class Manner:
-    """The options of calls of a step's function, or of its compensation."""
-
-    function: Function | None = None
-    tries: int = 1
-    timeout: float | None = None
-    backoff: Backoff = Backoff()
-    unknown: Unknowns = UNKNOWN
-    max_unknown: int | datetime.timedelta | None = None
-    external: bool = False
-    """Whether it has no function here: a person or another program reports the outcome."""
-    transaction: bool = False
-    """Whether the function runs in a transaction of the store's database, with its result."""
-    asks: bool = False
-    """Whether the function is that of an approval: it asks for a decision, or returns one."""
-    implied: bool = False
-    """Whether the compensation is not declared, and does nothing.
-
-    Waits, approvals and steps with `undo=0` have such a compensation.
-    """
-    queue: RemoteQueue | None = None
-    """The queue whose workers call the function; None for the program with the store."""
-    cancel_on_abort: bool = False
-    """Whether the function is cancelled when its saga is aborted."""
-    on_exhausted: OnExhausted = "fail"
-    """The reaction to the failure of the last attempt."""
-    max_attempts: int | None = None
-    """The maximum number of attempts; None for `tries`."""
+    saga: Saga
 
     @property
-    def is_simple(self) -> bool:
-        """Whether it is an async function of this program without a timeout."""
-        plain = self.function is not None and self.timeout is None and self.queue is None
-        return plain and inspect.iscoroutinefunction(self.function)
+    def path(self) -> tuple[str, ...]:
+        """The names of the inclusions around the step, and of the step."""
+        raise NotImplementedError
+
+    @property
+    def is_own(self) -> bool:
+        """Whether only the step of the same item is selected."""
+        return False
 
 
-def nothing(task: Task[Any]) -> None:
-    """Do nothing, as the compensation of a step without an effect."""
+class Decorator:
+    """A decorator that `saga.step(...)` or a similar call returned, not yet applied.
+
+    Attributes:
+        where: File and line of the call.
+        call: The called function, for messages: `order.step`.
+        name: The name of the step, if the call names it.
+    """
+
+    def __init__(
+        self, saga: Saga, call: str, name: str | None, declare: Callable[[Any], Any]
+    ) -> None:
+        self.where, self.call, self.name = caller(3), call, name
+        self._declare, self._saga = declare, saga
+        saga.decorators.append(self)
+
+    def __call__(self, function: Callable[[Any], Any]) -> Any:
+        if self in self._saga.decorators:
+            self._saga.decorators.remove(self)
+        return self._declare(function)
 
 
 class Step(Selection[R]):
@@ -254,7 +158,7 @@ class Step(Selection[R]):
         """
         cost = self._costs[word]
         if callable(cost):
-            raise validation.of_step(self, f"{word}= is a function, so it comes from the input")
+            raise step_error(self, f"{word}= is a function, so it comes from the input")
         if cost is not None:
             return cost
         if self.child is not None and (word == "keep" or self.undo.implied):
@@ -368,16 +272,16 @@ class Step(Selection[R]):
         """
 
         def declare(function: Callable[[Any], Any] | None) -> Callable[[Any], Any] | None:
-            where = validation.location_of(function) or validation.caller(3)
+            where = location_of(function) or caller(3)
             if self.has_compensation and not self.undo.implied:
-                raise validation.of_step(
+                raise step_error(
                     self,
                     "has two compensations, but one must undo everything. Call both from one "
                     "function, or remove one",
                     where,
                 )
             if self._costs["undo"] is NEVER:
-                raise validation.of_step(
+                raise step_error(
                     self,
                     "has a compensation, but undo=NEVER says that it is never called. Remove one "
                     "of them",
@@ -400,7 +304,7 @@ class Step(Selection[R]):
                 max_attempts=max_attempts,
             )
             self.undo.queue = (self.run.queue if queue is ... else queue) if function else None
-            validation.check_manner(self, self.undo, "compensation", where)
+            check_manner(self, self.undo, "compensation", where)
             if self.undo.queue:
                 self.undo.queue.declare(self, "undo", self.undo)
             return function
@@ -412,8 +316,386 @@ class Step(Selection[R]):
     def __call__(self, task: Any) -> Any:
         """Call the step's function, for tests of the function."""
         if self.run.function is None:
-            raise validation.of_step(self, "has no function in this program")
+            raise step_error(self, "has no function in this program")
         return self.run.function(task)
 
     def __repr__(self) -> str:
         return f"<step {self.name} of saga {self.saga.name}>"
+
+
+class Declare(Protocol):
+    """The type of `saga.step(...)`: a decorator that makes a step of a function."""
+
+    @overload
+    def __call__(self, function: Callable[[Any], Awaitable[R]], /) -> Step[R]:
+        ...
+
+    @overload
+    def __call__(self, function: Callable[[Any], R], /) -> Step[R]:
+        ...
+
+
+# -- collections
+
+
+@dataclasses.dataclass(frozen=True, slots=True)
+class Collected(Generic[R]):
+    """Hold the outcomes of the items of a fan-out. Made by `Task.result_of`.
+
+    Attributes:
+        results: The results of the items that succeeded, by their numbers, or by their keys.
+        errors: The errors of the other items, by their numbers, or by their keys.
+    """
+
+    results: dict[int | str, R]
+    errors: dict[int | str, str]
+
+
+class Collection(Selection[Collected[R]]):
+    """The items of a fan-out, whether they succeeded or failed. Made by `collect`."""
+
+    def __init__(self, step: FanOut[Any, R]) -> None:
+        self.step, self.saga = step, step.saga
+        self.name: str = step.name
+
+    @property
+    def path(self) -> tuple[str, ...]:
+        """As of `Selection`."""
+        return self.step.path
+
+    def __repr__(self) -> str:
+        return f"<collected {self.name} of saga {self.saga.name}>"
+
+
+def collect(step: FanOut[Any, R]) -> Collection[R]:
+    """Need the items of a fan-out whether they succeed or fail.
+
+    Write `needs=[sagas.collect(ship)]`. The failure of an item is then a result: the saga
+    continues, and the compensation of the item is not called. `task.result_of(sagas.collect(ship))`
+    is a `Collected`. For an item that failed, `task.result_of(ship.each)` raises `StepFailed`.
+
+    Args:
+        step: A step with `for_each=`.
+
+    Returns:
+        A need for `needs=`, and the argument of `Task.result_of`.
+
+    Raises:
+        DefinitionError: The step has no `for_each=`.
+
+    Example:
+        >>> batch = sagas.Saga("batch")
+        >>> @batch.step(for_each="numbers", undo=0)
+        ... def invert(task):
+        ...     return 1 / task.item
+        >>> @batch.step(needs=[sagas.collect(invert)])
+        ... def report(task):
+        ...     collected = task.result_of(sagas.collect(invert))
+        ...     return [collected.results, collected.errors]
+        >>> sagas.testing.run(batch, {"numbers": [2, 0]}).result_of(report)
+        [{'0': 0.5}, {'1': 'ZeroDivisionError: division by zero'}]
+    """
+    if not isinstance(step, FanOut):
+        raise DefinitionError(f"{caller(2)}: collect({step!r}): must be a step with for_each=")
+    return Collection(step)
+
+
+def mark_collected(needs: Iterable[object]) -> None:
+    """Mark the steps that `collect` needs: failures of their items are results."""
+    for need in needs:
+        if isinstance(need, Collection):
+            need.step.is_collected = True
+
+
+def collected_of(names: Any, result_of: Callable[[str], Any]) -> Collected[Any]:
+    """Return the outcomes of the steps with these names.
+
+    Args:
+        names: The names, in a list, or in a dict by the keys of the items.
+        result_of: Returns the result of a step, or raises `StepFailed`.
+    """
+    collected: Collected[Any] = Collected({}, {})
+    for key, name in names.items() if isinstance(names, dict) else enumerate(names):
+        try:
+            collected.results[key] = result_of(name)
+        except StepFailed as error:
+            collected.errors[key] = error.detail
+    return collected
+
+
+# -- fan-outs and included sagas
+
+
+ForEach = Union[str, Callable[[Any], Union[Sequence[Any], Mapping[str, Any]]]]
+"""The items: the name of a list or a dict in the input, or a function that returns one."""
+
+
+class Each(Selection[R]):
+    """The step, or the included saga, of the same item: `ship.each`."""
+
+    def __init__(self, part: FanOut[Any, R] | Inclusion) -> None:
+        self.part, self.saga = part, part.saga
+
+    @property
+    def name(self) -> str:
+        """The name of the step, or of the inclusion."""
+        return self.part.name
+
+    @property
+    def path(self) -> tuple[str, ...]:
+        """As of `Selection`."""
+        return (self.part.name,)
+
+    @property
+    def is_own(self) -> bool:
+        """Whether only the step of the same item is selected: always."""
+        return True
+
+    def __repr__(self) -> str:
+        return f"<{self.part.name}.each of saga {self.saga.name}>"
+
+
+class FanOut(Step[C], Generic[C, R]):
+    """Hold a step that exists once for each item, whose function returns `R`.
+
+    Made by `Saga.step` and its like with `for_each=`. Its results are a `C`: a list, or a dict by
+    the keys of the items.
+    """
+
+    @property
+    def each(self) -> Each[R]:
+        """In `needs=`, and in `Task.result_of`: the step of the same item."""
+        return Each(self)
+
+
+class Within(Selection[R]):
+    """A step of an included saga: `hotel[reserve]`."""
+
+    def __init__(self, inclusion: Inclusion, inner: Selection[R]) -> None:
+        self.inclusion, self.inner, self.saga = inclusion, inner, inclusion.saga
+
+    @property
+    def path(self) -> tuple[str, ...]:
+        """As of `Selection`."""
+        return (self.inclusion.name, *self.inner.path)
+
+    def __repr__(self) -> str:
+        return f"<{'/'.join(self.path)} of saga {self.saga.name}>"
+
+
+class Inclusion:
+    """Hold the steps of another saga within this one's. Made by `Saga.include`.
+
+    It can be needed as a step can. Write `hotel[reserve]` for a step of it.
+
+    Attributes:
+        saga: The saga that includes.
+        inner: The saga that is included.
+        name: The inclusion's name.
+        where: File and line of the declaration.
+        input: The included saga's input, as given to `Saga.include`.
+        given: As given to `Saga.include`.
+        for_each: As given to `Saga.include`.
+        when: As given to `Saga.include`.
+    """
+
+    kind = "include"
+
+    def __init__(
+        self,
+        saga: Saga,
+        inner: Saga,
+        name: str,
+        where: str,
+        needs: tuple[Need, ...],
+        input: str | Callable[[Any], Any] | None,
+        given: Callable[[Any], Any] | None,
+        for_each: ForEach | None,
+        when: Callable[[Any], Any] | None,
+    ) -> None:
+        self.saga, self.inner, self.name, self.where = saga, inner, name, where
+        self.input, self.given, self.for_each, self.when = input, given, for_each, when
+        self._needs = needs
+
+    @property
+    def needs(self) -> list[str]:
+        """The names of the steps and inclusions that it needs."""
+        return [need if isinstance(need, str) else need.name for need in self._needs]
+
+    def __getitem__(self, step: Selection[R]) -> Selection[R]:
+        """Return a step of the included saga, to ask for its result.
+
+        Args:
+            step: The step, as the included saga knows it.
+        """
+        return Within(self, step)
+
+    def __repr__(self) -> str:
+        return f"<{self.inner.name} as {self.name} of saga {self.saga.name}>"
+
+
+class FanOutInclusion(Inclusion):
+    """Hold the steps of another saga within this one's, once for each item.
+
+    Made by `Saga.include` with `for_each=`. For all else see `Inclusion`.
+    """
+
+    @property
+    def each(self) -> Each[Any]:
+        """In `needs=`: the included saga of the same item."""
+        return Each(self)
+
+    def __getitem__(self, step: Selection[R]) -> Selection[Any]:
+        """Return a step of all these sagas, whose result is a list or a dict.
+
+        Args:
+            step: The step, as the included saga knows it.
+        """
+        return Within(self, step)
+
+
+class DeclareEach(Protocol[T]):
+    """The type of `saga.step(for_each=...)` over a list: a decorator."""
+
+    @overload
+    def __call__(
+        self, function: Callable[[ItemTask[Any, T]], Awaitable[R]], /
+    ) -> FanOut[list[R], R]:
+        ...
+
+    @overload
+    def __call__(self, function: Callable[[ItemTask[Any, T]], R], /) -> FanOut[list[R], R]:
+        ...
+
+
+class DeclareKeyed(Protocol[T]):
+    """The type of `saga.step(for_each=...)` over a dict: a decorator."""
+
+    @overload
+    def __call__(
+        self, function: Callable[[ItemTask[Any, T]], Awaitable[R]], /
+    ) -> FanOut[dict[str, R], R]:
+        ...
+
+    @overload
+    def __call__(self, function: Callable[[ItemTask[Any, T]], R], /) -> FanOut[dict[str, R], R]:
+        ...
+
+
+Part = Union[Step[Any], Inclusion]
+Need = Union[Step[Any], Each[Any], Inclusion, Collection[Any], str]
+"""An entry of `needs=`: a step, an inclusion, either of the same item, a collection, or a name."""
+
+
+# -- what a declaration says
+
+
+def is_compensated(step: Step[Any]) -> bool:
+    """Return whether a compensation is declared for a step."""
+    return step.has_compensation and not step.undo.implied
+
+
+def is_each(need: object) -> bool:
+    """Return whether a need means only the step of the same item."""
+    return isinstance(need, Each)
+
+
+def need_name(need: Any) -> str:
+    """Return the name of the needed part."""
+    return need if isinstance(need, str) else str(need.name)
+
+
+def is_shaped_step(step: Step[Any]) -> bool:
+    """Return whether a step's existence or its costs depend on the input."""
+    return step.for_each is not None or step.when is not None or has_computed_costs(step)
+
+
+def has_computed_costs(step: Step[Any]) -> bool:
+    """Return whether functions compute costs of a step."""
+    return any(map(callable, step._costs.values()))
+
+
+def plain_steps(saga: Saga) -> dict[str, Step[Any]]:
+    """Return the steps without `for_each`, by name."""
+    return {step.name: step for step in saga.steps if step.for_each is None}
+
+
+class Pattern(NamedTuple):
+    """The possible names of a declared step.
+
+    Attributes:
+        name: The name, with `#` for the number of an item.
+        path: The declared name: `hotel/room`.
+        step: The step.
+        where: File and line of the step, or of the inclusion in the outermost saga.
+    """
+
+    name: str
+    path: str
+    step: Step[Any]
+    where: str
+
+    def is_of(self, name: str) -> bool:
+        """Return whether a name, or a path, is one of the step."""
+        return name == self.path or bool(self.names.match(name))
+
+    @property
+    def names(self) -> re.Pattern[str]:
+        """The regular expression that matches the names."""
+        return re.compile(self.name.replace("#", r"\d+") + r"\Z")
+
+
+def patterns(saga: Saga, prefix: str = "", path: str = "", where: str = "") -> Iterator[Pattern]:
+    """Yield the patterns of a saga's steps and of those of included sagas."""
+    for part in saga.parts:
+        name = prefix + part.name + ("" if part.for_each is None else "-#")
+        if isinstance(part, Inclusion):
+            inner = f"{path}{part.name}/"
+            yield from patterns(part.inner, f"{name}-", inner, where or part.where)
+        else:
+            yield Pattern(name, f"{path}{part.name}", part, where or part.where)
+
+
+def step_named(saga: Saga, name: str) -> Step[Any] | None:
+    """Return the declared step of a name: `ship`, `ship-2` or `hotel/room`."""
+    return next((pattern.step for pattern in patterns(saga) if pattern.is_of(name)), None)
+
+
+# -- errors of declarations
+
+
+def location_of(function: Any) -> str | None:
+    """Return the file and the line of a function, or None if it has no code."""
+    code = getattr(inspect.unwrap(function), "__code__", None) if callable(function) else None
+    return f"{code.co_filename}:{code.co_firstlineno}" if code else None
+
+
+def caller(depth: int) -> str:
+    """Return the file and the line of the call `depth` frames up."""
+    frame = sys._getframe(depth)
+    return f"{frame.f_code.co_filename}:{frame.f_lineno}"
+
+
+def saga_error(saga: Saga, text: str) -> DefinitionError:
+    """Return an error of a saga's declaration, with its file and line."""
+    return DefinitionError(f"{saga.where}: saga {saga.name!r}: {text}")
+
+
+def step_error(step: Part, text: str, where: str | None = None) -> DefinitionError:
+    """Return an error of a step's declaration, with its file and line."""
+    return DefinitionError(
+        f"{where or step.where}: saga {step.saga.name!r}, step {step.name!r}: {text}"
+    )
+
+
+def check_manner(step: Step[Any], manner: Manner, role: str, where: str) -> None:
+    """Raise `DefinitionError` if a function or an option of its calls is not valid.
+
+    Args:
+        step: The step.
+        manner: The function and its options.
+        role: `function` or `compensation`, for the message.
+        where: File and line of the declaration.
+    """
+    for text in (*option_faults(manner, role), *function_faults(manner, role)):
+        raise step_error(step, text, where)

@@ -12,10 +12,12 @@ import re
 import threading
 from collections import OrderedDict
 from collections.abc import Callable, Iterator
-from typing import Any
+from typing import Any, TYPE_CHECKING
 
 from sagas.base.logger import logger
-from sagas.definition.task import Task
+
+if TYPE_CHECKING:
+    from sagas.definition.task import Task
 
 TRACEPARENT = re.compile(r"([0-9a-f]{2})-([0-9a-f]{32})-([0-9a-f]{16})-([0-9a-f]{2})(-.*)?\Z", re.S)
 KNOWN_FLAGS = 3

@@ -1,18 +1,27 @@
-"""Sagas that undo completed children: their steps are compensations."""
+"""Sagas that call compensations: to undo a completed child, or an unused report.
+
+An unused report is that of a step that did not start before its saga ended. The saga that undoes it
+has one step, which calls the compensation. Its input has the data of the compensation's task.
+"""
 
 from __future__ import annotations
 
 import dataclasses
-from collections.abc import Callable, Iterable, Mapping, Sequence
+import hashlib
+import inspect
+import json
+from collections.abc import Callable, Collection, Iterable, Mapping, Sequence
 from typing import Any
 
 from sagas.base.errors import DefinitionError
-from sagas.definition import children, compensation_task, listed_steps, undo_text, validation
-from sagas.definition.decoders import Decoder
+from sagas.definition import children, decoders, definition_text
+from sagas.definition.call_options import Cost, CostOf, NEVER
+from sagas.definition.definition_text import Compensation, MOST_NAME, undo_name_of
 from sagas.definition.saga import Saga
-from sagas.definition.step import NEVER, Cost, CostOf, Step
-from sagas.definition.task import Task
-from sagas.definition.undo_text import Compensation
+from sagas.definition.serialization import Decoder
+from sagas.definition.step import Step, is_compensated, saga_error, step_error
+from sagas.definition.task import RemoteStepLocation, Task
+from sagas.definition.task_data import TaskSnapshot
 
 
 def undo_saga(child: Saga) -> Saga | None:
@@ -29,13 +38,13 @@ def undo_saga(child: Saga) -> Saga | None:
         DefinitionError: Workers of a queue call a compensation: they do not know this saga.
     """
     if child.is_shaped:
-        raise validation.of_saga(
+        raise saga_error(
             child,
             "its steps come from its input, so no saga can undo it as a child. Give the step that "
             "starts it a compensation of its own, or undo=sagas.NEVER",
         )
     declared = declared_steps(child)
-    steps = undo_text.planned(listed_steps.of(child.toml()), declared)
+    steps = children.planned_compensations(definition_text.listed_steps(child.toml()), declared)
     for step in (declared[compensation.name] for compensation in steps):
         if step.undo.queue:
             raise DefinitionError(
@@ -48,7 +57,7 @@ def undo_saga(child: Saga) -> Saga | None:
 
 def text_of(child: Saga, steps: Iterable[Compensation]) -> str:
     """Return the definition of the saga that undoes a child with these steps."""
-    return undo_text.write(child.name, child.version, steps)
+    return definition_text.write_undo_definition(child.name, child.version, steps)
 
 
 def declared_steps(child: Saga | None) -> dict[str, Step[Any]]:
@@ -56,7 +65,7 @@ def declared_steps(child: Saga | None) -> dict[str, Step[Any]]:
     return {step.name: step for step in child.steps} if child else {}
 
 
-def of_child(child: Saga, text: str) -> str | None:
+def undo_text_of_child(child: Saga, text: str) -> str | None:
     """Return the definition of the saga that undoes a child of an earlier definition.
 
     Args:
@@ -66,18 +75,20 @@ def of_child(child: Saga, text: str) -> str | None:
     Returns:
         None if it has no compensation to call.
     """
-    steps = undo_text.planned(listed_steps.of(text), declared_steps(child))
+    steps = children.planned_compensations(
+        definition_text.listed_steps(text), declared_steps(child)
+    )
     return text_of(child, steps) if steps else None
 
 
-def of_text(child: Saga, text: str) -> Saga:
+def undo_saga_of_text(child: Saga, text: str) -> Saga:
     """Return the saga of a stored definition, with the compensations of this program.
 
     Args:
         child: The saga that it undoes, as this program declares it.
         text: The definition.
     """
-    return _made(child, undo_text.read(text), text)
+    return _made(child, definition_text.read_compensations(text), text)
 
 
 def lacks(child: Saga | None, text: str) -> str | None:
@@ -90,7 +101,9 @@ def lacks(child: Saga | None, text: str) -> str | None:
     if child is None:
         return "this program did not open the store with that saga"
     declared = declared_steps(child)
-    for compensation in undo_text.planned(listed_steps.of(text), declared):
+    for compensation in children.planned_compensations(
+        definition_text.listed_steps(text), declared
+    ):
         if not can_undo(declared.get(compensation.name)):
             return f"step {compensation.name!r} has no compensation in this program"
     return None
@@ -100,18 +113,20 @@ def can_undo(step: Step[Any] | None) -> bool:
     """Return whether the saga that undoes a child can undo one of the child's steps."""
     if step is None or step.undo.queue:
         return False
-    return step.starts_child("undo") or listed_steps.is_compensated(step)
+    return step.starts_child("undo") or is_compensated(step)
 
 
 def _made(child: Saga, steps: Sequence[Compensation], text: str) -> Saga:
     """Return the saga, without the steps that this program cannot undo."""
-    saga = Saga(undo_text.name_of(child.name), version=child.version)
+    saga = Saga(definition_text.undo_name_of(child.name), version=child.version)
     saga.where, saga.undoes, saga.undo_text = child.where, child, text
     saga.fair_by = _of_child(child.fair_by)
     declared, added = declared_steps(child), set[str]()
     sees = {compensation.name: compensation.sees for compensation in steps}
-    if text and not undo_text.sees_of(text):  # of an older release
-        planned = undo_text.planned(listed_steps.of(child.toml()), declared)
+    if text and not definition_text.sees_of(text):  # of an older release
+        planned = children.planned_compensations(
+            definition_text.listed_steps(child.toml()), declared
+        )
         sees = {compensation.name: compensation.sees for compensation in planned}
     for compensation in steps:
         name = compensation.name
@@ -179,7 +194,7 @@ def _of_child(
     return of_undo_input
 
 
-def _cost(listed: listed_steps.Cost) -> Cost:
+def _cost(listed: definition_text.ListedCost) -> Cost:
     """Return the declared cost for a cost in the text of a definition."""
     return listed if isinstance(listed, int) else NEVER
 
@@ -193,12 +208,12 @@ def _undoing(
     function: Callable[[Any], Any], step: Step[Any], sees: frozenset[str]
 ) -> Callable[[Any], Any]:
     """Return a step's function that calls a compensation with the compensation's task."""
-    input_decoder, result_decoders = compensation_task.hints(function, step)
+    input_decoder, result_decoders = compensation_hints(function, step)
 
     def task_of(task: Any) -> Task[Any]:
-        return compensation_task.of(task, step.saga.name, sees, input_decoder, result_decoders)
+        return compensation_task(task, step.saga.name, sees, input_decoder, result_decoders)
 
-    return compensation_task.calling(function, task_of)
+    return calling(function, task_of)
 
 
 # -- of a store
@@ -224,7 +239,7 @@ def with_undo_sagas(sagas: Mapping[tuple[str, int], Saga]) -> dict[tuple[str, in
     for saga in sagas.values():
         for step, child in children.children_of(saga):
             if sagas.get((child.name, child.version)) is not child:
-                raise validation.of_step(
+                raise step_error(
                     step,
                     f"its child saga {child.name!r} (version {child.version}, {child.where}) is "
                     "missing. Open the store with it, too: "
@@ -247,3 +262,204 @@ def _add(sagas: dict[tuple[str, int], Saga], child: Saga) -> None:
             "this name. Set another name"
         )
     sagas[name] = saga
+
+
+# -- of unused reports
+
+
+QUEUED = "workers of a queue call its compensation, and only its own saga can send it to them"
+NO_COMPENSATION = "it has no compensation"
+
+
+def report_fault(step: Step[Any] | None) -> str | None:
+    """Return why no saga can call the compensation of a step, or None if one can."""
+    if step is None:
+        return "this program does not have the step"
+    if not step.has_compensation or step.undo.implied:
+        return NO_COMPENSATION
+    return QUEUED if step.undo.queue else None
+
+
+def is_reported(step: Step[Any]) -> bool:
+    """Return whether a caller may report a step before it starts."""
+    return step.kind == "approval" or step.run.external
+
+
+def undo_step_name(saga: Saga, step: Step[Any]) -> str:
+    """Return the name of the step that calls the compensation.
+
+    It is the name of the declared step. If an included saga declares it, the name of the included
+    saga precedes it.
+    """
+    if step.saga is saga:
+        return step.name
+    name = f"{step.saga.name}-{step.name}"
+    if len(name) <= MOST_NAME:
+        return name
+    digest = hashlib.sha256(name.encode()).hexdigest()[:6]
+    return f"{name[: MOST_NAME - 7]}-{digest}"
+
+
+def report_undo_saga(saga: Saga, step: Step[Any]) -> Saga:
+    """Return the saga that calls the compensation of a step, which `fault` allows.
+
+    If the compensation fails permanently, this saga is stuck, so that an operator sees the effect
+    that remains.
+    """
+    undo_saga = Saga(undo_name_of(saga.name), version=saga.version)
+    undo_saga.where, undo_saga.undoes, undo_saga.undoes_step = step.where, saga, step
+    function = step.undo.function
+    manner = dataclasses.replace(
+        step.undo, function=function and _undoing_report(function, step), implied=False
+    )
+    costs: dict[str, CostOf | None] = {"run": 0, "undo": NEVER, "skip": NEVER, "keep": 0}
+    name = undo_step_name(saga, step)
+    undo_step = undo_saga._add(manner.function, name, "step", [], costs, manner, None)
+    undo_step.where = step.where
+    return undo_saga
+
+
+def declared_path(saga: Saga, step: Step[Any], prefix: str = "") -> str | None:
+    """Return the declared name of a step in a saga, with the inclusions: `hotel/room`."""
+    for part in saga.parts:
+        if part is step:
+            return f"{prefix}{step.name}"
+        inner: Saga | None = getattr(part, "inner", None)
+        path = declared_path(inner, step, f"{prefix}{part.name}/") if inner is not None else None
+        if path is not None:
+            return path
+    return None
+
+
+def undo_data(undo_input: Mapping[str, Any], declared: Step[Any], attempt: int) -> TaskSnapshot:
+    """Return the data of a compensation's task, given the calling saga's input.
+
+    The input of a saga that undoes a child names no step: then it is the declared one.
+    """
+    location, step = undo_input.get("place"), undo_input.get("step", declared.name)
+    results = {name: json.dumps(value) for name, value in undo_input["results"].items()}
+    return TaskSnapshot(
+        saga=undo_input.get("saga", declared.saga.name),
+        key=undo_input["key"],
+        name=step,
+        undo=True,
+        attempt=attempt,
+        saga_token=undo_input["token"],
+        input=json.dumps(undo_input["input"]),
+        needed_results={name: text for name, text in results.items() if name != step},
+        own_result=results.get(step, "null"),
+        location=None if location is None else RemoteStepLocation(location),
+    )
+
+
+def report_task(task: Task[Any], saga: Saga | None) -> Task[Any]:
+    """Return the task for a worker: in a saga that undoes a report, of the undo."""
+    if saga is None or saga.undoes_step is None:
+        return task
+    data = undo_data(task.input, saga.undoes_step, task.attempt)
+    return Task(dataclasses.replace(data, traceparent=task.traceparent))
+
+
+def _undoing_report(function: Callable[[Any], Any], step: Step[Any]) -> Callable[[Any], Any]:
+    """Return a step's function that calls a compensation with the compensation's task."""
+    input_decoder, result_decoders = compensation_hints(function, step)
+
+    def task_of(task: Any) -> Task[Any]:
+        data = task._data
+        undo_task: Task[Any] = Task(
+            dataclasses.replace(
+                undo_data(task.input, step, task.attempt),
+                hint=input_decoder,
+                decoders=result_decoders,
+                context=data.context,
+                control=data.control,
+                traceparent=data.traceparent,
+            )
+        )
+        undo_task.enter_by(lambda: task.connection)
+        return undo_task
+
+    return calling(function, task_of)
+
+
+# -- tasks of compensations
+
+
+def compensation_task(
+    task: Task[Any],
+    child: str,
+    sees: Collection[str],
+    hint: Decoder | None = None,
+    known: Mapping[str, Decoder] | None = None,
+) -> Task[Any]:
+    """Return the task of a compensation that a saga calls to undo a child.
+
+    It has the key, the input, the results and the idempotency keys of the child.
+
+    Args:
+        task: The task of the step that calls it.
+        child: The child's name.
+        sees: The steps whose results it may read.
+        hint: How the child's input is read (default: as JSON).
+        known: How the results of the child's steps are read (default: as JSON).
+    """
+    undo_input, data = task.input, task._data
+    results = {name: json.dumps(value) for name, value in undo_input["results"].items()}
+    compensation: Task[Any] = Task(
+        TaskSnapshot(
+            saga=child,
+            key=undo_input["key"],
+            name=task.step,
+            undo=True,
+            attempt=task.attempt,
+            saga_token=undo_input["token"],
+            input=json.dumps(undo_input["input"]),
+            needed_results={name: text for name, text in results.items() if name in sees},
+            own_result=results.get(task.step, "null"),
+            hint=hint,
+            decoders=known or {},
+            context=data.context,
+            control=data.control,
+            traceparent=data.traceparent,
+        )
+    )
+    compensation.enter_by(lambda: task.connection)
+    return compensation
+
+
+def compensation_hints(
+    function: Callable[[Any], Any], step: Step[Any]
+) -> tuple[Decoder | None, dict[str, Decoder]]:
+    """Return the decoders of a compensation's input and of its saga's results.
+
+    A value without a type hint has no decoder, and is read as JSON.
+    """
+    input_decoder, _ = decoders.hints(function)
+    result_decoders: dict[str, Decoder] = {}
+    for sibling in step.saga.steps:
+        _, result_decoder = children.hints(sibling)
+        if result_decoder is not None:
+            result_decoders[sibling.name] = result_decoder
+    return input_decoder, result_decoders
+
+
+def calling(
+    function: Callable[[Any], Any], task_of: Callable[[Task[Any]], Task[Any]]
+) -> Callable[[Any], Any]:
+    """Return a step's function that calls a compensation.
+
+    Args:
+        function: The compensation, plain or async.
+        task_of: Returns the task of the compensation, given that of the step.
+    """
+    if inspect.iscoroutinefunction(function):
+
+        async def undo_later(task: Any) -> Any:
+            return await function(task_of(task))
+
+        return undo_later
+
+    def undo(task: Any) -> Any:
+        return function(task_of(task))
+
+    return undo

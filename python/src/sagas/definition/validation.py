@@ -1,91 +1,65 @@
-"""Checks of definitions. Their errors have the file and the line."""
+"""Errors and warnings about declarations. They have the file and the line."""
 
 from __future__ import annotations
 
-import datetime
-import difflib
 import inspect
 import re
-import sys
 from collections.abc import Iterable, Iterator, Sequence
-from typing import TYPE_CHECKING, Any
+from typing import Any, TYPE_CHECKING
 
 from sagas.base.errors import DefinitionError
+from sagas.definition import arguments, children, decoders, definition_text
+from sagas.definition.arguments import is_count, meant
+from sagas.definition.call_options import Bounds, MOST_COST, NEVER, is_cost
+from sagas.definition.definition_text import MOST_NAME
+from sagas.definition.layout import JOIN_ENDING
+from sagas.definition.step import (
+    Collection,
+    Decorator,
+    Each,
+    Inclusion,
+    MOST_NEEDS,
+    MOST_STEPS,
+    Part,
+    Step,
+    check_manner,
+    is_each,
+    location_of,
+    need_name,
+    patterns,
+    saga_error,
+    step_error,
+)
 
 if TYPE_CHECKING:
-    from sagas.definition.parts import Part
     from sagas.definition.saga import Saga
-    from sagas.definition.step import Bounds, Manner, Step
 
 NAME = re.compile(r"[a-z][a-z0-9_-]{0,31}\Z")
 NAMES = "invalid name: use 1 to 32 characters a-z, 0-9, _ or -, starting with a letter"
 MAX_LISTED = 8  # steps
 MOST_PLACES, MOST_SECONDS = 10_000, 31 * 86400
-ON_EXHAUSTED = ("fail", "ask", "retry")
-MOST_STEPS, MOST_NEEDS, MOST_COST, MOST_TRIES = 1024, 8192, 1_000_000_000, 9
-
-
-def location_of(function: Any) -> str | None:
-    """Return the file and the line of a function, or None if it has no code."""
-    code = getattr(inspect.unwrap(function), "__code__", None) if callable(function) else None
-    return f"{code.co_filename}:{code.co_firstlineno}" if code else None
-
-
-def caller(depth: int) -> str:
-    """Return the file and the line of the call `depth` frames up."""
-    frame = sys._getframe(depth)
-    return f"{frame.f_code.co_filename}:{frame.f_lineno}"
-
-
-def of_saga(saga: Saga, text: str) -> DefinitionError:
-    """Return an error of a saga's declaration, with its file and line."""
-    return DefinitionError(f"{saga.where}: saga {saga.name!r}: {text}")
-
-
-def of_step(step: Part, text: str, where: str | None = None) -> DefinitionError:
-    """Return an error of a step's declaration, with its file and line."""
-    return DefinitionError(
-        f"{where or step.where}: saga {step.saga.name!r}, step {step.name!r}: {text}"
-    )
-
-
-def check_given(saga: object) -> None:
-    """Raise `DefinitionError` if an argument is not a saga."""
-    from sagas.definition.saga import Saga
-
-    if not isinstance(saga, Saga):
-        raise DefinitionError(f"expected a sagas.Saga, got {saga!r}")
-
-
-def is_count(value: object) -> bool:
-    """Return whether a value is an integer, and not a bool."""
-    return isinstance(value, int) and not isinstance(value, bool)
 
 
 def check_name(saga: Saga) -> None:
     """Raise `DefinitionError` if the name, version or deadline is not valid."""
     if not isinstance(saga.name, str) or not NAME.match(saga.name):
-        raise of_saga(saga, NAMES)
+        raise saga_error(saga, NAMES)
     if not is_count(saga.version) or saga.version < 1:
-        raise of_saga(saga, f"version={saga.version!r}: must be an integer >= 1")
+        raise saga_error(saga, f"version={saga.version!r}: must be an integer >= 1")
     if saga.deadline is not None:
-        from sagas.definition import arguments
-
         try:
             arguments.time("deadline", saga.deadline, none=False)
         except (TypeError, ValueError) as error:
-            raise of_saga(saga, str(error)) from None
+            raise saga_error(saga, str(error)) from None
 
 
 def check_step(step: Step[Any]) -> None:
     """Raise `DefinitionError` for errors that the declaration of a single step shows."""
-    from sagas.definition import shape_validation
-
     check_part_name(step)
-    shape_validation.check_costs(step)
-    shape_validation.check_part(step)
+    check_costs(step)
+    check_part(step)
     if step.concurrency is not None and (not is_count(step.concurrency) or step.concurrency < 1):
-        raise of_step(step, f"concurrency={step.concurrency!r}: must be an integer >= 1")
+        raise step_error(step, f"concurrency={step.concurrency!r}: must be an integer >= 1")
     check_needs(step)
     check_manner(step, step.run, "function", step.where)
 
@@ -93,18 +67,18 @@ def check_step(step: Step[Any]) -> None:
 def check_early_unused(step: Step[Any]) -> None:
     """Raise `DefinitionError` if `early_unused` of a step is not valid."""
     if step.early_unused not in ("ask", "compensate"):
-        raise of_step(step, f"early_unused={step.early_unused!r}: must be ask or compensate")
+        raise step_error(step, f"early_unused={step.early_unused!r}: must be ask or compensate")
     if step.early_unused == "compensate" and not step.run.external:
         rule = "has no effect, because only external steps are reported before they start"
-        raise of_step(step, f"early_unused='compensate' {rule}. Remove it")
+        raise step_error(step, f"early_unused='compensate' {rule}. Remove it")
 
 
 def check_part_name(part: Part) -> None:
     """Raise `DefinitionError` if the name of a step or of an inclusion is not valid."""
     if not isinstance(part.name, str) or not NAME.match(part.name):
-        raise of_step(part, f"{NAMES}. Set name=")
+        raise step_error(part, f"{NAMES}. Set name=")
     if any(other.name == part.name for other in part.saga.parts):
-        raise of_step(part, "another step has this name. Set another name=")
+        raise step_error(part, "another step has this name. Set another name=")
 
 
 def check_key(function: object, where: str) -> None:
@@ -128,21 +102,23 @@ def check_concurrency_by(step: Step[Any]) -> None:
     check_key(step.concurrency_by, f"{step.where}: step {step.name!r}: concurrency_by")
     bounds = step.bounds
     if step.run.function is None:
-        raise of_step(
+        raise step_error(
             step,
             "concurrency_by needs a function in this program. Remove external=True or "
             "concurrency_by=",
         )
     if step.concurrency is None and (bounds is None or bounds.concurrency is None):
-        raise of_step(step, "concurrency_by has no limit. Set concurrency or fleet_concurrency")
+        raise step_error(step, "concurrency_by has no limit. Set concurrency or fleet_concurrency")
     if bounds is not None and bounds.rate_limit is not None:
-        raise of_step(step, "concurrency_by cannot be combined with rate_limit. Remove one of them")
+        raise step_error(
+            step, "concurrency_by cannot be combined with rate_limit. Remove one of them"
+        )
 
 
 def check_bounds(step: Step[Any], bounds: Bounds) -> None:
     """Raise `DefinitionError` if the limits of a step over all nodes are not valid."""
     if step.run.function is None:
-        raise of_step(
+        raise step_error(
             step,
             "the step is external, so sagas does not call it. Remove fleet_concurrency "
             "and rate_limit, and limit the calls in the worker",
@@ -150,7 +126,7 @@ def check_bounds(step: Step[Any], bounds: Bounds) -> None:
     if bounds.concurrency is not None and (
         not is_count(bounds.concurrency) or not 1 <= bounds.concurrency <= MOST_PLACES
     ):
-        raise of_step(
+        raise step_error(
             step,
             f"fleet_concurrency={bounds.concurrency!r}: must be an integer from 1 to "
             f"{MOST_PLACES:,}",
@@ -168,7 +144,7 @@ def check_bounds(step: Step[Any], bounds: Bounds) -> None:
         or not isinstance(bounds.rate_limit[1], (int, float))
         or not 0 < bounds.rate_limit[1] <= MOST_SECONDS
     ):
-        raise of_step(
+        raise step_error(
             step,
             f"rate_limit={bounds.rate_limit!r}: must be (calls, seconds or a timedelta), "
             f"with 1 to {MOST_PLACES:,} calls in at most {MOST_SECONDS:,} seconds",
@@ -177,35 +153,30 @@ def check_bounds(step: Step[Any], bounds: Bounds) -> None:
 
 def check_needs(step: Part) -> None:
     """Raise `DefinitionError` if an entry of `needs` is not valid."""
-    from sagas.definition.collection import Collection
-    from sagas.definition.decorators import Decorator
-    from sagas.definition.parts import Each, Inclusion
-    from sagas.definition.step import Step
-
     seen = set()
     for need in step._needs:
         if isinstance(need, Decorator):
-            raise of_step(
+            raise step_error(
                 step,
                 f"needs {need.call}(...) of {need.where}, which is a decorator. Apply it to a "
                 "function, and need the step that this makes",
             )
         if isinstance(need, (Step, Each, Inclusion, Collection)) and need.saga is not step.saga:
-            raise of_step(
+            raise step_error(
                 step,
                 f"needs {need.name!r} of saga {need.saga.name!r}. A step can need only steps "
                 "of its own saga",
             )
         if not isinstance(need, (Step, Each, Inclusion, Collection, str)):
             remedy = f". Declare it with @{step.saga.name}.step" if inspect.isfunction(need) else ""
-            raise of_step(step, f"needs {need!r}, which is not a step or a step's name{remedy}")
+            raise step_error(step, f"needs {need!r}, which is not a step or a step's name{remedy}")
         name = need if isinstance(need, str) else need.name
         if name in seen:
-            raise of_step(step, f"needs {name!r} twice. Remove one of them")
+            raise step_error(step, f"needs {name!r} twice. Remove one of them")
         seen.add(name)
 
 
-def listed(needs: object, saga: Saga, step: str, where: str) -> tuple[Any, ...]:
+def listed_needs(needs: object, saga: Saga, step: str, where: str) -> tuple[Any, ...]:
     """Return the argument `needs` as a tuple.
 
     Raises:
@@ -219,111 +190,10 @@ def listed(needs: object, saga: Saga, step: str, where: str) -> tuple[Any, ...]:
     return tuple(needs)
 
 
-def check_manner(step: Step[Any], manner: Manner, role: str, where: str) -> None:
-    """Raise `DefinitionError` if a function or an option of its calls is not valid.
-
-    Args:
-        step: The step.
-        manner: The function and its options.
-        role: `function` or `compensation`, for the message.
-        where: File and line of the declaration.
-    """
-    for text in (*_option_faults(manner, role), *_function_faults(manner, role)):
-        raise of_step(step, text, where)
-
-
-def _option_faults(manner: Manner, role: str) -> Iterator[str]:
-    """Yield the errors in the options of a function's calls."""
-    if not is_count(manner.tries) or not 1 <= manner.tries <= MOST_TRIES:
-        yield f"tries={manner.tries!r} of its {role}: must be an integer from 1 to {MOST_TRIES}"
-    time = manner.timeout
-    if time is not None and not (isinstance(time, (int, float)) and time > 0):
-        rule = "must be seconds or a timedelta, > 0"
-        yield f"timeout={time!r} of its {role}: {rule}"
-    yield from _backoff_faults(manner.backoff, role)
-    max_unknown = manner.max_unknown
-    is_number = is_count(max_unknown) and max_unknown >= 0  # type: ignore[operator]
-    if max_unknown is not None and not (isinstance(max_unknown, datetime.timedelta) or is_number):
-        yield f"max_unknown={max_unknown!r} of its {role}: must be an integer >= 0 or a timedelta"
-    if not isinstance(manner.unknown, tuple) or not all(
-        isinstance(error, type) and issubclass(error, BaseException) for error in manner.unknown
-    ):
-        rule = "must be a tuple of exceptions: unknown=(TimeoutError,)"
-        yield f"unknown={manner.unknown!r} of its {role}: {rule}"
-    if manner.on_exhausted not in ON_EXHAUSTED:
-        rule = f"must be one of {', '.join(ON_EXHAUSTED)}"
-        yield f"on_exhausted={manner.on_exhausted!r} of its {role}: {rule}"
-    max_attempts = manner.max_attempts
-    if max_attempts is not None:
-        if not is_count(max_attempts) or max_attempts < manner.tries:
-            rule = f"must be an integer >= tries={manner.tries}"
-            yield f"max_attempts={max_attempts!r} of its {role}: {rule}"
-        elif manner.on_exhausted == "retry":
-            rule = "has no effect with on_exhausted='retry'; remove it"
-            yield f"max_attempts={max_attempts!r} of its {role}: {rule}"
-    if manner.queue is not None and not hasattr(manner.queue, "declare"):
-        yield f"queue={manner.queue!r} of its {role}: must be a sagas.celery.Queue"
-    if not isinstance(manner.transaction, bool):
-        yield f"transaction={manner.transaction!r} of its {role}: must be True or False"
-    yield from _cancel_faults(manner, role)
-
-
-def _cancel_faults(manner: Manner, role: str) -> Iterator[str]:
-    option = f"cancel_on_abort={manner.cancel_on_abort!r} of its {role}"
-    if not isinstance(manner.cancel_on_abort, bool):
-        yield f"{option}: must be True or False"
-    elif not manner.cancel_on_abort:
-        return
-    elif not inspect.iscoroutinefunction(manner.function) or manner.queue:
-        remedy = "Declare it with async def, or check task.cancelled in it"
-        yield f"{option}: only an async function of this program can be cancelled. {remedy}"
-    elif manner.transaction:
-        yield f"{option}: a transaction cannot be cancelled. Remove one of the options"
-
-
-def _backoff_faults(backoff: object, role: str) -> Iterator[str]:
-    from sagas.definition.step import Backoff
-
-    if not isinstance(backoff, Backoff):
-        rule = "must be a sagas.Backoff, for example sagas.Backoff(initial=5)"
-        yield f"backoff={backoff!r} of its {role}: {rule}"
-        return
-    parts = backoff.initial, backoff.maximum, backoff.multiplier, backoff.jitter
-    if not all(isinstance(part, (int, float)) and part >= 0 for part in parts):
-        yield f"{backoff!r} of its {role}: its numbers must be >= 0"
-    elif not backoff.jitter <= 1:
-        yield f"{backoff!r} of its {role}: jitter must be from 0 to 1"
-    elif backoff.maximum < backoff.initial and backoff.maximum != Backoff().maximum:
-        rule = "maximum is less than initial"
-        yield f"{backoff!r} of its {role}: {rule}. Set maximum={backoff.initial} or more"
-
-
-def _function_faults(manner: Manner, role: str) -> Iterator[str]:
-    """Yield the errors in a function itself."""
-    function = manner.function
-    if function is None:
-        if manner.queue:
-            rule = "so it cannot have a queue. Remove external=True or queue="
-            yield f"its {role} is external, {rule}"
-        return
-    if not callable(function):
-        yield f"its {role} is {function!r}, which cannot be called. Pass a function"
-        return
-    try:
-        inspect.signature(function).bind(None)
-    except TypeError:
-        yield f"its {role} must take one argument, the task"
-    if inspect.isgeneratorfunction(function) or inspect.isasyncgenfunction(function):
-        rule = "which would not run. Return the result instead of yielding"
-        yield f"its {role} is a generator, {rule}"
-
-
 def check_saga(saga: Saga) -> None:
     """Raise `DefinitionError` for errors that only the complete declaration shows."""
     if saga.is_shaped:
-        from sagas.definition import shape_validation
-
-        shape_validation.check_shaped(saga)
+        check_shaped(saga)
         return
     for left in saga.decorators:
         step_text = f", step {left.name!r}" if left.name else ""
@@ -332,14 +202,14 @@ def check_saga(saga: Saga) -> None:
             "because it is a decorator. Apply it to a function"
         )
     if not saga.steps:
-        raise of_saga(saga, f"it has no steps. Declare one, with @{saga.name}.step")
+        raise saga_error(saga, f"it has no steps. Declare one, with @{saga.name}.step")
     if len(saga.steps) > MOST_STEPS:
-        raise of_step(
+        raise step_error(
             saga.steps[MOST_STEPS],
             f"the saga has more than {MOST_STEPS:,} steps. Split it into several sagas",
         )
     if sum(len(step.needs) for step in saga.steps) > MOST_NEEDS:
-        raise of_saga(
+        raise saga_error(
             saga,
             f"it has more than {MOST_NEEDS:,} needs. Remove some, or split it into "
             "several sagas",
@@ -348,22 +218,22 @@ def check_saga(saga: Saga) -> None:
     for step in saga.steps:
         for need in step.needs:
             if need not in names:
-                raise of_step(step, f"needs unknown step {need!r}{meant(need, names)}")
+                raise step_error(step, f"needs unknown step {need!r}{meant(need, names)}")
         check_compensation(step)
     check_cycles(saga.steps)
 
 
 def check_compensation(step: Step[Any]) -> None:
     """Raise `DefinitionError` if a compensation that options need is missing."""
-    from sagas.definition.step import NEVER
-
     undo = step._costs["undo"]
     if undo is not None and undo is not NEVER and not step.has_compensation:
         remedy = f"Declare @{step.name}.compensation, or set undo=0 if there is nothing to undo"
-        raise of_step(step, f"undo={undo!r}, but it has no compensation. {remedy}")
+        raise step_error(step, f"undo={undo!r}, but it has no compensation. {remedy}")
     if step.early_unused == "compensate" and (not step.has_compensation or step.undo.queue):
         rule = "needs a compensation that no queue calls"
-        raise of_step(step, f"early_unused='compensate' {rule}. Declare @{step.name}.compensation")
+        raise step_error(
+            step, f"early_unused='compensate' {rule}. Declare @{step.name}.compensation"
+        )
 
 
 def check_cycles(parts: Sequence[Part]) -> None:
@@ -375,7 +245,7 @@ def check_cycles(parts: Sequence[Part]) -> None:
         if len(still) == len(left):
             cycle = _cycle(still)
             names = " needs ".join(step.name for step in cycle[:MAX_LISTED])
-            raise of_step(
+            raise step_error(
                 cycle[0],
                 f"is in a cycle of needs: {names}{' ...' if cycle[MAX_LISTED:] else ''}. Remove "
                 "one of them",
@@ -400,7 +270,297 @@ def _cycle(steps: list[Part]) -> list[Part]:
         path.append(need)
 
 
-def meant(name: str, names: Iterable[str]) -> str:
-    """Return a question for the nearest name, for a message, or an empty text."""
-    near = difflib.get_close_matches(name, names, 1)
-    return f"; did you mean {near[0]!r}?" if near else ""
+# -- of sagas whose steps come from their input
+
+
+MOST_DEPTH = 8
+MANY = "-1023"
+"""The longest ending that the number of an item adds to a name."""
+
+
+def check_part(part: Part) -> None:
+    """Raise `DefinitionError` if `when` or `for_each` of a part is not valid."""
+    _check_function(part, "when", part.when)
+    if part.for_each is not None and not isinstance(part.for_each, str):
+        _check_function(part, "for_each", part.for_each)
+    maximum = MOST_NAME - len(MANY if part.for_each is not None else "")
+    if part.for_each is not None and len(part.name) > maximum:
+        raise step_error(
+            part,
+            f"its name has {len(part.name)} characters, and with for_each it may have at most "
+            f"{maximum}, because the number of the item follows it. Set another name=",
+        )
+
+
+def _check_function(part: Part, word: str, function: object) -> None:
+    if function is None:
+        return
+    if not callable(function) or inspect.iscoroutinefunction(function):
+        rule = "must be a plain function of the input: lambda order: ..."
+        if word == "for_each":
+            rule = "must be the name of a part of the input, or a plain function of the input"
+        raise step_error(part, f"{word}={function!r}: {rule}")
+
+
+def check_inclusion(inclusion: Inclusion) -> None:
+    """Raise `DefinitionError` if an inclusion is not valid."""
+    check_part_name(inclusion)
+    check_needs(inclusion)
+    check_part(inclusion)
+    if not isinstance(inclusion.input, str):
+        _check_function(inclusion, "input", inclusion.input)
+    _check_function(inclusion, "given", inclusion.given)
+
+
+def check_costs(step: Step[Any]) -> None:
+    """Raise `DefinitionError` if a cost is not a valid number or plain function."""
+    for word, cost in step._costs.items():
+        if cost is None or is_cost(cost) or (callable(cost) and not _is_async(cost)):
+            continue
+        raise step_error(
+            step,
+            f"{word}={cost!r}: must be an integer from 0 to {MOST_COST:,}, sagas.NEVER, or a "
+            "plain function of the input (with for_each: of the item) that returns one",
+        )
+
+
+def _is_async(function: object) -> bool:
+    return inspect.iscoroutinefunction(function)
+
+
+# -- of a whole saga
+
+
+def check_shaped(saga: Saga, depth: int = 0) -> None:
+    """Raise `DefinitionError` for errors that only the whole declaration shows."""
+    if depth > MOST_DEPTH:
+        error = f"it includes itself, or nests included sagas more than {MOST_DEPTH} deep"
+        raise saga_error(saga, f"{error}. Start a child saga instead")
+    for left in saga.decorators:
+        raise DefinitionError(
+            f"{left.where}: saga {saga.name!r}: {left.call}(...) declares nothing, because it is "
+            "a decorator. Apply it to a function"
+        )
+    if not saga.parts:
+        raise saga_error(saga, f"it has no steps. Declare one, with @{saga.name}.step")
+    for part in saga.parts:
+        _check_shaped_needs(saga, part)
+        if hasattr(part, "inner"):
+            check_shaped(part.inner, depth + 1)
+        else:
+            check_compensation(part)
+    check_cycles(saga.parts)
+    if depth == 0:
+        _check_names(saga)
+
+
+def _check_shaped_needs(saga: Saga, part: Part) -> None:
+    for need in part._needs:
+        name = need_name(need)
+        other = saga.parts_by_name.get(name)
+        if other is None:
+            near = arguments.meant(name, saga.parts_by_name)
+            raise step_error(part, f"needs unknown step {name!r}{near}")
+        if is_each(need) and (part.for_each is None or part.for_each != other.for_each):
+            raise step_error(
+                part,
+                f"needs {name}.each, but it does not have the same items. Set the same "
+                f"for_each= for both, or need {name} itself, which means all of it",
+            )
+
+
+def _joining_names(saga: Saga, prefix: str = "", where: str = "") -> Iterator[tuple[str, str]]:
+    """Yield the possible names of joining steps, each with its file and line."""
+    for part in saga.parts:
+        outer_where = where or part.where
+        if part.for_each is not None:
+            yield f"{prefix}{part.name}{JOIN_ENDING}", outer_where
+        if isinstance(part, Inclusion):
+            name = prefix + part.name + ("" if part.for_each is None else "-#")
+            yield from _joining_names(part.inner, f"{name}-", outer_where)
+
+
+def _check_names(saga: Saga) -> None:
+    """Raise `DefinitionError` if names of steps may be equal or too long."""
+    names = [(pattern.name, pattern.where) for pattern in patterns(saga)] + [*_joining_names(saga)]
+    for name, where in names:
+        longest = name.replace("-#", MANY)
+        if len(longest) > MOST_NAME:
+            raise DefinitionError(
+                f"{where}: saga {saga.name!r}: a step would have the name {longest!r}, of "
+                f"{len(longest)} characters, and may have at most {MOST_NAME}. Set a shorter name="
+            )
+    fixed = {name for name, _ in names if "#" not in name}
+    seen: set[str] = set()
+    for name, where in names:
+        regex = re.compile(name.replace("#", r"\d+") + r"\Z")
+        others = [fixed_name for fixed_name in fixed if "#" in name and regex.match(fixed_name)]
+        other = name if name in seen else others[0] if others else None
+        if other is not None:
+            raise DefinitionError(
+                f"{where}: saga {saga.name!r}: two steps may have the name "
+                f"{other.replace('#', '0')!r}. Set another name="
+            )
+        seen.add(name)
+
+
+# -- warnings
+
+
+def warnings_of(saga: Saga) -> list[str]:
+    """Return the warnings about a saga, each with the file and the line."""
+    check_saga(saga)
+    if saga.is_shaped:  # the other warnings depend on the input
+        return [*_unread(saga), *_short(saga), *_left_out(saga), *_undoing_nothing(saga)]
+    stays = _stays(saga)
+    return [
+        *_unread(saga),
+        *_short(saga),
+        *_never_called(saga, stays),
+        *_holding(saga, stays),
+        *_undoing_nothing(saga),
+    ]
+
+
+def _left_out(saga: Saga) -> Iterator[str]:
+    """Yield a warning for each fan-out that a failure may end early."""
+    for step in saga.steps:
+        run, skip = step.declared_cost("run"), step.declared_cost("skip")
+        is_known = isinstance(run, int) and isinstance(skip, int)
+        is_fan_out = step.for_each is not None and not step.is_collected
+        if is_fan_out and is_known and skip <= run:  # type: ignore[operator]
+            yield (
+                f"{step.where}: saga {saga.name!r}, step {step.name!r}: if a step fails, items "
+                f"that have not started are skipped, because skip={skip} is not more than "
+                f"run={run}. Their number depends on timing. Set a higher skip= to run all items, "
+                "or need sagas.collect(...) to continue with those that succeed"
+            )
+
+
+def _short(saga: Saga) -> Iterator[str]:
+    """Yield a warning for each initial pause that is longer than the default maximum."""
+    for step in saga.all_steps:
+        for role, manner in (("function", step.run), ("compensation", step.undo)):
+            initial, maximum = manner.backoff.initial, manner.backoff.maximum
+            if manner.tries > 1 and initial > maximum:
+                yield (
+                    f"{step.where}: saga {saga.name!r}, step {step.name!r}: the pauses of its "
+                    f"{role} are {maximum} s, not {initial} s, because that is the default "
+                    f"maximum. Set sagas.Backoff(initial={initial}, maximum={initial})"
+                )
+
+
+def _unread(saga: Saga) -> Iterator[str]:
+    """Yield a warning for each function whose type hints cannot be read.
+
+    For example, only a type checker imports a name.
+    """
+    for step in saga.all_steps:
+        for function in (step.run.function, step.undo.function):
+            unread = decoders.unread(function) if function else None
+            if unread:
+                where = f"{location_of(function)}: saga {saga.name!r}, step {step.name!r}"
+                yield (
+                    f"{where}: its type hints cannot be read, so its values stay plain JSON: "
+                    f"{unread}"
+                )
+
+
+def _undoing_nothing(saga: Saga) -> Iterator[str]:
+    """Yield a warning for each step with a cost `undo` whose child cannot be undone."""
+    for step, child in children.children_of(saga):
+        undo = step.declared_cost("undo")
+        if not isinstance(undo, int) or not step.undo.implied or child.is_shaped:
+            continue
+        listed = definition_text.listed_steps(child.toml())
+        stays = [f"{listed_step.name!r}" for listed_step in listed if listed_step.undo == "never"]
+        declared = {child_step.name: child_step for child_step in child.steps}
+        if stays and not children.planned_compensations(listed, declared):
+            yield (
+                f"{step.where}: saga {saga.name!r}, step {step.name!r}: undo={undo}, but nothing "
+                f"of its child saga {child.name!r} can be undone, because "
+                f"{' and '.join(stays[:MAX_LISTED])} cannot be. A plan may choose that cost, and "
+                "still leave all effects in place. Set undo=sagas.NEVER"
+            )
+
+
+def _in_order(saga: Saga) -> Iterator[Step[Any]]:
+    """Yield the steps, each after those that it needs."""
+    done: set[str] = set()
+    left = list(saga.steps)
+    while left:
+        ready = [step for step in left if all(need in done for need in step.needs)]
+        yield from ready
+        done.update(step.name for step in ready)
+        left = [step for step in left if step.name not in done]
+
+
+def _stays(saga: Saga) -> dict[str, bool]:
+    """Return, for each step, whether it is never undone after it has committed.
+
+    Then it cannot be undone, or keeping it is always allowed and always costs less.
+    """
+    stays: dict[str, bool] = {}
+    for step in _in_order(saga):
+        undo, keep = step.cost("undo"), step.cost("keep")
+        needs_stay = all(stays[need] for need in step.needs)
+        stays[step.name] = not isinstance(undo, int) or (
+            needs_stay and isinstance(keep, int) and undo > keep
+        )
+    return stays
+
+
+def _never_called(saga: Saga, stays: dict[str, bool]) -> Iterator[str]:
+    """Yield a warning for each step with a compensation that is never called."""
+    for step in _in_order(saga):
+        undo, keep = step.cost("undo"), step.cost("keep")
+        if isinstance(undo, int) and stays[step.name]:
+            remedy = (
+                f"Set keep= to more than {undo}, or remove the compensation"
+                if keep
+                else "Set keep= to the cost of leaving its effect in place after a failure"
+            )
+            yield (
+                f"{step.where}: saga {saga.name!r}, step {step.name!r}: the compensation can "
+                f"never be called, because keeping the step (keep={keep}) costs less than "
+                f"undoing it (undo={undo}). {remedy}"
+            )
+
+
+def _holding(saga: Saga, stays: dict[str, bool]) -> Iterator[str]:
+    """Yield a warning for each step that keeps needed steps from being undone.
+
+    It has no compensation: after it commits, the steps that it needs can never be undone. The
+    warning is left out if the declaration has `undo=`, for a step that needs all others (nothing
+    can fail after it), and for steps that another needed step fixes already.
+    """
+    by_name = {step.name: step for step in saga.steps}
+    below: dict[str, set[str]] = {}
+    fixed: dict[str, set[str]] = {}  # the steps that its needed steps fix
+    for step in _in_order(saga):
+        needs = step.needs
+        below[step.name] = set(needs).union(*(below[need] for need in needs))
+        fixed[step.name] = set[str]().union(
+            *(fixed[need] if by_name[need].has_compensation else below[need] for need in needs)
+        )
+    undone = {
+        step.name
+        for step in saga.steps
+        if step.has_compensation and not step.undo.implied and not stays[step.name]
+    }
+    for step in saga.steps:
+        held = (below[step.name] - fixed[step.name]) & undone
+        if (
+            held
+            and not step.has_compensation
+            and step._costs["undo"] is None
+            and len(below[step.name]) + 1 < len(saga.steps)
+        ):
+            names = [f"{other.name!r}" for other in saga.steps if other.name in held]
+            more = [f"{len(names) - MAX_LISTED} more"] if names[MAX_LISTED:] else []
+            yield (
+                f"{step.where}: saga {saga.name!r}, step {step.name!r} has no compensation, "
+                f"so {' and '.join(names[:MAX_LISTED] + more)}, which it needs, can never be "
+                "undone after it commits. Set undo=0 if there is nothing to undo, or "
+                "undo=NEVER to confirm"
+            )

@@ -10,8 +10,8 @@ from typing import Any
 from sagas.base import program
 from sagas.base.errors import EngineError
 from sagas.core.states import state_text, step_state
-from sagas.definition import folded_drawing, listed_steps
-from sagas.definition.listed_steps import ListedStep
+from sagas.definition import definition_text, drawing
+from sagas.definition.definition_text import ListedStep
 
 Cost = int | None
 """A cost; None is never."""
@@ -93,14 +93,14 @@ class Plan:
     @property
     def blocking_steps(self) -> list[str]:
         """If no plan is feasible, the steps that show why; else an empty list."""
-        steps = listed_steps.of(self.definition)
+        steps = definition_text.listed_steps(self.definition)
         return [steps[index].name for index in self.answer.get("chain", ())]
 
     @property
     def choices(self) -> list[Choice]:
         """A `Choice` for each step, in the order of the definition."""
         kept = set(self.answer.get("kept", ()))
-        steps = listed_steps.of(self.definition)
+        steps = definition_text.listed_steps(self.definition)
         needed = {
             need: steps[index].name
             for index in sorted(kept, reverse=True)
@@ -160,7 +160,7 @@ class Plan:
             EngineError: The program `sagas` cannot be run.
         """
         whole = program.draw(self.definition, json.dumps(self.case), json.dumps(self.answer))
-        return folded_drawing.fold(whole, self.definition, {*unfold})
+        return drawing.fold(whole, self.definition, {*unfold})
 
     def __str__(self) -> str:
         choices = self.choices

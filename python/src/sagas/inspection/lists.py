@@ -16,7 +16,8 @@ from sagas.core.history import FAILURE_EVENTS, stored_result, was_called
 from sagas.core.results import DefinitionCount, SagaResult, Summary, UnknownAttempt
 from sagas.definition import tokens
 from sagas.definition.capacity import SHARD_CAPACITY
-from sagas.definition.compiled import CompiledDefinition, version_of
+from sagas.definition.compiled import CompiledDefinition
+from sagas.definition.definition_text import version_of
 from sagas.definition.labels import TOKEN
 from sagas.definition.payloads import unescaped
 from sagas.inspection import names as names_module

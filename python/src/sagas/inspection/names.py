@@ -4,13 +4,12 @@ from __future__ import annotations
 
 from collections.abc import Iterable, Iterator, Sequence
 
-from sagas.definition import listed_steps
-from sagas.definition.groups import Groups
+from sagas.definition import definition_text
+from sagas.definition.drawing import Groups
 from sagas.definition.labels import TOKEN
-from sagas.definition.layout import StepOrigin
-from sagas.definition.shape_text import OF
-from sagas.definition.shape_values import ShapeValues
-from sagas.definition.validation import meant
+from sagas.definition.layout import ShapeValues, StepOrigin
+from sagas.definition.definition_text import OF
+from sagas.definition.arguments import meant
 from sagas.inspection.question import Query, Question
 from sagas.storage.filters import EVERYTHING, Filter
 
@@ -56,7 +55,7 @@ class Names:
 
 def step_names(definition: str) -> list[str]:
     """Return the names of a definition's steps."""
-    return [step.name for step in listed_steps.of(definition)]
+    return [step.name for step in definition_text.listed_steps(definition)]
 
 
 def of_digests(digests: Iterable[str]) -> Question[Names]:

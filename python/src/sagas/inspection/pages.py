@@ -37,7 +37,7 @@ def check(phase: str | None, after: object, limit: int) -> None:
     """Raise `ValueError` or `TypeError` if the arguments of a page are invalid."""
     if phase is not None and phase not in PHASES:
         raise ValueError(f"phase={phase!r}: must be one of {', '.join(PHASES)}")
-    if not (after is None or isinstance(after, Summary) or validation.is_count(after)):
+    if not (after is None or isinstance(after, Summary) or arguments.is_count(after)):
         raise TypeError(
             f"after={after!r}: must be the last saga of the previous page: list(after=page[-1])"
         )

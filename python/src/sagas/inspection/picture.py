@@ -10,7 +10,7 @@ from typing import NamedTuple, Optional
 
 from sagas.core.outcomes import CANNOT_DECODE
 from sagas.core.states import WAITS_FOR
-from sagas.definition.groups import ALL, Block, Group, Groups
+from sagas.definition.drawing import ALL, Block, Group, Groups
 from sagas.engine.plan import Choice
 from sagas.inspection import wording
 from sagas.inspection.layout import GAP_X, HEIGHT, WIDTH, Placed, Point, lay_out

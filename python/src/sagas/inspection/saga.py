@@ -25,10 +25,10 @@ from sagas.core.history import (
 )
 from sagas.core.results import HistoryEvent, Summary
 from sagas.core.states import EarlyReason, StepState
-from sagas.definition import listed_steps, tokens
+from sagas.definition import definition_text, tokens
 from sagas.definition.arguments import BELOW
 from sagas.definition.capacity import SHARD_CAPACITY
-from sagas.definition.control import Progress
+from sagas.definition.task_data import Progress
 from sagas.engine.plan import Plan
 from sagas.inspection.lists import waits
 from sagas.inspection.names import step_names
@@ -249,7 +249,7 @@ def steps_of(
         if not entry.undo and not was_called(entry.outcome, entry.value)
     )
     steps = []
-    for index, step in enumerate(listed_steps.of(definition)):
+    for index, step in enumerate(definition_text.listed_steps(definition)):
         name, state = step.name, history.states[index].value
         steps.append(
             StepView(

@@ -12,7 +12,7 @@ from sagas.base.wording import number
 from sagas.core.history import FAILURE_EVENTS, START_EVENTS, AttemptEnd, Stretch, was_called
 from sagas.core.spans import AGAIN_WORD, LEASED_WORD, PERSON_WORD, QUEUED_WORD, RUNNING_WORD
 from sagas.core.states import Suspension
-from sagas.definition import listed_steps
+from sagas.definition import definition_text
 from sagas.inspection import wording
 from sagas.inspection.picture import shorten_name
 from sagas.inspection.views import Note, SagaView, Waits
@@ -267,7 +267,7 @@ def _ready(view: SagaView) -> dict[Key, float]:
     adopted; and when the previous attempt ended.
     """
     names = [step.name for step in view.steps]
-    needs = {step.name: [*step.needs] for step in listed_steps.of(view.definition)}
+    needs = {step.name: [*step.needs] for step in definition_text.listed_steps(view.definition)}
     above: dict[str, list[str]] = {}
     for name, needed in needs.items():
         for need in needed:

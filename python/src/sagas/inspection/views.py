@@ -12,7 +12,7 @@ from sagas.core.history import AttemptEnd, EventLine, Stretch
 from sagas.core.results import ActiveAttempt, HistoryEvent, Summary
 from sagas.core.states import known_state
 from sagas.definition import tokens
-from sagas.definition.control import Progress
+from sagas.definition.task_data import Progress
 from sagas.engine.plan import Plan
 from sagas.storage.filters import Scope
 

@@ -6,7 +6,7 @@ import dataclasses
 import json
 
 from sagas.core.history import FAILURE_EVENTS
-from sagas.definition import listed_steps
+from sagas.definition import definition_text
 from sagas.engine import library
 from sagas.engine.plan import Plan
 from sagas.inspection.views import SagaView, StepView
@@ -89,7 +89,7 @@ def _assumed(view: SagaView, aborted: bool) -> dict[str, str]:
     up.
     """
     waits = {entry.step: entry.why for entry in view.held if not entry.undo}
-    tries = {entry.name: entry.tries for entry in listed_steps.of(view.definition)}
+    tries = {entry.name: entry.tries for entry in definition_text.listed_steps(view.definition)}
     assumed = {}
     for step in view.steps:
         if step.state not in ENDS:

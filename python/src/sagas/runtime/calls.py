@@ -27,8 +27,8 @@ from sagas.core.saga_instance import SagaInstance
 from sagas.core.outcomes import Outcome
 from sagas.core.step_transactions import StepTransactions
 from sagas.definition import awaitables
-from sagas.definition.blobs import BlobUnavailable
-from sagas.definition.step import Function, Manner
+from sagas.definition.payloads import BlobUnavailable
+from sagas.definition.call_options import Function, Manner
 from sagas.definition.task import Task
 from sagas.definition.tracing import Tracer
 from sagas.runtime import invocation

@@ -10,7 +10,7 @@ from sagas.base.logger import logger
 from sagas.core.batch import Batch, PendingStart
 from sagas.definition import undo_sagas
 from sagas.definition.saga import Saga
-from sagas.definition.shelf import Fitted
+from sagas.definition.registry import Fitted
 from sagas.definition.start_options import StartOptions
 from sagas.runtime.instances import conflict_with_stored
 

@@ -20,7 +20,7 @@ from sagas.core.batch import Batch, ShardRow
 from sagas.core.limits import Slots
 from sagas.core.states import ShardState
 from sagas.core.children import CompletedChild
-from sagas.definition.shelf import DefinitionRegistry
+from sagas.definition.registry import DefinitionRegistry
 from sagas.definition.tracing import Tracer
 from sagas.runtime import remote_steps, stored_values
 from sagas.runtime.commit_queue import CommitQueue

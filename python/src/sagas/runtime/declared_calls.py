@@ -18,7 +18,7 @@ from typing import Any, NamedTuple, TypeVar
 from sagas.core.declared_values import OptionCalls
 from sagas.core.attempt import Attempt
 from sagas.definition.saga import Saga
-from sagas.definition.shelf import DefinitionRegistry, Fitted
+from sagas.definition.registry import DefinitionRegistry, Fitted
 
 FORKED = 70
 """The exit status of a forked child process that returned from a function."""

@@ -30,7 +30,7 @@ from sagas.core.saga_instance import SagaInstance
 from sagas.core.outcomes import Outcome
 from sagas.core.shard import ShardDriver
 from sagas.core.states import OutcomeKind, Suspension
-from sagas.definition.blobs import BlobUnavailable
+from sagas.definition.payloads import BlobUnavailable
 from sagas.definition.compiled import ActionKey
 from sagas.definition.tracing import Tracer
 from sagas.runtime.calls import Calls

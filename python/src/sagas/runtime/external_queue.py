@@ -36,11 +36,17 @@ from sagas.core.external_work import Signer, offered_task_name, task_name
 from sagas.core.attempt import Attempt, FINISHED, Lease, SUSPENDED
 from sagas.core.outcomes import CANNOT_DECODE, FAILED, PERMANENT, SUCCEEDED, UNKNOWN, Outcome
 from sagas.core.shard import ShardDriver
-from sagas.definition import compensation_task, report_undos, shape_validation, tokens, undo_text
-from sagas.definition.blobs import BlobUnavailable
+from sagas.definition import step as step_module
+from sagas.definition import (
+    definition_text,
+    tokens,
+    undo_sagas,
+    validation,
+)
+from sagas.definition.payloads import BlobUnavailable
 from sagas.definition.capacity import SHARD_CAPACITY
-from sagas.definition.control import Progress
-from sagas.definition.step import Manner
+from sagas.definition.task_data import Progress
+from sagas.definition.call_options import Manner
 from sagas.runtime import leased_tasks, remote_steps
 from sagas.runtime.leased_tasks import Heartbeat, LeasedTask, Queue, Word
 from sagas.runtime.stored_values import until_answered
@@ -120,7 +126,7 @@ class ExternalQueue:
     async def open(self) -> None:
         """Read the secret that signs leases. Raises `StoreUnavailable`."""
         for saga in self.coordinator.registry.sagas.values():
-            for pattern in shape_validation.patterns(saga):
+            for pattern in step_module.patterns(saga):
                 step = pattern.step
                 if step.concurrency is not None:
                     self._limited.add(task_name(saga.name, pattern.path, "run"))
@@ -403,10 +409,10 @@ class ExternalQueue:
             attempt=task.attempt,
         )
         if kind.saga is not None and kind.saga.undoes_step is not None:
-            task = report_undos.compensation(task, kind.saga)
+            task = undo_sagas.report_task(task, kind.saga)
         elif kind.undoes is not None:
-            sees = undo_text.sees_of(kind.text).get(task.step, ())
-            task = compensation_task.of(task, kind.undoes, sees)
+            sees = definition_text.sees_of(kind.text).get(task.step, ())
+            task = undo_sagas.compensation_task(task, kind.undoes, sees)
         lease = self._signer.issue(claim.attempt, claim.lease, holder)
         try:
             given_text = leased_tasks.given_text(task)

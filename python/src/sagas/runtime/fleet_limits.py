@@ -21,7 +21,7 @@ from sagas.base.logger import logger
 from sagas.core.batch import Grant
 from sagas.core.attempt import Attempt, SUSPENDED
 from sagas.core.states import Action, Suspension
-from sagas.definition.step import Bounds
+from sagas.definition.call_options import Bounds
 
 if TYPE_CHECKING:
     from sagas.runtime.coordinator import Coordinator

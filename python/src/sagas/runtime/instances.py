@@ -15,10 +15,9 @@ from sagas.base.errors import KeyConflict, SagasError
 from sagas.base.events import EventEmitter
 from sagas.core.effects import Abort
 from sagas.core.saga_instance import SagaInstance
-from sagas.definition import input_equality, mismatches
-from sagas.definition.blobs import Reference
+from sagas.definition import compiled, type_checks
+from sagas.definition.payloads import PLAIN, Payloads, Reference
 from sagas.definition.compiled import CompiledDefinition
-from sagas.definition.payloads import PLAIN, Payloads
 from sagas.definition.start_options import StartOptions
 from sagas.storage.interface import Database
 
@@ -291,8 +290,8 @@ def conflict(
                 return None
             return KeyConflict(f"key {key!r} belongs to a saga with another input. Use another key")
         stored_input = stored.decode(stored_input)
-    if stored_input != text and (differ := input_equality.differences(kind, stored_input, text)):
-        paths = mismatches.joined_paths(differ)
+    if stored_input != text and (differ := compiled.input_differences(kind, stored_input, text)):
+        paths = type_checks.joined_paths(differ)
         return KeyConflict(
             f"key {key!r} belongs to a saga with another input, which differs at {paths}. "
             "Use another key"

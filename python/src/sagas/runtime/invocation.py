@@ -22,8 +22,8 @@ from sagas.core import outcomes
 from sagas.core.attempt import Attempt, RUNNING
 from sagas.core.outcomes import Outcome, Unawaited
 from sagas.definition import awaitables
-from sagas.definition.approvals import answering
-from sagas.definition.step import Manner
+from sagas.definition.waits import answering
+from sagas.definition.call_options import Manner
 from sagas.definition.task import Task
 
 Running = Mapping[Attempt, "asyncio.Task[None] | None"]

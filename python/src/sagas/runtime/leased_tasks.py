@@ -10,8 +10,8 @@ from sagas.core import outcomes
 from sagas.core.outcomes import Outcome
 from sagas.definition import serialization
 from sagas.definition.compiled import CompiledDefinition
-from sagas.definition.shape_values import ShapeValues
-from sagas.definition.shelf import DefinitionRegistry
+from sagas.definition.layout import ShapeValues
+from sagas.definition.registry import DefinitionRegistry
 from sagas.definition.task import Task
 from sagas.definition.task_data import TaskSnapshot
 from sagas.storage import queries

@@ -9,8 +9,8 @@ from collections.abc import Callable, Coroutine
 from typing import Any
 
 from sagas.base.logger import logger
-from sagas.definition import context
-from sagas.definition.context import Context, Manager
+from sagas.definition import task_data
+from sagas.definition.task_data import Context, ContextManager
 
 
 class Lifespan:
@@ -32,7 +32,7 @@ class Lifespan:
 
     async def enter(self) -> None:
         """Enter the context. Raises what the factory or the context manager raises."""
-        if not context.is_factory(self._source):
+        if not task_data.is_context_factory(self._source):
             if self._source is not None:
                 self._shared.put(self._source)
             return
@@ -83,7 +83,7 @@ class Lifespan:
             await job
 
     async def _hold(self, ready: asyncio.Future[None]) -> None:
-        async with _entered(context.made(self._source)) as value:
+        async with _entered(task_data.context_manager(self._source)) as value:
             self._shared.put(value)
             ready.set_result(None)
             try:
@@ -93,7 +93,7 @@ class Lifespan:
                 raise
 
 
-def _entered(manager: Manager) -> contextlib.AbstractAsyncContextManager[Any]:
+def _entered(manager: ContextManager) -> contextlib.AbstractAsyncContextManager[Any]:
     if isinstance(manager, contextlib.AbstractAsyncContextManager):
         return manager
     return _in_threads(manager)

@@ -16,7 +16,8 @@ from sagas.definition.payloads import ABSENT
 if TYPE_CHECKING:
     from sagas.core.attempt import Attempt
     from sagas.definition.saga import Saga
-    from sagas.definition.step import RemoteQueue, Step
+    from sagas.definition.call_options import RemoteQueue
+    from sagas.definition.step import Step
     from sagas.storage.interface import Database
 
 MAX_CARRIED = 64 << 10

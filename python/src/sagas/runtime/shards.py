@@ -20,9 +20,9 @@ from sagas.core.effects import Abort
 from sagas.core.saga_instance import SagaInstance
 from sagas.core.shard import ShardDefinitions, ShardDriver, ShardIdentity
 from sagas.core.states import ShardState
-from sagas.definition.blobs import Reference
+from sagas.definition.payloads import Reference
 from sagas.definition.compiled import CompiledDefinition
-from sagas.definition.shelf import DefinitionSet
+from sagas.definition.registry import DefinitionSet
 from sagas.engine.process import EnginePool, EngineProcess
 from sagas.runtime import stored_values
 from sagas.runtime.audits import Auditor

@@ -16,9 +16,8 @@ from sagas.core.batch import LoadedShard
 from sagas.core.saga_instance import StoredValues
 from sagas.core.attempt import Attempt, RUNNING
 from sagas.core.shard import ShardDriver
-from sagas.definition.blobs import BlobUnavailable, Reference
+from sagas.definition.payloads import ABSENT, BlobUnavailable, Reference
 from sagas.definition.compiled import CompiledDefinition
-from sagas.definition.payloads import ABSENT
 from sagas.storage.interface import Database
 
 T = TypeVar("T")

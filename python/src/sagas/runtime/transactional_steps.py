@@ -21,7 +21,7 @@ from sagas.core.batch import Tail
 from sagas.core.attempt import RUNNING
 from sagas.core.outcomes import Outcome
 from sagas.definition import awaitables
-from sagas.definition.step import Function, Manner
+from sagas.definition.call_options import Function, Manner
 from sagas.definition.task import Task
 from sagas.runtime import invocation
 from sagas.storage.postgresql import step_commit

@@ -2,7 +2,7 @@
 
 from __future__ import annotations
 
-from sagas.definition.declaration import COSTS
+from sagas.definition.shape import COSTS
 from sagas.server import problems
 from sagas.server.auth import DEFINITION
 from sagas.server.shapes import (

@@ -28,8 +28,9 @@ from sagas.api.sync_store import SyncStore
 from sagas.base import options as options_module
 from sagas.base.errors import DefinitionError, InvalidStore, SagasError
 from sagas.base.options import age, integer_from, positive
+from sagas.definition.payloads import MIN_THRESHOLD
 from sagas.definition import arguments, payloads
-from sagas.definition.blobs import LEAST, check as check_blobs
+from sagas.definition.payloads import MIN_THRESHOLD as LEAST, check_blobs
 from sagas.definition.saga import Saga
 from sagas.server import auth, definition_files, log_format
 from sagas.server.settings import (
@@ -370,7 +371,7 @@ def options_of(parsed: argparse.Namespace, app: AppStore | None) -> dict[str, An
     result |= {name: value for name, value in set_options.items() if value is not None}
     try:
         payloads.checked(result.get("codec"))
-        check_blobs(result.get("blobs"), result.get("blob_threshold", LEAST))
+        check_blobs(result.get("blobs"), result.get("blob_threshold", MIN_THRESHOLD))
         arguments.keeping(result.get("retention"), result.get("archive_dir"))
     except (TypeError, ValueError) as error:
         raise Trouble(str(error)) from error

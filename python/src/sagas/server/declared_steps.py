@@ -7,12 +7,11 @@ from collections.abc import Iterator
 from typing import Any, Union
 
 from sagas.definition.compiled import CompiledDefinition
-from sagas.definition.declaration import COSTS
+from sagas.definition.shape import COSTS
 from sagas.definition.layout import Scope, StepOrigin
-from sagas.definition.parts import Inclusion
+from sagas.definition.step import Inclusion, Step, need_name
 from sagas.definition.saga import Saga
-from sagas.definition.shape_validation import need_name
-from sagas.definition.step import NEVER, Step
+from sagas.definition.call_options import NEVER
 
 COMPUTED = "input"
 """Replaces a cost that depends on the input."""

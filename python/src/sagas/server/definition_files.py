@@ -26,9 +26,10 @@ from collections.abc import Callable, Iterator
 from typing import Any, Union
 
 from sagas.base.errors import DefinitionError
-from sagas.definition.compiled import version_of
+from sagas.definition.definition_text import version_of
 from sagas.definition.saga import Saga
-from sagas.definition.step import NEVER, Backoff, Cost, Step, nothing
+from sagas.definition.call_options import Backoff, Cost, NEVER, nothing
+from sagas.definition.step import Step
 from sagas.definition.waits import MOST_WITHIN
 
 SERVICE = ".service.toml"

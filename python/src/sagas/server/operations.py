@@ -14,7 +14,7 @@ from starlette.responses import Response
 from starlette.routing import Route
 
 from sagas.base.errors import SagasError
-from sagas.definition.validation import meant
+from sagas.definition.arguments import meant
 from sagas.server import json_bodies, problems
 from sagas.server.access import (
     authorize,

@@ -26,7 +26,7 @@ from sagas.base.errors import (
 from sagas.base.events import Event
 from sagas.core.results import ActiveAttempt
 from sagas.definition import tokens
-from sagas.definition.compiled import version_of
+from sagas.definition.definition_text import version_of
 from sagas.definition.labels import Labels
 from sagas.definition.saga import Saga
 from sagas.inspection import saga as one_saga, views

@@ -9,7 +9,7 @@ import re
 from collections.abc import Mapping
 from typing import Any
 
-from sagas.definition.validation import meant
+from sagas.definition.arguments import meant
 
 Schema = dict[str, Any]
 MOST_SHOWN = 80

@@ -13,7 +13,7 @@ from typing import Any, Union
 from urllib.parse import urlencode
 
 from sagas.core.results import HistoryEvent
-from sagas.definition.groups import ALL, Block, Group, Groups
+from sagas.definition.drawing import ALL, Block, Group, Groups
 from sagas.engine.plan import Choice
 from sagas.inspection import wording
 from sagas.inspection.picture import StepDisplay, counted, urgency

@@ -26,8 +26,15 @@ from typing import TYPE_CHECKING, Any, NamedTuple, cast
 from sagas.base.errors import SagasError, StoreUnavailable
 from sagas.base.logger import logger
 from sagas.core.batch import Batch, LoadedShard, NewShard, SagaRow, StoredSaga
-from sagas.definition.blobs import HEAD, BlobStore, BlobUnavailable, Reference
-from sagas.definition.payloads import ABSENT, Payloads
+from sagas.definition.payloads import BLOB_HEAD
+from sagas.definition.payloads import (
+    ABSENT,
+    BLOB_HEAD as HEAD,
+    BlobStore,
+    BlobUnavailable,
+    Payloads,
+    Reference,
+)
 from sagas.storage import admin, store_name
 
 if TYPE_CHECKING:
@@ -46,7 +53,7 @@ INPUT, RESULT, SHAPE = 4, 5, 1
 DONE = ("commit", "ok")
 EVENT, HELD = 4, ("commit", "undone")
 """The events of results that no report needs any more, and their column."""
-PATTERN = HEAD + "%"
+PATTERN = BLOB_HEAD + "%"
 REFERRED = (
     "SELECT input FROM sagas WHERE id >= ? AND id < ? AND input LIKE ? "
     "UNION ALL SELECT value FROM attempts WHERE id >= ? AND id < ? AND value LIKE ? "
@@ -150,9 +157,9 @@ class Blobs:
         if text is None:
             return False
         if 4 * len(text) <= self._threshold:
-            return text.startswith(HEAD)
+            return text.startswith(BLOB_HEAD)
         size = len(text.encode("utf-8", "surrogatepass"))
-        return size > self._threshold or text.startswith(HEAD)
+        return size > self._threshold or text.startswith(BLOB_HEAD)
 
     def large_rows(self, batches: Sequence[Batch]) -> list[tuple[list[Any], int, int]]:
         """Return the locations of large values: the rows, the row's index, and the column."""
@@ -225,7 +232,7 @@ class Blobs:
             (number, cell, text)
             for number, row in enumerate(rows)
             for cell, text in enumerate(row)
-            if isinstance(text, str) and text.startswith(HEAD)
+            if isinstance(text, str) and text.startswith(BLOB_HEAD)
         ]
         texts = await asyncio.gather(*(self.text(text) for _, _, text in references))
         for (number, cell, _), text in zip(references, texts):

@@ -6,9 +6,9 @@ from collections.abc import Callable
 from typing import Any
 
 from sagas.base.errors import DefinitionError, InvalidStore
-from sagas.definition import definition_text
-from sagas.definition.compiled import digest_of
-from sagas.definition.shelf import DefinitionRegistry
+from sagas.definition import saga as saga_module
+from sagas.definition.definition_text import digest_of
+from sagas.definition.registry import DefinitionRegistry
 from sagas.storage.interface import Database
 from sagas.storage.record_file import record_path
 from sagas.storage.sqlite.storage import Sqlite
@@ -56,7 +56,7 @@ def make(
         raise missing_client(error) from error
     compiled_names = {f"{kind.name}/{kind.version}": kind.text for kind in definitions.kinds}
     compiled_names |= {
-        f"{saga.name}/{saga.version}": definition_text.declared(saga)
+        f"{saga.name}/{saga.version}": saga_module.declared_text(saga)
         for saga in definitions.sagas.values()
         if saga.is_shaped
     }

@@ -9,7 +9,7 @@ from sagas.definition import labels as labels_module
 from sagas.definition.arguments import BELOW, root_of
 from sagas.definition.children import undoes_child
 from sagas.definition.labels import Labels
-from sagas.definition.undo_text import name_of
+from sagas.definition.definition_text import undo_name_of
 from sagas.storage.queries import ERROR, IN_OPEN_LOGS, PHASES, UNDOES_CHILD, UNDOING_KEYS
 from sagas.storage.sqlite.schema import PLANNED
 
@@ -77,7 +77,7 @@ class Scope:
     @property
     def _undoing(self) -> frozenset[str]:
         """The names of the definitions that undo children of the scope's definitions."""
-        return frozenset(map(name_of, self.definitions or ()))
+        return frozenset(map(undo_name_of, self.definitions or ()))
 
     def has_key(self, key: str | None) -> bool:
         """Whether a saga's key is in the scope.

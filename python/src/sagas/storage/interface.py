@@ -56,7 +56,7 @@ if TYPE_CHECKING:
     from sagas.core.attempt import Attempt
     from sagas.core.outcomes import Outcome
     from sagas.definition.payloads import Payloads
-    from sagas.definition.step import Bounds, Manner
+    from sagas.definition.call_options import Bounds, Manner
     from sagas.definition.task import Task
     from sagas.storage.blob_layer import Blobs
 

@@ -12,7 +12,7 @@ from sagas.base.errors import WrongStore
 from sagas.core.external_work import AttemptTexts, Order, Position, saga_id
 from sagas.core.outcomes import Outcome
 from sagas.definition.payloads import PLAIN
-from sagas.definition.step import Function
+from sagas.definition.call_options import Function
 from sagas.storage import queries
 
 BEGIN = """

@@ -12,12 +12,11 @@ from sagas.core import outcomes
 from sagas.core.attempt import Attempt
 from sagas.core.outcomes import Outcome
 from sagas.core.states import OutcomeKind
-from sagas.definition import children, serialization, shape_validation, validation
+from sagas.definition import arguments, children, serialization
 from sagas.definition.arguments import shown
 from sagas.definition.layout import Layout
 from sagas.definition.saga import Saga
-from sagas.definition.selection import Selection
-from sagas.definition.step import Step
+from sagas.definition.step import Selection, Step, patterns, step_named
 
 Attempts = Union[int, Iterable[int], Exception, type[Exception]]
 """The attempts: the first N, those of a list, or all of them with an exception."""
@@ -68,10 +67,10 @@ def _heads(saga: Saga, step: object) -> tuple[list[str], object]:
     if isinstance(step, str) and "/" in step:
         head, _, rest = step.partition("/")
         names = [starter.name for starter, _ in children.children_of(saga)]
-        if head not in names and shape_validation.step_named(saga, step):
+        if head not in names and step_named(saga, step):
             return [], step
         if head not in names:
-            near = validation.meant(head, names)
+            near = arguments.meant(head, names)
             raise KeyError(f"saga {saga.name!r} has no child step {head!r}{near}")
         return [head], rest
     if isinstance(step, Step) and step.saga is not saga:
@@ -94,9 +93,9 @@ def name_of(saga: Saga, step: object) -> str:
     name = "/".join(step.path) if isinstance(step, Selection) else step
     if not isinstance(name, str):
         raise TypeError(f"{shown(step)}: must be a step of saga {saga.name!r}, or its name")
-    if shape_validation.step_named(saga, name) is None:
-        names = [pattern.path for pattern in shape_validation.patterns(saga)]
-        raise KeyError(f"saga {saga.name!r} has no step {name!r}{validation.meant(name, names)}")
+    if step_named(saga, name) is None:
+        names = [pattern.path for pattern in patterns(saga)]
+        raise KeyError(f"saga {saga.name!r} has no step {name!r}{arguments.meant(name, names)}")
     return name
 
 
@@ -109,8 +108,7 @@ def check_items(saga: Saga, layout: Layout, names: Iterable[str]) -> None:
         KeyError: The input does not have an item.
     """
     for name in names:
-        patterns = shape_validation.patterns(saga)
-        declared = next(pattern.path for pattern in patterns if pattern.is_of(name))
+        declared = next(pattern.path for pattern in patterns(saga) if pattern.is_of(name))
         if name == declared or name in layout.origins:
             continue
         steps = [step for step, origin in layout.origins.items() if origin.declared == declared]
@@ -123,7 +121,7 @@ def check_items(saga: Saga, layout: Layout, names: Iterable[str]) -> None:
 
 def _step(saga: Saga, name: str) -> Step[Any]:
     """Return the declared step of a name."""
-    step = shape_validation.step_named(saga, name)
+    step = step_named(saga, name)
     assert step
     return step
 
@@ -196,13 +194,13 @@ def _rule(saga: Saga, argument: str, name: str, attempts: Any) -> Rule:
         return lambda attempt: each
     entry = f"{argument}={{{name!r}: {shown(attempts)}}}"
     if isinstance(attempts, (str, bytes, type)) or not (
-        validation.is_count(attempts) or isinstance(attempts, Iterable)
+        arguments.is_count(attempts) or isinstance(attempts, Iterable)
     ):
         raise TypeError(f"{entry}: must be {FORMS}")
     is_number = isinstance(attempts, int)
     chosen = range(1, attempts + 1) if is_number else [*attempts]
     checked = [attempts + 1] if is_number else chosen  # the number may be very large
-    if not all(validation.is_count(attempt) and attempt > 0 for attempt in checked):
+    if not all(arguments.is_count(attempt) and attempt > 0 for attempt in checked):
         raise ValueError(f"{entry}: attempts are numbered from 1. It must be {FORMS}")
     error = RuntimeError(SCRIPTED)
     return lambda attempt: error if attempt in chosen else None

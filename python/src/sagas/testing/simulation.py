@@ -1,8 +1,8 @@
-"""`Simulation`: one saga in memory, with a clock and a heap of due events.
+"""`Simulation`: one saga in memory, and `Family`: a saga with its descendants.
 
-It uses the `ShardDriver` and the `AttemptMachine` of a store. A store has an event loop, a database
-and timers. A simulation has a heap of due events instead, and a clock that advances to the next
-one. It makes no decisions itself.
+A simulation uses the `ShardDriver` and the `AttemptMachine` of a store. A store has an event loop,
+a database and timers. A simulation has a heap of due events instead, and a clock that advances to
+the next one. It makes no decisions itself.
 """
 
 from __future__ import annotations
@@ -12,27 +12,87 @@ import dataclasses
 import enum
 import heapq
 import json
+import subprocess
 from collections import Counter
-from collections.abc import Mapping
-from typing import Any, Protocol
+from collections.abc import Mapping, Sequence
+from typing import Any
 
-from sagas.base.errors import CannotDecode, Fail
-from sagas.core import outcomes, protocol, reports
+from sagas.base import program
+from sagas.base.errors import CannotDecode, EngineError, Fail, NotSerializable
+from sagas.core import children, outcomes, protocol, reports
 from sagas.core.attempt_machine import AttemptMachine, Decision, Do
 from sagas.core.effects import Abort, Effects
-from sagas.core.states import AFTER_FAILURE, Action, OutcomeKind, Suspension, saga_phase, step_state
+from sagas.core.states import (
+    AFTER_FAILURE,
+    Action,
+    OutcomeKind,
+    SagaPhase,
+    Suspension,
+    saga_phase,
+    step_state,
+)
 from sagas.core.history import EFFECT_STATES, fan_of
 from sagas.core.attempt import Attempt, RUNNING, SUSPENDED, SuspensionRow
 from sagas.core.saga_instance import SagaInstance
-from sagas.core.outcomes import Outcome
+from sagas.core.outcomes import Outcome, SUCCEEDED
 from sagas.core.shard import MAX_CLAIMS, ShardDefinitions, ShardDriver, ShardIdentity
-from sagas.definition import children, serialization
+from sagas.definition import serialization, tokens, undo_sagas
+from sagas.definition.children import undoes_child
 from sagas.definition.compiled import CompiledDefinition
-from sagas.definition.start_options import StartOptions
+from sagas.definition.payloads import Payloads
+from sagas.definition.saga import Saga
+from sagas.definition.shape import Shape, write_definition
+from sagas.definition.start_options import StartOptions, deadline_at
+from sagas.definition.task_data import Context
 from sagas.runtime import invocation
-from sagas.testing.engine import Engine
+from sagas.testing import scripts
 from sagas.testing.scripts import Rule, for_step
 from sagas.testing.trial import Call, Clock, Trial
+
+
+class Engine:
+    """A process `sagas drive` for one definition, for use by `with`."""
+
+    def __init__(self, definition: str) -> None:
+        self._texts = program.TextFiles([definition])
+        try:
+            command = [program.path(), "drive", *self._texts.paths]
+            self._process = subprocess.Popen(
+                command,
+                stdin=subprocess.PIPE,
+                stdout=subprocess.PIPE,
+                pass_fds=self._texts.files,
+                start_new_session=True,
+            )
+        except BaseException:
+            self._texts.close()
+            raise
+        self._texts.close_passed_files()
+
+    def __enter__(self) -> Engine:
+        return self
+
+    def __exit__(self, *_: object) -> None:
+        assert self._process.stdin and self._process.stdout
+        self._process.stdin.close()
+        self._process.stdout.close()
+        self._process.wait()
+        self._texts.close()
+
+    def ask(self, lines: Sequence[str]) -> list[str]:
+        """Return the replies to some requests.
+
+        Raises:
+            EngineError: The process ended unexpectedly.
+        """
+        assert self._process.stdin and self._process.stdout
+        self._process.stdin.write("".join(f"{line}\n" for line in lines).encode())
+        self._process.stdin.flush()
+        replies = [self._process.stdout.readline() for _ in lines]
+        if not all(replies):
+            raise EngineError("sagas drive ended unexpectedly")
+        return [reply.decode().rstrip("\n") for reply in replies]
+
 
 MOST_CALLS = 10_000
 FAILURES = (OutcomeKind.FAILED, OutcomeKind.FAILED_PERMANENTLY)
@@ -96,13 +156,6 @@ class Due(enum.Enum):
     """Its child saga runs."""
 
 
-class Children(Protocol):
-    """The children of a simulation."""
-
-    async def run(self, attempt: Attempt, scenario: Scenario) -> Outcome:
-        """Run the child of an attempt to its end, and return the outcome of the attempt."""
-
-
 class Simulation:
     """A simulation of one saga, from its start to its end."""
 
@@ -113,7 +166,7 @@ class Simulation:
         kind: CompiledDefinition,
         scenario: Scenario,
         clock: Clock,
-        children: Children,
+        children: Family,
         name: str = "test",
         shape: str | None = None,
     ) -> None:
@@ -336,7 +389,7 @@ class Simulation:
         if name not in answers:
             name = self._kind.declared_name(attempt.step)
         if name not in answers and attempt.reason is Suspension.EXHAUSTED:
-            undoes = children.undoes_child(attempt.key)
+            undoes = undoes_child(attempt.key)
             if attempt.is_child and (attempt.undo or undoes) and attempt.outcome:
                 return attempt.outcome  # a person has answered in the saga that undoes it
         if name not in answers:
@@ -417,3 +470,89 @@ class Simulation:
 
     def _spent(self) -> float:
         return round(self._clock() - self._started_at, 6)
+
+
+class Family:
+    """A simulated saga and its descendants, which run one after another.
+
+    Attributes:
+        trials: The results of the descendants, by key.
+    """
+
+    def __init__(self, clock: Clock, context: Context, payloads: Payloads) -> None:
+        self._clock, self._context, self._payloads = clock, context, payloads
+        self._members: dict[str, tuple[Simulation, CompiledDefinition, str]] = {}
+        self.trials: dict[str, Trial] = {}
+
+    async def play(self, saga: Saga, key: str, input: Any, scenario: Scenario) -> Trial:
+        """Run a saga to its end, and return its result.
+
+        Raises:
+            KeyError: The scenario names an item that the input does not have.
+            InvalidInput: The first steps cannot read the input.
+            NotSerializable: The input is not JSON.
+        """
+        text, values = serialization.write_value(input, "input"), None
+        if saga.is_shaped:
+            shape = Shape(saga, text)
+            definition, values = write_definition(shape), self._payloads.encode(shape.values.text())
+        else:
+            definition = saga.toml()
+        kind = CompiledDefinition(definition, saga, self._context, self._payloads)
+        if error := kind.input_error(text):
+            raise error
+        if kind.layout is not None:
+            scripts.check_items(saga, kind.layout, _named(scenario))
+        text = kind.payloads.encode(text)
+        name = f"test{len(self._members) or ''}"
+        simulation = Simulation(key, text, kind, scenario, self._clock, self, name, values)
+        self._members[key] = simulation, kind, tokens.saga_token(name, 0)
+        with Engine(kind.text) as engine:
+            return await simulation.play(engine)
+
+    async def run(self, attempt: Attempt, scenario: Scenario) -> Outcome:
+        """Run the child of an attempt to its end, and return the outcome of the attempt."""
+        child = attempt.declared.child
+        assert child
+        is_undoing = attempt.undo or attempt.instance.kind.undoes is not None
+        saga = undo_sagas.undo_saga(child) if is_undoing else child
+        if saga is None:
+            return Outcome(SUCCEEDED, "null")
+        if attempt.undo:
+            scenario = scenario.undoing()
+        elif not is_undoing:
+            own_deadline = deadline_at(saga.deadline, self._clock())
+            deadlines = [at for at in (scenario.deadline, own_deadline) if at is not None]
+            scenario = dataclasses.replace(scenario, deadline=min(deadlines, default=None))
+        try:
+            child_input = self._input(attempt)
+        except Exception as error:  # of the step's function
+            return outcomes.raised(error, attempt.manner)
+        key = children.key_of(attempt)
+        try:
+            trial = self.trials[key] = await self.play(saga, key, child_input, scenario)
+        except NotSerializable as error:
+            return outcomes.failure(f"{type(error).__name__}: {error}", final=True)
+        simulation, kind, _ = self._members[key]
+        if trial.phase == SagaPhase.STUCK:  # as if an operator had resolved it
+            trial = dataclasses.replace(trial, phase=SagaPhase.RESOLVED.value)
+        outcome = children.child_outcome(trial, kind, simulation.saga.results)
+        assert outcome
+        return Outcome(SUCCEEDED, "null") if attempt.undo and outcome.kind is SUCCEEDED else outcome
+
+    def _input(self, attempt: Attempt) -> Any:
+        key = children.undone_key(attempt)
+        if key is None:
+            return children.child_input(attempt)()
+        simulation, kind, token = self._members[key]
+        saga_instance = simulation.saga
+        undone = children.undone_steps(self.trials[key].states, ())
+        text, results = saga_instance.text, saga_instance.results
+        return children.undo_input(key, token, kind, text, results, undone)
+
+
+def _named(scenario: Scenario) -> set[str]:
+    """Return the names of the steps in a scenario."""
+    names = {name for rules in scenario.rules.values() for name in rules}
+    names |= {*scenario.answers, *scenario.early}
+    return names | {scenario.abort} if scenario.abort else names

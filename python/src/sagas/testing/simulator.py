@@ -15,16 +15,15 @@ import asyncio
 import dataclasses
 from typing import Any, NamedTuple
 
-from sagas.definition import arguments, children, payloads, validation
-from sagas.definition.context import Context
+from sagas.definition import arguments, children, payloads, waits
+from sagas.definition.task_data import Context
 from sagas.definition.payloads import Codec
 from sagas.definition.saga import Saga
-from sagas.definition.selection import Selection
+from sagas.definition.step import Selection
 from sagas.definition.start_options import Deadline, deadline_at
 from sagas.runtime.lifespan import Lifespan
-from sagas.testing.family import Family
+from sagas.testing.simulation import Family, Scenario
 from sagas.testing.scripts import Answers, Script, answers_of, early_of, name_of, part_of, script
-from sagas.testing.simulation import Scenario
 from sagas.testing.trial import Clock, Trial
 
 
@@ -150,7 +149,7 @@ async def run_async(
     concurrency: int | None = None,
 ) -> Trial:
     """Run a whole saga in memory, in a running event loop. See `testing.run`."""
-    validation.check_given(saga)
+    waits.check_is_saga(saga)
     saga.check()
     script_arguments = ScriptArguments(
         fail, fail_undo, unknown, unknown_undo, answers, early, abort

@@ -8,8 +8,8 @@ from typing import Any
 
 from sagas.core.outcomes import FAILED, PERMANENT, SUCCEEDED
 from sagas.core.results import EndQueries
-from sagas.definition.control import Progress
-from sagas.definition.fan import FIXED, Fan
+from sagas.definition.task_data import Progress
+from sagas.definition.task import FIXED, Fan
 
 
 class Clock:

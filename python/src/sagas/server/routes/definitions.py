@@ -9,7 +9,7 @@ from typing import Any
 
 from starlette.responses import Response
 
-from sagas.definition.groups import Block, Groups
+from sagas.definition.drawing import Block, Groups
 from sagas.definition.saga import Saga
 from sagas.inspection import definitions, picture
 from sagas.inspection.definitions import AtStep

@@ -13,7 +13,7 @@ from starlette.responses import Response
 
 from sagas.base.errors import DefinitionError, NoSuchSaga
 from sagas.definition import children
-from sagas.definition.groups import Groups
+from sagas.definition.drawing import Groups
 from sagas.engine.plan import certificate_text
 from sagas.inspection import names, picture, timeline, views, what_if
 from sagas.inspection.views import SagaView, StepView

@@ -11,7 +11,8 @@ from starlette.requests import Request
 from starlette.responses import RedirectResponse, Response
 
 from sagas.base.errors import NoSuchSchedule, SagasError
-from sagas.definition.payloads import shown
+from sagas.definition.payloads import unescaped_value
+from sagas.definition.payloads import unescaped_value as shown
 from sagas.definition.timing import key_of
 from sagas.inspection import lists
 from sagas.server import answers, json_views, problems
@@ -34,7 +35,7 @@ async def seen(service: Service, principal: Principal) -> list[Schedule]:
     """Return the schedules that the principal may see."""
     stored = await service.look(lists.schedules())
     return [
-        dataclasses.replace(schedule, input=shown(schedule.input))
+        dataclasses.replace(schedule, input=unescaped_value(schedule.input))
         for schedule in stored
         if principal.sees(schedule.saga) and principal.scope.has_key(key_of(schedule.name, 0.0))
     ]

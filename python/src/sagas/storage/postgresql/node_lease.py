@@ -28,7 +28,7 @@ from sagas.core import children
 from sagas.core.batch import ShardRow
 from sagas.core.children import CompletedChild
 from sagas.definition.capacity import SHARD_CAPACITY
-from sagas.definition.compiled import version_of
+from sagas.definition.definition_text import version_of
 from sagas.storage.codec_note import NOTE, NOTED, missing
 from sagas.storage.postgresql import notifications
 from sagas.storage.postgresql.connections import RAISED, TIMELINE, Asker, translate_errors

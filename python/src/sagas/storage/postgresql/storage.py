@@ -23,7 +23,7 @@ from sagas.core.batch import (
 )
 from sagas.definition.payloads import Payloads
 from sagas.definition.serialization import cleaned
-from sagas.definition.step import Bounds
+from sagas.definition.call_options import Bounds
 from sagas.storage import queries
 from sagas.storage.external import ExternalAttempts
 from sagas.storage.interface import (

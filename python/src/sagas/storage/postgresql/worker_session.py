@@ -16,7 +16,7 @@ from sagas.core import outcomes
 from sagas.core.external_work import AlreadyReported, AttemptTexts, Order
 from sagas.core.outcomes import Outcome
 from sagas.definition import awaitables
-from sagas.definition.step import Function
+from sagas.definition.call_options import Function
 from sagas.definition.task import Task
 from sagas.storage.external import REPORT_COUNTS
 from sagas.storage.postgresql import connections

@@ -11,7 +11,7 @@ from urllib.parse import quote
 from sagas.base.errors import StoreUnavailable, WrongStore
 from sagas.core.external_work import AttemptTexts, Order
 from sagas.core.outcomes import Outcome
-from sagas.definition.step import Function
+from sagas.definition.call_options import Function
 from sagas.storage.sqlite.external_attempts import REPORT
 from sagas.storage.worker_session import BEGIN, fetched
 

@@ -1,13 +1,14 @@
-"""`Groups`: the fan-outs and included sagas of a definition, each with its steps."""
+"""Groups of the steps of a definition, and drawings for Graphviz in which a group is one node."""
 
 from __future__ import annotations
 
 import dataclasses
+import re
+from collections import Counter
 from collections.abc import Collection, Iterable, Sequence
 
-from sagas.definition import shape_text
-from sagas.definition.joins import ENDING
-from sagas.definition.layout import StepOrigin, parse_origin
+from sagas.definition import definition_text
+from sagas.definition.layout import JOIN_ENDING, StepOrigin, parse_origin
 
 ALL = "*"
 """The name that unfolds every group."""
@@ -86,7 +87,7 @@ class Groups:
     @classmethod
     def read(cls, text: str) -> Groups:
         """Return the groups of a definition, given its text."""
-        listed = shape_text.steps(text) if shape_text.is_shaped(text) else []
+        listed = definition_text.shaped_steps(text) if definition_text.is_shaped(text) else []
         return cls([parse_origin(step["of"]) for step in listed])
 
     def _outer(self, name: str) -> Group | None:
@@ -100,8 +101,8 @@ class Groups:
     def _add_joins(self) -> None:
         """Add the joining step that follows a group to the group."""
         for number, origin in enumerate(self.origins):
-            joined = StepOrigin(origin.scope, origin.name.removesuffix(ENDING)).declared
-            if origin.name.endswith(ENDING) and joined in self.by_name:
+            joined = StepOrigin(origin.scope, origin.name.removesuffix(JOIN_ENDING)).declared
+            if origin.name.endswith(JOIN_ENDING) and joined in self.by_name:
                 self._of[number].append(self.by_name[joined])
 
     def of(self, step: int) -> list[Group]:
@@ -150,3 +151,73 @@ def _paths(origin: StepOrigin) -> list[tuple[str, StepOrigin]]:
 def _is_item(origin: StepOrigin) -> bool:
     """Return whether a step, or an inclusion around it, exists once for each item."""
     return origin.number is not None or any(number is not None for _, number in origin.scope)
+
+
+# -- drawings
+
+
+NODE = re.compile(r'  "([^"]+)" \[(.*?) ?label="(.*)"\];')
+EDGE = re.compile(r'  "([^"]+)" -> "([^"]+)"(.*);')
+COSTS = ("run ", "undo ", "skip ", "keep ", "tries ", "undo_tries ")
+"""The beginnings of the lines of a node's label that show costs and tries."""
+FAILED = "octagon"
+"""The shape of a step that has failed."""
+
+
+def fold(drawing: str, definition: str, unfold: Collection[str]) -> str:
+    """Return a drawing of a definition with a node for each group.
+
+    Args:
+        drawing: The drawing of the engine program, with a node for each step.
+        definition: The definition.
+        unfold: The declared names of the groups whose parts are drawn, or `ALL`.
+    """
+    groups = Groups.read(definition)
+    if ALL in unfold or not groups.by_name:
+        return drawing
+    lines = drawing.splitlines()
+    nodes = {name: (style, label) for name, style, label in _matches(NODE, lines)}
+    names = list(nodes)
+    node_of = {name: name for name in names}
+    drawn = []
+    for block in groups.blocks(len(names), unfold):
+        members = [names[step] for step in block.steps]
+        if block.group is None:
+            drawn.append(_line(members[0], *nodes[members[0]]))
+            continue
+        node_of |= dict.fromkeys(members, block.group.name)
+        grouped = [nodes[names[step]] for step in block.group.steps]
+        drawn.append(_line(block.group.name, _style(grouped), _label(block.group.title, grouped)))
+    edges: dict[tuple[str, str], str] = {}
+    for step, need, style in _matches(EDGE, lines):
+        ends = node_of[step], node_of[need]
+        if ends[0] != ends[1]:
+            edges[ends] = max(style, edges.get(ends, ""))
+    drawn += [f'  "{step}" -> "{need}"{style};' for (step, need), style in edges.items()]
+    head = lines[: next(at for at, line in enumerate(lines) if NODE.fullmatch(line))]
+    return "\n".join([*head, *drawn, "}"]) + "\n"
+
+
+def _matches(pattern: re.Pattern[str], lines: Sequence[str]) -> list[tuple[str, ...]]:
+    return [match.groups() for line in lines if (match := pattern.fullmatch(line))]
+
+
+def _line(name: str, style: str, label: str) -> str:
+    return f'  "{name}" [{style} label="{label}"];'
+
+
+def _style(nodes: Sequence[tuple[str, str]]) -> str:
+    """Return the style of a group: of a failed step, or the one of all steps."""
+    styles = [style for style, _ in nodes]
+    failed = [style for style in styles if FAILED in style]
+    return failed[0] if failed else styles[0] if len({*styles}) == 1 else "shape=box"
+
+
+def _label(title: str, nodes: Sequence[tuple[str, str]]) -> str:
+    """Return a group's title, its numbers of steps by state, and common costs."""
+    lines = Counter(line for _, label in nodes for line in label.split(r"\n")[1:])
+    shown = [f"{count:,} {line}" for line, count in lines.items() if not line.startswith(COSTS)]
+    shown += [
+        line for line, count in lines.items() if line.startswith(COSTS) and count == len(nodes)
+    ]
+    return r"\n".join([title, *shown])

@@ -2,36 +2,31 @@
 
 from __future__ import annotations
 
+import functools
 import hashlib
 import json
+import weakref
+from collections import OrderedDict
 from collections.abc import Callable, Iterable, Iterator, Sequence
-from typing import Any, NamedTuple
+from typing import Any, NamedTuple, TypeVar
 
 from sagas.base.errors import DefinitionError, MissingStep, SagasError
-from sagas.definition import (
-    definition_text,
-    report_undos,
-    shape_text,
-    undo_sagas,
-    undo_text,
-    validation,
-)
+from sagas.definition import definition_text, undo_sagas
 from sagas.definition.capacity import MOST_DEFINITIONS, SHARD_CAPACITY
-from sagas.definition.compiled import Hooks, CompiledDefinition, name_of, version_of
-from sagas.definition.context import Context
+from sagas.definition.compiled import CompiledDefinition, Hooks
+from sagas.definition.definition_text import listed_steps, name_of, version_of
 from sagas.definition.payloads import PLAIN as PLAIN_PAYLOADS, Payloads
-from sagas.definition.listed_steps import of as listed_steps
-from sagas.definition.saga import Saga
-from sagas.definition.shape import Shape
-from sagas.definition.shaped_kinds import ShapedKinds
+from sagas.definition.saga import Saga, declared_text
+from sagas.definition.shape import Declaration, Shape, Template
 from sagas.definition.step import Step
+from sagas.definition.task_data import Context
+from sagas.definition.waits import check_is_saga
 
 
 def digest_and_texts(sagas: Iterable[Saga]) -> tuple[str, list[str]]:
     """Return the digest of a set of definitions, and their texts sorted by name."""
     texts = [
-        definition_text.declared(saga)
-        for saga in sorted(sagas, key=lambda saga: (saga.name, saga.version))
+        declared_text(saga) for saga in sorted(sagas, key=lambda saga: (saga.name, saga.version))
     ]
     return digest_of_texts(texts), texts
 
@@ -127,9 +122,13 @@ class DefinitionRegistry:
 
         `report_undos.fault` must allow it.
         """
-        name = (undo_text.name_of(saga.name), saga.version, report_undos.step_name(saga, step))
+        name = (
+            definition_text.undo_name_of(saga.name),
+            saga.version,
+            undo_sagas.undo_step_name(saga, step),
+        )
         if name not in self._report_undos:
-            undo_saga = self._report_undos[name] = report_undos.saga_of(saga, step)
+            undo_saga = self._report_undos[name] = undo_sagas.report_undo_saga(saga, step)
             kind = CompiledDefinition(undo_saga.toml(), undo_saga, self.context, self.payloads)
             kind = self._kinds.setdefault(kind.text, kind)
             kind.hooks = self._hooks_of(kind)
@@ -140,16 +139,22 @@ class DefinitionRegistry:
     def _undoing(self, text: str) -> Saga | None:
         """Return the saga that undoes an unused report, given its stored definition."""
         name, version = name_of(text), version_of(text)
-        if undo_text.child_of(text) is not None or not name.endswith(undo_text.ENDING):
+        if definition_text.child_of(text) is not None or not name.endswith(
+            definition_text.UNDO_ENDING
+        ):
             return None
         if len(steps := listed_steps(text)) != 1:
             return None
         for saga in self.sagas.values():
-            if (undo_text.name_of(saga.name), saga.version) != (name, version):
+            if (definition_text.undo_name_of(saga.name), saga.version) != (name, version):
                 continue
             for step in saga.all_steps:
-                is_named = report_undos.step_name(saga, step) == steps[0].name
-                if is_named and report_undos.is_reported(step) and report_undos.fault(step) is None:
+                is_named = undo_sagas.undo_step_name(saga, step) == steps[0].name
+                if (
+                    is_named
+                    and undo_sagas.is_reported(step)
+                    and undo_sagas.report_fault(step) is None
+                ):
                     return self.report_undo(saga, step)
         return None
 
@@ -181,7 +186,7 @@ class DefinitionRegistry:
 
     def kind(self, text: str) -> CompiledDefinition:
         """Return the definition of a text."""
-        if shape_text.is_shaped(text):
+        if definition_text.is_shaped(text):
             return self._shaped.kind(text)
         if text not in self._kinds:
             saga = self._undoing(text) or self._saga(text)
@@ -197,14 +202,14 @@ class DefinitionRegistry:
         The saga that undoes a child follows the stored definition, even if the program declares
         another one.
         """
-        version, child_name = version_of(text), undo_text.child_of(text)
+        version, child_name = version_of(text), definition_text.child_of(text)
         saga = self.sagas.get((name_of(text), version))
         if saga is not None and saga.undo_text == text:
             return saga
         if child_name is None and (saga is None or saga.undoes is None):
             return saga
         child = self.sagas.get((child_name, version)) if child_name else saga and saga.undoes
-        return undo_sagas.of_text(child, text) if child else None
+        return undo_sagas.undo_saga_of_text(child, text) if child else None
 
     def undo_kind(self, child: CompiledDefinition) -> CompiledDefinition | None:
         """Return the definition of the saga that undoes a completed child.
@@ -224,7 +229,7 @@ class DefinitionRegistry:
                 f"a child of saga {child.name!r} (version {child.version}) is to be undone, but "
                 f"{missing}. Declare it again"
             )
-        text = undo_sagas.of_child(saga, child.text)
+        text = undo_sagas.undo_text_of_child(saga, child.text)
         return None if text is None else self.kind(text)
 
     def hooks(self, name: str) -> Hooks:
@@ -245,7 +250,7 @@ class DefinitionRegistry:
             DefinitionError: The store was not opened with this saga.
         """
         if not isinstance(saga, Saga):
-            validation.check_given(saga)
+            check_is_saga(saga)
         fitted = self._fitted.get(saga)
         if fitted is not None and (kind := fitted.kind) is not None:
             wrong = kind.input_error(text)
@@ -312,3 +317,125 @@ class DefinitionRegistry:
     def set_of(self, kind: CompiledDefinition) -> DefinitionSet:
         """Return the definitions of the shards for new sagas of a definition."""
         return self._sets.get(kind, GROWING)
+
+
+# -- definitions that come from inputs
+
+
+MAX_RECENT = 256
+"""Number of recent definitions and of recent templates in the cache.
+
+Definitions of open shards are cached as well, for as long as the shards have them.
+"""
+T = TypeVar("T")
+
+
+class Structure:
+    """The common part of all definitions that differ only in their costs.
+
+    Attributes:
+        template: The template of their texts.
+        kind: One of the definitions; None before the first one is made.
+    """
+
+    __slots__ = ("kind", "template")
+
+    def __init__(self, template: Template) -> None:
+        self.template = template
+        self.kind: CompiledDefinition | None = None
+
+
+class ShapedKinds:
+    """The definitions of a store's sagas whose steps come from their input."""
+
+    def __init__(self, registry: DefinitionRegistry) -> None:
+        self._registry = registry
+        self._kinds: weakref.WeakValueDictionary[
+            str, CompiledDefinition
+        ] = weakref.WeakValueDictionary()
+        self._alike: weakref.WeakValueDictionary[
+            str, CompiledDefinition
+        ] = weakref.WeakValueDictionary()
+        self._recent: OrderedDict[tuple[Any, ...], CompiledDefinition] = OrderedDict()
+        self._structures: OrderedDict[tuple[Any, ...], Structure] = OrderedDict()
+        self._declared: dict[tuple[str, int], Declaration] = {}
+
+    def all(self) -> Iterator[CompiledDefinition]:
+        """Return the definitions that are in use."""
+        return iter([*self._kinds.values()])
+
+    def kind(self, text: str) -> CompiledDefinition:
+        """Return the definition of a text."""
+        kind = self._kinds.get(text)
+        if kind is None:
+            alike = definition_text.without_costs(text)
+            like = self._alike.get(alike)
+            kind = self._made(text) if like is None else like.with_costs(text)
+            self._kinds[text] = self._alike[alike] = kind
+        return kind
+
+    def _made(self, text: str) -> CompiledDefinition:
+        registry, declared = self._registry, self._declaration(name_of(text), version_of(text))
+        kind = CompiledDefinition(
+            text, declared.root, registry.context, registry.payloads, declared
+        )
+        kind.hooks = registry.hooks(kind.name)
+        return kind
+
+    def _declaration(self, name: str, version: int) -> Declaration:
+        """Return the cached declaration of a saga."""
+        if (name, version) not in self._declared:
+            self._declared[name, version] = Declaration(self._registry.sagas.get((name, version)))
+        return self._declared[name, version]
+
+    def shaping(self, saga: Saga, text: str) -> Callable[[], Shape]:
+        """Return a function that computes the shape of a saga for an input.
+
+        A thread may call it. It raises `InvalidInput` if the steps cannot be computed from the
+        input, and `TooLarge` if there are too many of them.
+
+        Args:
+            saga: The saga.
+            text: The input as JSON.
+        """
+        return functools.partial(Shape, saga, text, self._declaration(saga.name, saga.version))
+
+    def of(self, shape: Shape) -> tuple[CompiledDefinition, str]:
+        """Return the definition of a shape, and the stored text of its values.
+
+        Raises:
+            TooLarge: The shape has too many steps or needs.
+        """
+        saga = shape.saga
+        structure = (saga.name, saga.version, *shape.structure)
+        signature = (structure, *shape.costs)
+        kind = self._recent.get(signature)
+        if kind is None:
+            kind = _cached(self._recent, signature, self._written(structure, shape))
+        else:
+            self._recent.move_to_end(signature)
+        return kind, self._registry.payloads.encode(shape.values.text())
+
+    def _written(self, key: tuple[Any, ...], shape: Shape) -> CompiledDefinition:
+        """Return the definition of a shape, by the cached structure if there is one."""
+        structure = self._structures.get(key)
+        if structure is None:
+            structure = _cached(self._structures, key, Structure(Template(shape)))
+        else:
+            self._structures.move_to_end(key)
+        text = structure.template.text(shape.costs)
+        if structure.kind is None:
+            structure.kind = self.kind(text)
+            return structure.kind
+        kind = self._kinds.get(text)
+        if kind is None:
+            kind = self._kinds[text] = structure.kind.with_costs(text)
+        return kind
+
+
+def _cached(recent: OrderedDict[tuple[Any, ...], T], key: tuple[Any, ...], value: T) -> T:
+    """Cache a value, and remove the least recently used one if the cache is full."""
+    recent[key] = value
+    if len(recent) > MAX_RECENT:
+        recent.popitem(last=False)
+    return value
