@@ -34,7 +34,7 @@ sys.path.insert(0, str(pathlib.Path(__file__).resolve().parents[1] / "python" / 
 from server import Server, serving  # noqa: E402
 
 import sagas  # noqa: E402
-from sagas.core import shard as shard_module  # noqa: E402
+from sagas.core import shard  # noqa: E402
 from sagas.runtime import shard_runner  # noqa: E402
 
 FIXED, FROM_INPUT = "fixed", "a definition of its own"

@@ -24,7 +24,7 @@ from concurrent.futures import Future, ProcessPoolExecutor
 from dataclasses import dataclass
 from pathlib import Path
 
-from refusing import TOP, Run, Report, build, path_of, refused, run
+from refusing import Run, build, path_of, refused, run
 
 # The maximum number of growths of one row.
 MAX_GROWTHS = 5000

@@ -15,8 +15,8 @@ from test_command import Shell
 import sagas
 import sagas.testing
 from sagas.api import worker
-from sagas.cli import listings as listings_module
-from sagas.definition import definition_text, undo_sagas
+from sagas.cli import listings
+from sagas.definition import definition_text, saga as saga_module, undo_sagas
 from sagas.definition.task_data import Context
 from sagas.definition.registry import DefinitionRegistry
 from sagas.definition.start_options import StartOptions
@@ -515,8 +515,8 @@ def test_workers_undo_a_child(
             assert leased.original_idempotency_key == task.task.idempotency_key
             assert leased.idempotency_key == task.task.idempotency_key.replace("-run", "-undo")
             # as a `Worker` gets it
-            received = worker_task.task_of(json_views.task(undo, one.now()), Context())
-            assert worker_task.step_name(received) == "leaf/room/undo" and (
+            received = worker.task_of(json_views.task(undo, one.now()), Context())
+            assert worker.step_name(received) == "leaf/room/undo" and (
                 received.result,
                 received.key,
             ) == (

@@ -28,10 +28,8 @@ from serving import (
     all_done,
     environment,
     error_of,
-    report,
     served,
     start,
-    take,
     token,
 )
 

@@ -27,7 +27,6 @@ from shaped import (
     order,
     parcels,
     reserve,
-    room,
     ship,
     tour,
     trip,

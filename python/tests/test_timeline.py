@@ -4,9 +4,6 @@
 from __future__ import annotations
 
 import asyncio
-import datetime
-import json
-import pathlib
 import time
 from collections.abc import Iterator
 from typing import Any

@@ -27,7 +27,7 @@ import sagas
 from sagas.cli.store_command import main
 from sagas.definition.drawing import ALL, Groups
 from sagas.inspection import layout, picture, saga as one_saga
-from sagas.inspection.picture import MAX_ITEMS as MOST_ITEMS, StepDisplay, boxes_of
+from sagas.inspection.picture import MAX_ITEMS, StepDisplay, boxes_of
 from sagas.inspection.question import StoreReader
 from sagas.inspection.views import SagaView
 from sagas.server import declared_steps, json_views

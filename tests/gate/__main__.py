@@ -25,7 +25,6 @@ import random
 import subprocess
 import sys
 import threading
-from collections import defaultdict
 from dataclasses import dataclass, field
 
 import ledger

@@ -12,7 +12,6 @@ from sagas.core.deliveries import ENDS
 from sagas.core.outcomes import reported_outcome
 from sagas.definition.task_data import checked_progress
 from sagas.definition.compiled import Hooks
-from sagas.definition.task_data import checked_progress as checked
 from sagas.definition.registry import DefinitionRegistry
 from sagas.runtime.leased_tasks import Heartbeat, LeasedTask, Queue, Word
 from sagas.storage import deliveries

@@ -21,7 +21,7 @@ from sagas.core.outcomes import Outcome, reported_outcome
 from sagas.core.results import HistoryEvent, SagaResult
 from sagas.definition.payloads import MIN_THRESHOLD, Codec, Payloads
 from sagas.definition import arguments, children, payloads, serialization
-from sagas.definition.payloads import BlobStore, MIN_THRESHOLD as LEAST, check_blobs
+from sagas.definition.payloads import BlobStore, check_blobs
 from sagas.definition.compiled import CompiledDefinition
 from sagas.definition.definition_text import version_of
 from sagas.definition.labels import Labels

@@ -16,11 +16,9 @@ from sagas.definition import saga as saga_module, waits
 from sagas.definition import (
     arguments,
     children,
-    definition_text,
     serialization,
     shape,
     tracing,
-    validation,
 )
 from sagas.definition.definition_text import digest_of
 from sagas.definition.labels import Labels, checked

@@ -35,7 +35,7 @@ from sagas.base.errors import DefinitionError, NotSerializable
 from sagas.core import outcomes
 from sagas.core.states import OutcomeKind
 from sagas.definition import step as step_module
-from sagas.definition import awaitables, serialization, task_data, tracing, validation
+from sagas.definition import awaitables, serialization, task_data, tracing
 from sagas.definition.arguments import shown
 from sagas.definition.task_data import Context, TaskSnapshot
 from sagas.definition.task import RemoteStepLocation, Task

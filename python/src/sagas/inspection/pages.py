@@ -6,7 +6,7 @@ import dataclasses
 from typing import Any, Optional
 
 from sagas.core.results import Summary
-from sagas.definition import arguments, labels as labels_module, validation
+from sagas.definition import arguments, labels as labels_module
 from sagas.definition.labels import Labels
 from sagas.inspection.lists import SUMMARY, summary_of
 from sagas.inspection.question import Query, Question

@@ -41,7 +41,6 @@ from sagas.definition import (
     definition_text,
     tokens,
     undo_sagas,
-    validation,
 )
 from sagas.definition.payloads import BlobUnavailable
 from sagas.definition.capacity import SHARD_CAPACITY

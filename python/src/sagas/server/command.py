@@ -30,7 +30,7 @@ from sagas.base.errors import DefinitionError, InvalidStore, SagasError
 from sagas.base.options import age, integer_from, positive
 from sagas.definition.payloads import MIN_THRESHOLD
 from sagas.definition import arguments, payloads
-from sagas.definition.payloads import MIN_THRESHOLD as LEAST, check_blobs
+from sagas.definition.payloads import check_blobs
 from sagas.definition.saga import Saga
 from sagas.server import auth, definition_files, log_format
 from sagas.server.settings import (
@@ -45,7 +45,7 @@ from sagas.server.settings import (
     is_loopback,
 )
 from sagas.server.webhooks import WebhookFault
-from sagas.storage import factory, folder_blobs, store_name
+from sagas.storage import folder_blobs, store_name
 
 GOOD, NO, USAGE, CANNOT, OVERDUE, INTERRUPTED = 0, 1, 2, 4, 5, 130
 GARBAGE = 5000

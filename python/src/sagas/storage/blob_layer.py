@@ -26,10 +26,9 @@ from typing import TYPE_CHECKING, Any, NamedTuple, cast
 from sagas.base.errors import SagasError, StoreUnavailable
 from sagas.base.logger import logger
 from sagas.core.batch import Batch, LoadedShard, NewShard, SagaRow, StoredSaga
-from sagas.definition.payloads import BLOB_HEAD
 from sagas.definition.payloads import (
     ABSENT,
-    BLOB_HEAD as HEAD,
+    BLOB_HEAD,
     BlobStore,
     BlobUnavailable,
     Payloads,

@@ -18,7 +18,6 @@ from sagas.engine.plan import certificate_text
 from sagas.inspection import (
     pages,
     picture as picture_module,
-    saga as saga_module,
     views,
     what_if as what_if_module,
 )

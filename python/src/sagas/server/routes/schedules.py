@@ -12,7 +12,6 @@ from starlette.responses import RedirectResponse, Response
 
 from sagas.base.errors import NoSuchSchedule, SagasError
 from sagas.definition.payloads import unescaped_value
-from sagas.definition.payloads import unescaped_value as shown
 from sagas.definition.timing import key_of
 from sagas.inspection import lists
 from sagas.server import answers, json_views, problems
