@@ -36,7 +36,7 @@ import sagas
 VALGRIND = ["valgrind", "--tool=callgrind", "--instr-atstart=no"]
 PARTS = ("sqlite-1", "sqlite-16", "postgresql-16", "claim")
 WARM = 64
-ONE = 'format = 2\nname = "one"\n[[step]]\nname = "a"\nundo = "never"\n'
+DEFINITION = 'format = 2\nname = "one"\n[[step]]\nname = "a"\nundo = "never"\n'
 
 
 def saga_of_three() -> sagas.Saga:
@@ -52,9 +52,9 @@ def saga_of_three() -> sagas.Saga:
     return saga
 
 
-def control(*words: str) -> None:
+def control(*arguments: str) -> None:
     """Command the callgrind of a process."""
-    subprocess.run(["callgrind_control", *words], check=True, stdout=subprocess.DEVNULL)
+    subprocess.run(["callgrind_control", *arguments], check=True, stdout=subprocess.DEVNULL)
 
 
 async def run_sagas(url: str, at_once: int, count: int) -> None:
@@ -103,7 +103,7 @@ def of_sagas(part: str, count: int, server: Server | None) -> float:
 @contextlib.contextmanager
 def service(folder: pathlib.Path) -> Iterator[tuple[subprocess.Popen[str], str]]:
     """Start `sagas serve` under callgrind, and yield the process and its address."""
-    (folder / "one.toml").write_text(ONE)
+    (folder / "one.toml").write_text(DEFINITION)
     command = [*VALGRIND, f"--callgrind-out-file={folder}/out", sys.executable, "-m", "sagas"]
     command += ["serve", str(folder / "store.db"), "--definitions", str(folder)]
     command += ["--listen", "127.0.0.1:0", "--rate", "1000000", "--log-level", "error"]

@@ -63,13 +63,13 @@ def targets(node: ast.stmt, modules: set[str]) -> Iterator[str]:
 
 def graphs(trees: dict[str, ast.Module]) -> list[Graph]:
     """Return the three graphs, each with the imports of those before it."""
-    found: list[Graph] = [{name: set() for name in trees} for _ in KINDS]
+    result: list[Graph] = [{name: set() for name in trees} for _ in KINDS]
     for name, tree in trees.items():
         for kind, node in imports(tree):
             for target in targets(node, set(trees)):
-                for graph in found[kind:]:
+                for graph in result[kind:]:
                     graph[name] |= {target} - {name}
-    return found
+    return result
 
 
 def components(graph: Graph) -> list[list[str]]:
@@ -103,10 +103,10 @@ def components(graph: Graph) -> list[list[str]]:
 def longest_chain(graph: Graph) -> list[str]:
     """Return a longest path, with one module for each cycle."""
     order = components(graph)
-    place = {name: index for index, component in enumerate(order) for name in component}
+    position = {name: index for index, component in enumerate(order) for name in component}
     longest: list[list[str]] = []
     for index, component in enumerate(order):
-        below = {place[target] for name in component for target in graph[name]} - {index}
+        below = {position[target] for name in component for target in graph[name]} - {index}
         best = max((longest[other] for other in below), key=len, default=[])
         longest.append([component[0], *best])
     return max(longest, key=len)

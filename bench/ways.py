@@ -97,7 +97,7 @@ async def postgresql_ways(tracer: Tracer, runs: int) -> AsyncIterator[Calls]:
         async with sagas.open(server.create(), [saga]) as store:
             for number in range(runs + 1):
                 run = await store.start(saga, f"k{number}", {"n": number})
-                while not any(one.waits for one in store.active_attempts(f"k{number}")):
+                while not any(attempt.waits for attempt in store.active_attempts(f"k{number}")):
                     await asyncio.sleep(0.05)
                 await asyncio.sleep(0.2)  # the suspension is stored, too
 

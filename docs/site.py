@@ -79,8 +79,8 @@ def on_files(files: Files, config: Any, **_: Any) -> Files:
     kept = [
         file for file in files if not is_below(file.abs_src_path, pages) or is_of_site(file.src_uri)
     ]
-    place, is_folder = config["site_dir"], config["use_directory_urls"]
-    kept += [File(name, str(TOP), place, is_folder) for name in TOP_PAGES]
+    site, is_folder = config["site_dir"], config["use_directory_urls"]
+    kept += [File(name, str(TOP), site, is_folder) for name in TOP_PAGES]
     return Files(kept)
 
 

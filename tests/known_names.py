@@ -23,6 +23,8 @@ ELSEWHERE = {
     "remote_write": "of PostgreSQL",
 }
 """Names of things outside of the tree."""
+EXAMPLES = ("style.md",)
+"""Pages whose names are examples."""
 
 
 class Tree:
@@ -60,6 +62,8 @@ def unknown(top: Path) -> Iterator[str]:
     """Yield the names in backquotes of docs/dev that the tree does not have."""
     tree = Tree(top)
     for page in sorted((top / "docs" / "dev").rglob("*.md")):
+        if page.name in EXAMPLES:
+            continue
         text = BLOCK.sub("", page.read_text(encoding="utf-8"))
         for code in sorted(set(CODE.findall(text))):
             if code.startswith(("/", "out/")):
