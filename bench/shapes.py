@@ -140,7 +140,7 @@ def measure(server: Server | None, options: argparse.Namespace) -> None:
     """Measure both ways over one kind of store, for each number of definitions."""
     name = "SQLite" if server is None else "PostgreSQL"
     for limit in map(int, options.definitions.split(",")):
-        shard.MOST_ADDED = limit
+        shard.MAX_ADDED = limit
         turns_by_way: dict[str, list[Turn]] = {FIXED: [], FROM_INPUT: []}
         for number in range(options.turns):
             for way in (FIXED, FROM_INPUT) if number % 2 == 0 else (FROM_INPUT, FIXED):
@@ -180,7 +180,7 @@ def main() -> None:
     parser.add_argument("--turns", type=int, default=5)
     parser.add_argument("--at", type=int, default=64)
     parser.add_argument("--sagas", type=int, default=600, help="of a turn")
-    parser.add_argument("--definitions", default=str(shard.MOST_ADDED))
+    parser.add_argument("--definitions", default=str(shard.MAX_ADDED))
     parser.add_argument("--store", choices=["sqlite", "postgresql"], action="append")
     options = parser.parse_args()
     shard_runner.EngineProcess = Engines.Counted  # type: ignore[misc]

@@ -17,7 +17,7 @@ import judge as stores
 from driving import audit
 from features_shop import (
     MARK,
-    MOST_MOVES,
+    MAX_MOVES,
     Settings,
     labels_of,
     order_of,
@@ -439,9 +439,9 @@ class FeatureJudge(stores.Judge):
                         calls.discard(note["call"])
 
     def _limits_of(self, begun: Json) -> Iterator[tuple[tuple[Any, ...], int]]:
-        yield (begun["pid"], begun["limited"]), MOST_MOVES
+        yield (begun["pid"], begun["limited"]), MAX_MOVES
         if self.settings.is_served and self.is_exact:
-            yield ("fleet", begun["limited"]), MOST_MOVES + 1
+            yield ("fleet", begun["limited"]), MAX_MOVES + 1
 
     def _contexts(self) -> None:
         there = dict[str, int]()

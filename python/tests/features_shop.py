@@ -36,7 +36,7 @@ MARK = "plainly-readable"
 """A part of each input, so that a search finds it wherever no codec encoded it."""
 SHORT, LONG = 0.3, 6.0
 """Seconds that sagas wait whose deadline is late, and of those whose deadline is soon."""
-MOST_MOVES = 1
+MAX_MOVES = 1
 """Concurrent calls of `move` for an account in a program; over all nodes one more."""
 EXTERNAL = [("main", "far", "run"), ("main", "far", "undo")]
 
@@ -326,12 +326,12 @@ class Shop:
                 )
             )
         if has("concurrency_by"):
-            fleet = {"fleet_concurrency": MOST_MOVES + 1} if self.settings.is_served else {}
+            fleet = {"fleet_concurrency": MAX_MOVES + 1} if self.settings.is_served else {}
             needs.append(
                 self.step(
                     main,
                     "move",
-                    concurrency=MOST_MOVES,
+                    concurrency=MAX_MOVES,
                     needs=[hold],
                     concurrency_by=lambda input: of(input, "account"),
                     **fleet,

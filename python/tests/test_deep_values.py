@@ -18,9 +18,9 @@ from serving import DEFINITIONS, LONG, Served, command, error_of, report, served
 
 import sagas
 from sagas.definition import serialization
-from sagas.definition.serialization import MOST_LEVELS, is_deeper
+from sagas.definition.serialization import MAX_LEVELS, is_deeper
 
-LEVELS = (MOST_LEVELS + 1, 300, 967, 970, 2000, 100_000)
+LEVELS = (MAX_LEVELS + 1, 300, 967, 970, 2000, 100_000)
 """Depths above the limit: also those at which a parser of Python gives up, and those just below."""
 
 
@@ -59,9 +59,9 @@ def test_levels(value: Any, levels: int, ascii: bool) -> None:
 def test_the_limit() -> None:
     """That many levels are a value, in lists and objects; one more is not, wherever it is."""
     fits: Any = {}
-    for _ in range(MOST_LEVELS - 1):
-        fits = {"a": [1, fits]} if depth(fits) < MOST_LEVELS - 1 else [fits]
-        if depth(fits) == MOST_LEVELS:
+    for _ in range(MAX_LEVELS - 1):
+        fits = {"a": [1, fits]} if depth(fits) < MAX_LEVELS - 1 else [fits]
+        if depth(fits) == MAX_LEVELS:
             break
     assert serialization.read(serialization.write_value(fits)) == fits
     for value in ([fits], {"a": fits}, *map(value_of, LEVELS)):
@@ -167,9 +167,9 @@ def test_by_http(service: Served, levels: int) -> None:
             status, _, _ = post(service, "/v1/tasks/report", body)
             assert status == 200
         assert client.get("/v1/sagas/none").status_code == 404
-        assert report(client, task, result=value_of(MOST_LEVELS)).status_code == 200
+        assert report(client, task, result=value_of(MAX_LEVELS)).status_code == 200
         (task,) = take(client, "few/b")
-        assert task["results"]["a"] == value_of(MOST_LEVELS)
+        assert task["results"]["a"] == value_of(MAX_LEVELS)
         assert report(client, task).status_code == 200
     assert '"level": "error"' not in service.log_text()
 

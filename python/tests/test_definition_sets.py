@@ -84,7 +84,7 @@ def test_full_shards_of_several_sets(
 ) -> None:
     """Each set has its own shard that takes sagas, and the next one of the set follows it."""
     monkeypatch.setattr("sagas.definition.registry.SHARD_CAPACITY", 3)
-    monkeypatch.setattr("sagas.definition.registry.MOST_DEFINITIONS", 2)
+    monkeypatch.setattr("sagas.definition.registry.MAX_DEFINITIONS", 2)
     path, kinds = str(tmp_path / "store.db"), many(0, 5)
 
     async def main() -> None:

@@ -65,7 +65,7 @@ ADVERBS = set(
     " sending sharing spoken starting under_way unread unreadable waiting".split()
 )
 """Names that no module has: a module is named for the noun that it holds."""
-MOST_LINES, MOST_COLUMNS, MOST_ATTRIBUTES, MOST_OF_FUNCTION = 800, 100, 24, 60
+MAX_LINES, MAX_COLUMNS, MAX_ATTRIBUTES, MAX_OF_FUNCTION = 800, 100, 24, 60
 
 
 def name_of(path: pathlib.Path) -> str:
@@ -141,16 +141,16 @@ def body_lines(node: ast.FunctionDef | ast.AsyncFunctionDef) -> int:
 def size_faults(module: str, text: str, tree: ast.AST) -> Iterator[str]:
     """Return what is too large in a module."""
     lines = text.splitlines()
-    if len(lines) > MOST_LINES:
-        yield f"over {MOST_LINES} lines"
-    if any(len(line) > MOST_COLUMNS for line in lines):
-        yield f"lines over {MOST_COLUMNS} columns"
+    if len(lines) > MAX_LINES:
+        yield f"over {MAX_LINES} lines"
+    if any(len(line) > MAX_COLUMNS for line in lines):
+        yield f"lines over {MAX_COLUMNS} columns"
     for node in ast.walk(tree):
-        if isinstance(node, ast.ClassDef) and len(attributes(node)) > MOST_ATTRIBUTES:
-            yield f"{node.name} has over {MOST_ATTRIBUTES} attributes"
+        if isinstance(node, ast.ClassDef) and len(attributes(node)) > MAX_ATTRIBUTES:
+            yield f"{node.name} has over {MAX_ATTRIBUTES} attributes"
         if isinstance(node, (ast.FunctionDef, ast.AsyncFunctionDef)):
-            if body_lines(node) > MOST_OF_FUNCTION:
-                yield f"{node.name} has over {MOST_OF_FUNCTION} lines"
+            if body_lines(node) > MAX_OF_FUNCTION:
+                yield f"{node.name} has over {MAX_OF_FUNCTION} lines"
 
 
 @pytest.mark.parametrize("module", MODULES)

@@ -21,7 +21,7 @@ def test_times_are_counted_whatever_else_began(monkeypatch: pytest.MonkeyPatch) 
     """The ends of attempts at other nodes are never reported here: the oldest attempts
     are dropped.
     """
-    monkeypatch.setattr(metrics, "MOST_BEGUN", 3)
+    monkeypatch.setattr(metrics, "MAX_BEGUN", 3)
     figures = metrics.Metrics(cast(Any, None))
 
     def report(name: str, key: str, at: float) -> None:

@@ -1002,7 +1002,7 @@ def test_notifications_of_events(url: str, monkeypatch: pytest.MonkeyPatch) -> N
     Without that it would look only minutes later.
     """
     monkeypatch.setattr(notifications, "FIRST_LOOK", 600.0)
-    monkeypatch.setattr(notifications, "MOST_LOOK", 600.0)
+    monkeypatch.setattr(notifications, "MAX_LOOK", 600.0)
     gate = asyncio.Event()
     kind = pair(gate)
 

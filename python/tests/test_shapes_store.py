@@ -21,7 +21,7 @@ from shaped import Hotel, Order, Package, Parcel, Trip, booking, order, parcels,
 import sagas
 from sagas.cli import store_command
 from sagas.core.shard import ShardDefinitions
-from sagas.definition.capacity import MOST_ADDED
+from sagas.definition.capacity import MAX_ADDED
 from sagas.runtime import shard_runner
 from sagas.storage import admin
 
@@ -220,7 +220,7 @@ def test_definitions_start_no_further_engine(
             assert is_good(await store.audit())
 
     run(main())
-    shards = -(-300 // MOST_ADDED)
+    shards = -(-300 // MAX_ADDED)
     assert rows(location, "SELECT count(*) FROM shards") == [(shards,)]
     assert len(engines) == len({*engines}) == shards
     assert sum(begun) < 300 // 4  # nearly all of them came later

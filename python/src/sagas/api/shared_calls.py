@@ -275,7 +275,7 @@ class SharedCalls:
         every: datetime.timedelta | None = None,
         timezone: str = "UTC",
         catch_up: str = "last",
-        max: int = timing.MOST_MISSED,
+        max: int = timing.MAX_MISSED,
         overlap: str = "allow",
         labels: Labels | None = None,
     ) -> None:

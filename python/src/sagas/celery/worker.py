@@ -29,7 +29,7 @@ if TYPE_CHECKING:
 
 T = TypeVar("T")
 Decoders = Mapping[str, serialization.Decoder]
-FIRST_PAUSE, MOST_PAUSE = 0.05, 2.0  # seconds
+FIRST_PAUSE, MAX_PAUSE = 0.05, 2.0  # seconds
 UNKNOWN = "this worker does not know the saga {!r}. Import the module that declares it"
 
 
@@ -181,7 +181,7 @@ def _surely(request: Callable[[], T], deadline: float) -> T:
                 )
                 raise Reject(str(error), requeue=True) from error
             time.sleep(pause)
-            pause = min(MOST_PAUSE, 2 * pause)
+            pause = min(MAX_PAUSE, 2 * pause)
 
 
 def _call(function: Function, manner: Manner, task: Task[Any]) -> Outcome:

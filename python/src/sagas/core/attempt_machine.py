@@ -65,7 +65,7 @@ longer.
 """
 ANNOUNCED = PARKED | {Suspension.TIMER, Suspension.APPROVAL}
 """Suspensions that emit the event `step_suspended`."""
-LEAST_UNREAD, MOST_UNREAD = 1.0, 60.0
+LEAST_UNREAD, MAX_UNREAD = 1.0, 60.0
 """Seconds until the values are read again if the blob store did not return them."""
 REPORTABLE = ANNOUNCED | {Suspension.EXTERNAL}
 """Suspensions of an attempt that a caller may report."""
@@ -478,7 +478,7 @@ class AttemptMachine:
         is_due = attempt.is_wait and attempt.instance.rare.wait_ends.get(attempt.action_key) == 0
         until = None
         if isinstance(outcome.error, BlobUnavailable):
-            attempt.rare.pause = min(MOST_UNREAD, max(LEAST_UNREAD, 2 * attempt.rare.pause))
+            attempt.rare.pause = min(MAX_UNREAD, max(LEAST_UNREAD, 2 * attempt.rare.pause))
             until = now + attempt.rare.pause
             is_announced = previous is not None and previous[:2] == outcome[:2] and attempt.has_row
             if is_announced and attempt.pending_row is None:

@@ -356,7 +356,7 @@ class UnknownAttempt:
 
 @dataclasses.dataclass(frozen=True, slots=True)
 class ActiveAttempt:
-    """Describe an attempt that has begun, in the program that executes its saga.
+    """Describe an attempt that has started, in the program that executes its saga.
 
     Attributes:
         step: The step's name.

@@ -51,7 +51,7 @@ from sagas.core.states import (
     Suspension,
     check,
 )
-from sagas.definition.capacity import MOST_ADDED
+from sagas.definition.capacity import MAX_ADDED
 from sagas.definition.compiled import CompiledDefinition
 from sagas.definition.definition_text import digest_of
 
@@ -107,7 +107,7 @@ class ShardDefinitions:
 
     def has_room(self, kind: CompiledDefinition) -> bool:
         """Whether it has a definition, or has capacity for it."""
-        return kind.text in self._indexes or len(self.texts) < MOST_ADDED
+        return kind.text in self._indexes or len(self.texts) < MAX_ADDED
 
     def definition_index(self, kind: CompiledDefinition) -> int:
         """Return the index of a definition, which is added if it is new."""

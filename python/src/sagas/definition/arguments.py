@@ -15,8 +15,8 @@ from typing import Any
 
 from sagas.base.errors import InvalidKey, InvalidStore
 
-MOST_KEY = 512
-MOST_SHOWN = 80
+MAX_KEY = 512
+MAX_SHOWN = 80
 """Maximum length of a value in a message, in characters."""
 BELOW = "/:"
 """The separator in a child's key, between the parent's key and the name of the step."""
@@ -24,13 +24,13 @@ TIME = "must be seconds or a timedelta"
 
 
 def shown(value: object) -> str:
-    """Return a value for a message, shortened to `MOST_SHOWN` characters."""
+    """Return a value for a message, shortened to `MAX_SHOWN` characters."""
     text = repr(value)
-    if len(text) <= MOST_SHOWN:
+    if len(text) <= MAX_SHOWN:
         return text
     if isinstance(value, str):
-        return f"{text[:MOST_SHOWN]}... ({len(value):,} characters)"
-    return f"{text[:MOST_SHOWN]}..."
+        return f"{text[:MAX_SHOWN]}... ({len(value):,} characters)"
+    return f"{text[:MAX_SHOWN]}..."
 
 
 def count(name: str, value: Any) -> int:
@@ -196,9 +196,9 @@ def key(value: Any, or_child: bool = False) -> None:
     Raises:
         InvalidKey: The key is not valid.
     """
-    if not isinstance(value, str) or not 0 < len(value) <= MOST_KEY or not value.isprintable():
+    if not isinstance(value, str) or not 0 < len(value) <= MAX_KEY or not value.isprintable():
         raise InvalidKey(
-            f"key={shown(value)}: must be a text of 1 to {MOST_KEY} printable characters"
+            f"key={shown(value)}: must be a text of 1 to {MAX_KEY} printable characters"
         )
     if BELOW in value and not or_child:
         raise InvalidKey(

@@ -38,12 +38,12 @@ OnExhausted = Literal["fail", "ask", "retry"]
 Seconds = Union[float, datetime.timedelta]
 """A duration: seconds, or a timedelta."""
 MANY_TRIES = 9
-MOST_COST, MOST_TRIES = 1_000_000_000, 9
+MAX_COST, MAX_TRIES = 1_000_000_000, 9
 
 
 def is_cost(value: object) -> bool:
     """Return whether a value is a valid cost: a number in the range, or `NEVER`."""
-    return value is NEVER or (is_count(value) and 0 <= value <= MOST_COST)  # type: ignore[operator]
+    return value is NEVER or (is_count(value) and 0 <= value <= MAX_COST)  # type: ignore[operator]
 
 
 def seconds(time: Seconds) -> float:
@@ -172,8 +172,8 @@ ON_EXHAUSTED = ("fail", "ask", "retry")
 
 def option_faults(manner: Manner, role: str) -> Iterator[str]:
     """Yield the errors in the options of a function's calls."""
-    if not is_count(manner.tries) or not 1 <= manner.tries <= MOST_TRIES:
-        yield f"tries={manner.tries!r} of its {role}: must be an integer from 1 to {MOST_TRIES}"
+    if not is_count(manner.tries) or not 1 <= manner.tries <= MAX_TRIES:
+        yield f"tries={manner.tries!r} of its {role}: must be an integer from 1 to {MAX_TRIES}"
     time = manner.timeout
     if time is not None and not (isinstance(time, (int, float)) and time > 0):
         rule = "must be seconds or a timedelta, > 0"

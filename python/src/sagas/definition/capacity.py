@@ -12,9 +12,9 @@ SHARD_CAPACITY = 1000
 
 A saga's id is the number of its shard times this, plus its number in the shard.
 """
-MOST_DEFINITIONS = 64
+MAX_DEFINITIONS = 64
 """Maximum number of definitions of a shard that gets all of them when it is created."""
-MOST_ADDED = 256
+MAX_ADDED = 256
 """Maximum number of definitions of a shard that gets them with its sagas.
 
 The steps of these sagas come from their input. With fewer definitions the open sagas are spread

@@ -8,7 +8,7 @@ from typing import Any, TYPE_CHECKING, TypedDict
 from sagas.base.errors import InvalidKey, NotAbortable
 from sagas.definition import arguments, decoders
 from sagas.definition.arguments import BELOW
-from sagas.definition.definition_text import Compensation, ListedStep, MOST_NAME
+from sagas.definition.definition_text import Compensation, ListedStep, MAX_NAME
 from sagas.definition.serialization import Decoder
 
 if TYPE_CHECKING:
@@ -116,7 +116,7 @@ def room_of(saga: Saga) -> int:
     """Return how many characters the keys of a saga's descendants add to its own key."""
     return max(
         (
-            (MOST_NAME if saga.is_shaped else len(step.name))
+            (MAX_NAME if saga.is_shaped else len(step.name))
             + len(BELOW)
             + len(UNDO)
             + NUMBERS
@@ -130,10 +130,10 @@ def room_of(saga: Saga) -> int:
 def check_key(key: str, saga: Saga) -> None:
     """Raise `InvalidKey` if a key is too long for the keys of the saga's children."""
     room = room_of(saga)
-    if len(key) + room > arguments.MOST_KEY:
+    if len(key) + room > arguments.MAX_KEY:
         raise InvalidKey(
             f"key={arguments.shown(key)}: the keys of the saga's children begin with it, so it "
-            f"must have at most {arguments.MOST_KEY - room} characters"
+            f"must have at most {arguments.MAX_KEY - room} characters"
         )
 
 

@@ -36,7 +36,7 @@ def name_of(text: str) -> str:
 # -- steps
 
 
-MOST_KEPT = 16
+MAX_KEPT = 16
 """Number of parsed definitions in memory. A definition has up to 1 MiB and 1,024 steps."""
 COMPENSATED = "# compensated"
 """The line after the name of a step that has a compensation.
@@ -76,7 +76,7 @@ class ListedStep:
     is_compensated: bool = False
 
 
-@functools.lru_cache(MOST_KEPT)
+@functools.lru_cache(MAX_KEPT)
 def listed_steps(text: str) -> tuple[ListedStep, ...]:
     """Return the steps of a definition, in order.
 
@@ -160,7 +160,7 @@ def shaped_steps(text: str) -> list[dict[str, Any]]:
 # -- definitions of sagas that undo a child
 
 
-MOST_NAME = 32
+MAX_NAME = 32
 """Maximum length of the name of a saga or of a step, in characters."""
 UNDO_ENDING = "-undo"
 UNDOES = re.compile(r"^# undoes (\S+)$", re.M)
@@ -192,10 +192,10 @@ class Compensation:
 
 def undo_name_of(child: str) -> str:
     """Return the name of the saga that undoes the child with this name."""
-    if len(child) + len(UNDO_ENDING) <= MOST_NAME:
+    if len(child) + len(UNDO_ENDING) <= MAX_NAME:
         return f"{child}{UNDO_ENDING}"
     digest = hashlib.sha256(child.encode()).hexdigest()[:6]
-    return f"{child[: MOST_NAME - len(UNDO_ENDING) - 7]}-{digest}{UNDO_ENDING}"
+    return f"{child[: MAX_NAME - len(UNDO_ENDING) - 7]}-{digest}{UNDO_ENDING}"
 
 
 def child_of(text: str) -> str | None:

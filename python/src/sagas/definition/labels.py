@@ -16,10 +16,10 @@ Its value is the size of the input in bytes and the name of the token. Callers c
 list shows it.
 """
 NONE: dict[str, str] = {}
-MOST_LABELS, MOST_NAME, MOST_VALUE = 16, 64, 256
+MAX_LABELS, MAX_NAME, MAX_VALUE = 16, 64, 256
 RULE = (
-    f"labels must be up to {MOST_LABELS} texts by name, names of 1 to {MOST_NAME} "
-    f"printable characters without '=', values of 1 to {MOST_VALUE}"
+    f"labels must be up to {MAX_LABELS} texts by name, names of 1 to {MAX_NAME} "
+    f"printable characters without '=', values of 1 to {MAX_VALUE}"
 )
 
 
@@ -57,11 +57,11 @@ def checked(labels: Any) -> Labels:
         return NONE
     if not isinstance(labels, Mapping):
         raise InvalidLabel(f'labels={shown(labels)}: {RULE}, for example {{"customer": "7"}}')
-    if len(labels) > MOST_LABELS:
+    if len(labels) > MAX_LABELS:
         raise InvalidLabel(f"{len(labels)} labels: {RULE}")
     for name, value in labels.items():
-        if not is_text(name, MOST_NAME) or "=" in name:
+        if not is_text(name, MAX_NAME) or "=" in name:
             raise InvalidLabel(f"label name {shown(name)}: {RULE}")
-        if not is_text(value, MOST_VALUE):
+        if not is_text(value, MAX_VALUE):
             raise InvalidLabel(f"label {name!r}: {shown(value)}: {RULE}")
     return dict(sorted(labels.items()))

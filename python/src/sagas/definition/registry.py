@@ -12,7 +12,7 @@ from typing import Any, NamedTuple, TypeVar
 
 from sagas.base.errors import DefinitionError, MissingStep, SagasError
 from sagas.definition import definition_text, undo_sagas
-from sagas.definition.capacity import MOST_DEFINITIONS, SHARD_CAPACITY
+from sagas.definition.capacity import MAX_DEFINITIONS, SHARD_CAPACITY
 from sagas.definition.compiled import CompiledDefinition, Hooks
 from sagas.definition.definition_text import listed_steps, name_of, version_of
 from sagas.definition.payloads import PLAIN as PLAIN_PAYLOADS, Payloads
@@ -178,9 +178,9 @@ class DefinitionRegistry:
                 )
 
     def _divided(self) -> Iterator[tuple[CompiledDefinition, DefinitionSet]]:
-        """Yield each definition with its set, in sets of `MOST_DEFINITIONS`."""
-        for first in range(0, len(self.kinds), MOST_DEFINITIONS):
-            kinds = self.kinds[first : first + MOST_DEFINITIONS]
+        """Yield each definition with its set, in sets of `MAX_DEFINITIONS`."""
+        for first in range(0, len(self.kinds), MAX_DEFINITIONS):
+            kinds = self.kinds[first : first + MAX_DEFINITIONS]
             definitions = DefinitionSet(digest_of_texts([kind.text for kind in kinds]), kinds)
             yield from ((kind, definitions) for kind in kinds)
 

@@ -27,7 +27,7 @@ NUMBERS = {int, float, bool}
 UNSTORABLE = "unstorable"
 FAILED = "$failed"
 """The only key of the stored result of an item whose failure was collected."""
-MOST_LEVELS = 64
+MAX_LEVELS = 64
 """Maximum nesting of a value.
 
 JSON libraries of all languages can read it together with the levels around it in a reply.
@@ -38,8 +38,8 @@ ALIKE = bytes.maketrans(b"{}", b"[]")
 RUN = re.compile(rb"\[+|\]+")
 FLAT = 4
 """Innermost levels that `is_deeper` removes by replacement. Few values have more levels."""
-MOST_DEEP = 16
-TOO_DEEP = f"it has more than {MOST_LEVELS} levels of lists and objects. Use fewer levels"
+MAX_DEEP = 16
+TOO_DEEP = f"it has more than {MAX_LEVELS} levels of lists and objects. Use fewer levels"
 
 
 def _default(value: Any) -> Any:
@@ -119,10 +119,10 @@ def _decode(text: str) -> Any:
             end = -1
         return value if end == len(text) else _decoder.decode(text)
     except RecursionError:
-        raise CannotDecode(f"it has more than {MOST_LEVELS} levels of lists and objects") from None
+        raise CannotDecode(f"it has more than {MAX_LEVELS} levels of lists and objects") from None
 
 
-def is_deeper(text: str, levels: int = MOST_LEVELS) -> bool:
+def is_deeper(text: str, levels: int = MAX_LEVELS) -> bool:
     """Return whether a JSON text has more nesting levels than `levels`.
 
     It does not recurse. For 1 MiB it takes at most 50 ms, for any order of brackets.
@@ -174,7 +174,7 @@ def write(value: Any, name: str = "") -> str:
         path = name
         if not isinstance(error, RecursionError):
             with contextlib.suppress(Exception):
-                path += _path(value, MOST_DEEP)
+                path += _path(value, MAX_DEEP)
         raise NotSerializable(
             f"{path}: {_reason(value, error)}" if path else _reason(value, error)
         ) from error
@@ -184,7 +184,7 @@ def write_value(value: Any, name: str = "") -> str:
     """Return an input, an item or a result as canonical JSON.
 
     Raises:
-        NotSerializable: As `write`. Or the value has more than `MOST_LEVELS` levels, which not
+        NotSerializable: As `write`. Or the value has more than `MAX_LEVELS` levels, which not
             every program could read.
     """
     text = write(value, name)

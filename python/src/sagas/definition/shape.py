@@ -16,7 +16,7 @@ from typing import Any, TYPE_CHECKING
 
 from sagas.base.errors import InvalidInput, SagasError, TooLarge
 from sagas.definition import children, decoders, definition_text, layout, serialization, type_checks
-from sagas.definition.call_options import Cost, MOST_COST, Manner, is_cost, nothing
+from sagas.definition.call_options import Cost, MAX_COST, Manner, is_cost, nothing
 from sagas.definition.definition_text import OF
 from sagas.definition.layout import JOIN_ENDING, Scope, ShapeValues, StepOrigin
 from sagas.definition.serialization import Decoder
@@ -24,8 +24,8 @@ from sagas.definition.step import (
     FanOut,
     ForEach,
     Inclusion,
-    MOST_NEEDS,
-    MOST_STEPS,
+    MAX_NEEDS,
+    MAX_STEPS,
     Part,
     Step,
     is_compensated,
@@ -39,7 +39,7 @@ if TYPE_CHECKING:
 
 ONE = (None,)
 """The numbers of items of a part without `for_each`."""
-MOST_PAIRS = 256
+MAX_PAIRS = 256
 """Maximum number of needs between two fan-outs. With more needs a joining step connects them."""
 PLAIN = frozenset({dict, list, str, int, float, bool, type(None)})
 
@@ -164,7 +164,7 @@ class Shape:
                     level.inner[part.name, index] = inside
                 continue
             self.count += len(indices)
-            if self.count > MOST_STEPS:
+            if self.count > MAX_STEPS:
                 raise self._too_many()
             if costs := self._declared.computed_costs(part):
                 for index in indices:
@@ -229,7 +229,7 @@ class Shape:
         argument = value if origin.number is None else self._item(step, origin)
         cost: Cost = _called(step, word, function, argument)
         if not is_cost(cost):
-            rule = f"an integer from 0 to {MOST_COST:,}, or sagas.NEVER"
+            rule = f"an integer from 0 to {MAX_COST:,}, or sagas.NEVER"
             raise _invalid(step, f"{word}= returned a {type(cost).__name__} that is not {rule}")
         return cost
 
@@ -262,13 +262,13 @@ class Shape:
             TooLarge: There are more steps than a saga can have.
         """
         steps = self._within(self.root)
-        if len(steps) > MOST_STEPS:
+        if len(steps) > MAX_STEPS:
             raise self._too_many()
         return steps
 
     def _too_many(self) -> TooLarge:
         return TooLarge(
-            f"saga {self.saga.name!r} has more than {MOST_STEPS:,} steps for this "
+            f"saga {self.saga.name!r} has more than {MAX_STEPS:,} steps for this "
             "input. Nothing was started. Give it fewer items, or start several sagas"
         )
 
@@ -341,7 +341,7 @@ class Shape:
             else:
                 names = self._all_of(level, other)
                 count = len(level.entries[part.name])
-                if index is not None and len(names) > 1 and count * len(names) > MOST_PAIRS:
+                if index is not None and len(names) > 1 and count * len(names) > MAX_PAIRS:
                     names = [self._join(level, other, names)]
             needed.update(dict.fromkeys(names))
         if not needed and level.outer:
@@ -448,10 +448,10 @@ class Template:
         for step in shape.steps():
             needs += len(step.needs)
             lines = self._step(step, lines)
-        if needs > MOST_NEEDS:
+        if needs > MAX_NEEDS:
             raise TooLarge(
                 f"saga {saga.name!r} has {needs:,} needs for this input, and may have at most "
-                f"{MOST_NEEDS:,}. Nothing was started. Declare a step in between"
+                f"{MAX_NEEDS:,}. Nothing was started. Declare a step in between"
             )
         self._pieces.append(_joined_lines(lines))
 

@@ -34,7 +34,7 @@ if TYPE_CHECKING:
     from sagas.definition.task import ItemTask
     from sagas.definition.waits import Until
 
-MOST_STEPS, MOST_NEEDS = 1024, 8192
+MAX_STEPS, MAX_NEEDS = 1024, 8192
 R_co = TypeVar("R_co", covariant=True)
 R = TypeVar("R")
 C = TypeVar("C")

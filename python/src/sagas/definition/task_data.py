@@ -86,7 +86,7 @@ def context_manager(factory: Any) -> ContextManager:
 # -- cancellation and progress
 
 
-MOST_DETAIL = 200
+MAX_DETAIL = 200
 """Maximum length of a stored progress detail, in characters."""
 
 
@@ -113,7 +113,7 @@ def checked_progress(fraction: float, detail: str | None) -> Progress:
         raise ValueError(f"progress({fraction!r}): must be a number from 0 to 1")
     if detail is not None and not isinstance(detail, str):
         raise TypeError(f"progress(..., {type(detail).__name__}): the detail must be a text")
-    return Progress(float(fraction), None if detail is None else clean(detail[:MOST_DETAIL]))
+    return Progress(float(fraction), None if detail is None else clean(detail[:MAX_DETAIL]))
 
 
 class Cancellation:

@@ -22,7 +22,7 @@ from sagas.base.errors import InvalidSchedule
 from sagas.definition.arguments import BELOW, shown
 
 MINUTE, DAY = datetime.timedelta(minutes=1), datetime.timedelta(days=1)
-MOST_DAYS = 366 * 8 + 1
+MAX_DAYS = 366 * 8 + 1
 """Days in which the next time is searched: a 29th of February may be eight years away."""
 MACROS = {
     "@yearly": "0 0 1 1 *",
@@ -124,7 +124,7 @@ class Cron:
 
     def _wall_times(self, at: datetime.datetime, zone: ZoneInfo) -> Iterator[datetime.datetime]:
         first = at.astimezone(zone).date() - DAY  # times that are skipped on that day come later
-        for day in (first + count * DAY for count in range(MOST_DAYS)):
+        for day in (first + count * DAY for count in range(MAX_DAYS)):
             if self._has_day(day):
                 times = (
                     datetime.datetime.combine(day, datetime.time(hour, minute), zone)
@@ -135,7 +135,7 @@ class Cron:
 
     def _instants(self, at: datetime.datetime, zone: ZoneInfo) -> Iterator[datetime.datetime]:
         time = at.replace(second=0, microsecond=0) + MINUTE
-        end = at + MOST_DAYS * DAY
+        end = at + MAX_DAYS * DAY
         while time < end:
             local = time.astimezone(zone)
             if not self._has_day(local.date()):
@@ -154,7 +154,7 @@ def _utc(time: datetime.datetime) -> datetime.datetime:
 # -- schedules
 
 
-MOST_NAME = 128
+MAX_NAME = 128
 UTC = datetime.timezone.utc
 APART = 60.0
 """Minimum seconds between two times of a cron expression."""
@@ -184,7 +184,7 @@ class Overlap(enum.StrEnum):
     """Start its saga after the open one has ended."""
 
 
-MOST_MISSED = 100
+MAX_MISSED = 100
 """Maximum number of missed times whose sagas are started (the default)."""
 
 
@@ -205,14 +205,14 @@ class Timing:
     every: float
     timezone: str
     catch_up: CatchUp
-    most: int = MOST_MISSED
+    most: int = MAX_MISSED
     overlap: Overlap = Overlap.ALLOW
 
     @property
     def policy(self) -> str:
         """The stored text of `catch_up`, `most` and `overlap`, without defaults."""
         parts = [self.catch_up.value]
-        parts += [f"max={self.most}"] if self.most != MOST_MISSED else []
+        parts += [f"max={self.most}"] if self.most != MAX_MISSED else []
         parts += [f"overlap={self.overlap}"] if self.overlap is not Overlap.ALLOW else []
         return " ".join(parts)
 
@@ -309,7 +309,7 @@ def policy_of(stored: str) -> tuple[CatchUp, int, Overlap]:
     """Return `catch_up`, `most` and `overlap` from the text of `Timing.policy`."""
     catch_up, *parts = stored.split(" ")
     options = dict(part.split("=") for part in parts)
-    most, overlap = int(options.get("max", MOST_MISSED)), Overlap(options.get("overlap", "allow"))
+    most, overlap = int(options.get("max", MAX_MISSED)), Overlap(options.get("overlap", "allow"))
     return CatchUp(catch_up), most, overlap
 
 
@@ -318,7 +318,7 @@ def timing(
     every: Any,
     timezone: Any,
     catch_up: Any,
-    most: Any = MOST_MISSED,
+    most: Any = MAX_MISSED,
     overlap: Any = Overlap.ALLOW,
 ) -> Timing:
     """Return the timing for the arguments of `Store.schedule`, which it checks.
@@ -365,10 +365,10 @@ def timing(
 
 def check_name(name: Any) -> None:
     """Raise `InvalidSchedule` if a name is not valid for a schedule."""
-    is_text = isinstance(name, str) and 0 < len(name) <= MOST_NAME and name.isprintable()
+    is_text = isinstance(name, str) and 0 < len(name) <= MAX_NAME and name.isprintable()
     if not is_text or "@" in name or BELOW in name:
         raise InvalidSchedule(
-            f"schedule {shown(name)}: a name must have 1 to {MOST_NAME} printable "
+            f"schedule {shown(name)}: a name must have 1 to {MAX_NAME} printable "
             f"characters without '@' and {BELOW!r}"
         )
 

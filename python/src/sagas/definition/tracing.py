@@ -22,7 +22,7 @@ if TYPE_CHECKING:
 TRACEPARENT = re.compile(r"([0-9a-f]{2})-([0-9a-f]{32})-([0-9a-f]{16})-([0-9a-f]{2})(-.*)?\Z", re.S)
 KNOWN_FLAGS = 3
 """The flags of the standard: sampled, and random trace id. Other flags are removed."""
-MOST_LINKS = 10_000
+MAX_LINKS = 10_000
 """Maximum number of effects whose last span is remembered for links."""
 
 
@@ -151,7 +151,7 @@ class Tracer:
         with self._lock:
             self._last[task.idempotency_key] = span.get_span_context()
             self._last.move_to_end(task.idempotency_key)
-            if len(self._last) > MOST_LINKS:
+            if len(self._last) > MAX_LINKS:
                 self._last.popitem(last=False)
         return span
 

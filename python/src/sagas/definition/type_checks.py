@@ -16,7 +16,7 @@ from typing import Any
 
 MAX_UNKNOWN = 80
 MAX_LISTED = 5
-MOST_DEEP = 64
+MAX_DEEP = 64
 
 
 class Mismatch(TypeError):

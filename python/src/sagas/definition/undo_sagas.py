@@ -16,7 +16,7 @@ from typing import Any
 from sagas.base.errors import DefinitionError
 from sagas.definition import children, decoders, definition_text
 from sagas.definition.call_options import Cost, CostOf, NEVER
-from sagas.definition.definition_text import Compensation, MOST_NAME, undo_name_of
+from sagas.definition.definition_text import Compensation, MAX_NAME, undo_name_of
 from sagas.definition.saga import Saga
 from sagas.definition.serialization import Decoder
 from sagas.definition.step import Step, is_compensated, saga_error, step_error
@@ -294,10 +294,10 @@ def undo_step_name(saga: Saga, step: Step[Any]) -> str:
     if step.saga is saga:
         return step.name
     name = f"{step.saga.name}-{step.name}"
-    if len(name) <= MOST_NAME:
+    if len(name) <= MAX_NAME:
         return name
     digest = hashlib.sha256(name.encode()).hexdigest()[:6]
-    return f"{name[: MOST_NAME - 7]}-{digest}"
+    return f"{name[: MAX_NAME - 7]}-{digest}"
 
 
 def report_undo_saga(saga: Saga, step: Step[Any]) -> Saga:

@@ -10,16 +10,16 @@ from typing import Any, TYPE_CHECKING
 from sagas.base.errors import DefinitionError
 from sagas.definition import arguments, children, decoders, definition_text
 from sagas.definition.arguments import is_count, meant
-from sagas.definition.call_options import Bounds, MOST_COST, NEVER, is_cost
-from sagas.definition.definition_text import MOST_NAME
+from sagas.definition.call_options import Bounds, MAX_COST, NEVER, is_cost
+from sagas.definition.definition_text import MAX_NAME
 from sagas.definition.layout import JOIN_ENDING
 from sagas.definition.step import (
     Collection,
     Decorator,
     Each,
     Inclusion,
-    MOST_NEEDS,
-    MOST_STEPS,
+    MAX_NEEDS,
+    MAX_STEPS,
     Part,
     Step,
     check_manner,
@@ -37,7 +37,7 @@ if TYPE_CHECKING:
 NAME = re.compile(r"[a-z][a-z0-9_-]{0,31}\Z")
 NAMES = "invalid name: use 1 to 32 characters a-z, 0-9, _ or -, starting with a letter"
 MAX_LISTED = 8  # steps
-MOST_PLACES, MOST_SECONDS = 10_000, 31 * 86400
+MAX_PLACES, MAX_SECONDS = 10_000, 31 * 86400
 
 
 def check_name(saga: Saga) -> None:
@@ -124,12 +124,12 @@ def check_bounds(step: Step[Any], bounds: Bounds) -> None:
             "and rate_limit, and limit the calls in the worker",
         )
     if bounds.concurrency is not None and (
-        not is_count(bounds.concurrency) or not 1 <= bounds.concurrency <= MOST_PLACES
+        not is_count(bounds.concurrency) or not 1 <= bounds.concurrency <= MAX_PLACES
     ):
         raise step_error(
             step,
             f"fleet_concurrency={bounds.concurrency!r}: must be an integer from 1 to "
-            f"{MOST_PLACES:,}",
+            f"{MAX_PLACES:,}",
         )
     if bounds.rate_limit is None:
         return
@@ -137,17 +137,17 @@ def check_bounds(step: Step[Any], bounds: Bounds) -> None:
         isinstance(bounds.rate_limit, tuple)
         and len(bounds.rate_limit) == 2
         and is_count(bounds.rate_limit[0])
-        and 1 <= bounds.rate_limit[0] <= MOST_PLACES
+        and 1 <= bounds.rate_limit[0] <= MAX_PLACES
     )
     if (
         not has_calls
         or not isinstance(bounds.rate_limit[1], (int, float))
-        or not 0 < bounds.rate_limit[1] <= MOST_SECONDS
+        or not 0 < bounds.rate_limit[1] <= MAX_SECONDS
     ):
         raise step_error(
             step,
             f"rate_limit={bounds.rate_limit!r}: must be (calls, seconds or a timedelta), "
-            f"with 1 to {MOST_PLACES:,} calls in at most {MOST_SECONDS:,} seconds",
+            f"with 1 to {MAX_PLACES:,} calls in at most {MAX_SECONDS:,} seconds",
         )
 
 
@@ -203,16 +203,15 @@ def check_saga(saga: Saga) -> None:
         )
     if not saga.steps:
         raise saga_error(saga, f"it has no steps. Declare one, with @{saga.name}.step")
-    if len(saga.steps) > MOST_STEPS:
+    if len(saga.steps) > MAX_STEPS:
         raise step_error(
-            saga.steps[MOST_STEPS],
-            f"the saga has more than {MOST_STEPS:,} steps. Split it into several sagas",
+            saga.steps[MAX_STEPS],
+            f"the saga has more than {MAX_STEPS:,} steps. Split it into several sagas",
         )
-    if sum(len(step.needs) for step in saga.steps) > MOST_NEEDS:
+    if sum(len(step.needs) for step in saga.steps) > MAX_NEEDS:
         raise saga_error(
             saga,
-            f"it has more than {MOST_NEEDS:,} needs. Remove some, or split it into "
-            "several sagas",
+            f"it has more than {MAX_NEEDS:,} needs. Remove some, or split it into " "several sagas",
         )
     names = {step.name for step in saga.steps}
     for step in saga.steps:
@@ -273,7 +272,7 @@ def _cycle(steps: list[Part]) -> list[Part]:
 # -- of sagas whose steps come from their input
 
 
-MOST_DEPTH = 8
+MAX_DEPTH = 8
 MANY = "-1023"
 """The longest ending that the number of an item adds to a name."""
 
@@ -283,7 +282,7 @@ def check_part(part: Part) -> None:
     _check_function(part, "when", part.when)
     if part.for_each is not None and not isinstance(part.for_each, str):
         _check_function(part, "for_each", part.for_each)
-    maximum = MOST_NAME - len(MANY if part.for_each is not None else "")
+    maximum = MAX_NAME - len(MANY if part.for_each is not None else "")
     if part.for_each is not None and len(part.name) > maximum:
         raise step_error(
             part,
@@ -319,7 +318,7 @@ def check_costs(step: Step[Any]) -> None:
             continue
         raise step_error(
             step,
-            f"{word}={cost!r}: must be an integer from 0 to {MOST_COST:,}, sagas.NEVER, or a "
+            f"{word}={cost!r}: must be an integer from 0 to {MAX_COST:,}, sagas.NEVER, or a "
             "plain function of the input (with for_each: of the item) that returns one",
         )
 
@@ -333,8 +332,8 @@ def _is_async(function: object) -> bool:
 
 def check_shaped(saga: Saga, depth: int = 0) -> None:
     """Raise `DefinitionError` for errors that only the whole declaration shows."""
-    if depth > MOST_DEPTH:
-        error = f"it includes itself, or nests included sagas more than {MOST_DEPTH} deep"
+    if depth > MAX_DEPTH:
+        error = f"it includes itself, or nests included sagas more than {MAX_DEPTH} deep"
         raise saga_error(saga, f"{error}. Start a child saga instead")
     for left in saga.decorators:
         raise DefinitionError(
@@ -385,10 +384,10 @@ def _check_names(saga: Saga) -> None:
     names = [(pattern.name, pattern.where) for pattern in patterns(saga)] + [*_joining_names(saga)]
     for name, where in names:
         longest = name.replace("-#", MANY)
-        if len(longest) > MOST_NAME:
+        if len(longest) > MAX_NAME:
             raise DefinitionError(
                 f"{where}: saga {saga.name!r}: a step would have the name {longest!r}, of "
-                f"{len(longest)} characters, and may have at most {MOST_NAME}. Set a shorter name="
+                f"{len(longest)} characters, and may have at most {MAX_NAME}. Set a shorter name="
             )
     fixed = {name for name, _ in names if "#" not in name}
     seen: set[str] = set()

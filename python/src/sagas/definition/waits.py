@@ -15,7 +15,7 @@ from sagas.definition.call_options import (
     Cost,
     CostOf,
     MANY_TRIES,
-    MOST_COST,
+    MAX_COST,
     Manner,
     NEVER,
     Seconds,
@@ -33,7 +33,7 @@ Until = Union[
     datetime.datetime,
     Callable[["Task[Any]"], Union[datetime.timedelta, datetime.datetime]],
 ]
-MOST_WITHIN = 1e11
+MAX_WITHIN = 1e11
 """Limit of the timeout of an approval, in seconds."""
 
 
@@ -200,7 +200,7 @@ class ChildSteps:
             if cost is NEVER:
                 return NEVER
             total += cost
-        return min(total, MOST_COST)
+        return min(total, MAX_COST)
 
     def _add(
         self,
@@ -413,7 +413,7 @@ def approval_timeout(step: Step[Any], timeout: object) -> datetime.timedelta | N
         datetime.timedelta(seconds=timeout)
         if isinstance(timeout, (int, float))
         and not isinstance(timeout, bool)
-        and abs(timeout) < MOST_WITHIN
+        and abs(timeout) < MAX_WITHIN
         else timeout
     )
     if time is not None and not (

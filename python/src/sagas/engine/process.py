@@ -23,7 +23,7 @@ from sagas.core.protocol import REPLY
 PIPE_BYTES = 1 << 20  # bytes
 READ_BYTES = (
     1 << 16
-)  # bytes that are read at once: what is larger is mapped, and given back, at each read
+)  # bytes that are read at once: what is larger is mapped, and returned, at each read
 WAIT = 1  # milliseconds
 HUNG = 60.0  # seconds
 AGAIN = 32

@@ -201,7 +201,7 @@ SAGA = Record(
         "progress": Field(Several(PROGRESS), "the last reported progress of running functions"),
         "early": Field(
             Mapped(Choice(("complete", "fail"))),
-            "stored reports of steps that have not begun",
+            "stored reports of steps that have not started",
         ),
     },
 )

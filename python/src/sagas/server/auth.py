@@ -22,7 +22,7 @@ from typing import Any
 from sagas.base.events import Event
 from sagas.storage.filters import EVERYTHING, Scope
 
-MOST_SESSIONS = 1000
+MAX_SESSIONS = 1000
 RELOAD_INTERVAL = 1.0  # seconds between two looks at the token file
 KEYS = (
     "name",
@@ -399,7 +399,7 @@ class Sessions:
         session = self._sessions[digest_of(name)] = Session(
             principal, secrets.token_urlsafe(32), time.monotonic() + self.seconds
         )
-        while len(self._sessions) > MOST_SESSIONS:
+        while len(self._sessions) > MAX_SESSIONS:
             self._sessions.popitem(last=False)
         return name, session
 

@@ -20,7 +20,7 @@ from sagas.server.settings import LOOPBACK, Network, ConcurrencySettings, is_amo
 
 Peer = tuple[str, int]
 """The client's end of a connection. It is unique among open connections."""
-MOST_AHEAD = 1 << 16
+MAX_AHEAD = 1 << 16
 """Bytes that are buffered after an active request. Then reading pauses."""
 LINGER = 1.0
 """Seconds for which input is read and dropped after a final answer."""
@@ -172,12 +172,12 @@ class Connection(asyncio.Protocol):
         except Malformed as error:
             has_begun = self._is_open and self.outlet.has_written
             self.finish(None if has_begun else refusal(error))
-        except Exception:  # it is not HTTP, and an answer has begun: there is no other
+        except Exception:  # it is not HTTP, and an answer has started: there is no other
             self.close()
         ahead = len(self._framing) if self._is_open and self._framing.is_between else 0
         if ahead and not self.followed.done():
             self.followed.set_result(None)
-        (self.pause if ahead > MOST_AHEAD else self.resume)("ahead")
+        (self.pause if ahead > MAX_AHEAD else self.resume)("ahead")
 
     def eof_received(self) -> bool | None:
         stays_open: bool | None = self._inner.eof_received()

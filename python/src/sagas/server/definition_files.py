@@ -30,7 +30,7 @@ from sagas.definition.definition_text import version_of
 from sagas.definition.saga import Saga
 from sagas.definition.call_options import Backoff, Cost, NEVER, nothing
 from sagas.definition.step import Step
-from sagas.definition.waits import MOST_WITHIN
+from sagas.definition.waits import MAX_WITHIN
 
 SERVICE = ".service.toml"
 Json = dict[str, Any]
@@ -157,9 +157,9 @@ def _check_step_options(name: str, options: Any) -> None:
         )
     for option in ("timeout", "until", "max_unknown"):
         if option in options and not (
-            is_number(options[option]) and 0 <= options[option] <= MOST_WITHIN
+            is_number(options[option]) and 0 <= options[option] <= MAX_WITHIN
         ):
-            raise fault(f"{option} must be a number from 0 to {MOST_WITHIN:,.0f}", option)
+            raise fault(f"{option} must be a number from 0 to {MAX_WITHIN:,.0f}", option)
     backoff = options.get("backoff", {})
     if (
         not isinstance(backoff, dict)

@@ -18,7 +18,7 @@ from sagas.base.events import Event
 from sagas.server.middleware import FOLLOWED, Receive, Scope, Send
 
 KEPT = 2000
-MOST_WAITING = 1000
+MAX_WAITING = 1000
 KEEPALIVE = 15.0  # seconds after which a comment shows that the stream is open
 CHECK_INTERVAL = 2.0  # seconds between two looks whether its token still counts
 MISSED = "event: missed\ndata: {}\n\n"
@@ -91,7 +91,7 @@ class Hub:
             self._send(listener, MISSED)
 
     def _send(self, listener: Listener, text: str) -> None:
-        if len(listener.queue) >= MOST_WAITING:
+        if len(listener.queue) >= MAX_WAITING:
             listener.lost = True
             self._listeners.pop(listener, None)
         else:

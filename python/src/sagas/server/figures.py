@@ -21,7 +21,7 @@ QUIET = 20.0
 another program makes no event here.
 """
 logger = logging.getLogger("sagas.server")
-MOST_KEPT = 100
+MAX_KEPT = 100
 """Maximum number of scopes whose figures are cached."""
 
 
@@ -82,7 +82,7 @@ class Figures:
 
         counts_of_scope = await self._ask(question())
         now = time.monotonic()
-        if len(self._kept) >= MOST_KEPT:
+        if len(self._kept) >= MAX_KEPT:
             self._kept.clear()
         counted = Counted(counts_of_scope, now + max(1.0, 20 * (now - began)), seen)
         self._kept[scope] = counted

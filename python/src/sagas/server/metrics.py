@@ -20,7 +20,7 @@ from sagas.storage.filters import EVERYTHING
 if TYPE_CHECKING:
     from sagas.server.service import Service
 
-KEPT_DURATIONS, MOST_STEPS = 500, 5000
+KEPT_DURATIONS, MAX_STEPS = 500, 5000
 MeasuredStep = tuple[str, str, bool]
 """A saga's name, a step's name, and whether it is the compensation."""
 
@@ -33,7 +33,7 @@ class Durations:
 
     def add(self, step: MeasuredStep, seconds: float) -> None:
         """Record the duration of an attempt."""
-        if step not in self._durations and len(self._durations) >= MOST_STEPS:
+        if step not in self._durations and len(self._durations) >= MAX_STEPS:
             self._durations.popitem(last=False)
         self._durations.setdefault(step, deque(maxlen=KEPT_DURATIONS)).append(seconds)
 
@@ -67,7 +67,7 @@ INTERNAL_ERRORS = (
     "shard_lost",
 )
 TYPE = CONTENT_TYPE_LATEST
-MOST_BEGUN = 100_000
+MAX_BEGUN = 100_000
 """Maximum number of attempts whose start time is remembered."""
 Begun = tuple[Optional[str], Optional[str], Union[int, str, None], bool, Optional[int]]
 """key, step, index, undo, attempt"""
@@ -155,7 +155,7 @@ class Metrics:
             self.shards_taken_over.inc()
         elif event.name == "step_started":
             self._began[_attempt(event)] = event.at
-            if len(self._began) > MOST_BEGUN:  # the first of them may have ended at other nodes
+            if len(self._began) > MAX_BEGUN:  # the first of them may have ended at other nodes
                 self._began.popitem(last=False)
         elif outcome:
             kind = "undo" if event.undo else "run"

@@ -69,9 +69,9 @@ ONCE = (b"host", b"content-length", b"transfer-encoding", b"authorization")
 """Headers that a request may have only once. A proxy may have used another one of two."""
 DASHBOARD = "/ui"
 LOGIN = "/ui/login"
-MOST_LOGIN = 4096
+MAX_LOGIN = 4096
 """Maximum bytes of the login form, which needs no session."""
-MOST_SHOWN = 200
+MAX_SHOWN = 200
 """Maximum characters of a header that a message quotes."""
 
 
@@ -146,8 +146,8 @@ def foreign(fields: dict[bytes, str], host: str) -> str | None:
     origin, site = fields.get(b"origin"), fields.get(b"sec-fetch-site")
     if origin is not None and urlsplit(origin).netloc != host:
         return (
-            f"the request has the Origin {origin[:MOST_SHOWN]!r} and the Host "
-            f"{host[:MOST_SHOWN]!r}. A proxy must forward the browser's Host header, "
+            f"the request has the Origin {origin[:MAX_SHOWN]!r} and the Host "
+            f"{host[:MAX_SHOWN]!r}. A proxy must forward the browser's Host header, "
             "with its port"
         )
     if site in ("cross-site", "same-site"):
@@ -217,7 +217,7 @@ class Guard:
     def most(self, scope: Scope) -> int:
         """Return the maximum bytes of a request's body."""
         return (
-            min(MOST_LOGIN, self.settings.most_body)
+            min(MAX_LOGIN, self.settings.most_body)
             if scope["path"] == LOGIN
             else self.settings.most_body
         )

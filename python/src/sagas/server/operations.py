@@ -29,7 +29,7 @@ from sagas.server.middleware import Receive, Scope, Send
 from sagas.server.problems import Problem
 from sagas.server.service import Service
 from sagas.server.shapes import (
-    MOST_SHOWN,
+    MAX_SHOWN,
     REQUIRED,
     Field,
     Invalid,
@@ -150,7 +150,7 @@ def read_query(fields: Mapping[str, Field], request: Request, is_open: bool) -> 
             elif name in seen:
                 raise Invalid(name, "must occur only once")
             elif name not in fields and not is_open:
-                shown = name[:MOST_SHOWN]
+                shown = name[:MAX_SHOWN]
                 raise Invalid(shown, f"unknown parameter{meant(shown, [*fields])}")
             seen.add(name)
         for name, value in values.items():
@@ -166,7 +166,7 @@ async def read_body(shape: Record, request: Request) -> dict[str, Any]:
     sent = request.headers.get("content-type", "").partition(";")[0].strip().lower()
     is_empty = shape.is_optional and not sent
     if not is_empty and sent != "application/json" and not sent.endswith("+json"):
-        shown = f"as {sent[:MOST_SHOWN]!r}" if sent else "without a Content-Type"
+        shown = f"as {sent[:MAX_SHOWN]!r}" if sent else "without a Content-Type"
         raise Problem(
             "UnsupportedMediaType",
             f"the body was sent {shown}: send it with Content-Type: application/json",

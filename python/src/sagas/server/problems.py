@@ -12,7 +12,7 @@ from sagas.server.json_bodies import Json
 PREFIX = "urn:sagas:problem:"
 """The prefix of a problem's `type`, which never changes."""
 MEDIA_TYPE = "application/problem+json"
-MOST_DETAIL = 1000
+MAX_DETAIL = 1000
 logger = logging.getLogger("sagas.server")
 
 
@@ -129,7 +129,7 @@ def body(problem: Problem) -> dict[str, Any]:
         "type": PREFIX + problem.name,
         "title": problem.kind.title,
         "status": problem.kind.status,
-        "detail": str(problem)[:MOST_DETAIL],
+        "detail": str(problem)[:MAX_DETAIL],
     }
     return fields if problem.field is None else {**fields, "field": problem.field}
 

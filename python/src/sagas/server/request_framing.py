@@ -10,9 +10,9 @@ from __future__ import annotations
 import re
 from collections.abc import Callable
 
-MOST_HEAD = 1 << 14
+MAX_HEAD = 1 << 14
 """Maximum bytes of a head, or of the trailer after the last chunk."""
-MOST_CHUNK_LINE = 256
+MAX_CHUNK_LINE = 256
 TOKEN = rb"[!#$%&'*+.^_`|~0-9A-Za-z-]+"
 REQUEST_LINE = re.compile(rb"%b [!-~]+ HTTP/1\.([01])" % TOKEN)
 FIELD = re.compile(rb"(%b):[ \t]*([\t -~\x80-\xff]*)" % TOKEN)
@@ -70,10 +70,10 @@ class RequestFraming:
         while self._buffer.startswith(b"\r\n"):  # some clients end a body with a line
             del self._buffer[:2]
         begin = max(0, self._searched - 3)
-        end = self._buffer.find(b"\r\n\r\n", begin, MOST_HEAD)
+        end = self._buffer.find(b"\r\n\r\n", begin, MAX_HEAD)
         if end < 0:
-            if len(self._buffer) >= MOST_HEAD:
-                raise Malformed(f"its head has more than {MOST_HEAD} bytes")
+            if len(self._buffer) >= MAX_HEAD:
+                raise Malformed(f"its head has more than {MAX_HEAD} bytes")
             if BARE.search(self._buffer, begin):
                 raise Malformed("a line of its head does not end with CR and LF")
             self._searched = len(self._buffer)
@@ -112,7 +112,7 @@ class RequestFraming:
         return size
 
     def _chunk_line(self) -> int:
-        line = self._line(MOST_CHUNK_LINE)
+        line = self._line(MAX_CHUNK_LINE)
         if line is None:
             return 0
         chunk = CHUNK.fullmatch(line)
@@ -136,7 +136,7 @@ class RequestFraming:
         return 2
 
     def _trailer_line(self) -> int:
-        line = self._line(MOST_HEAD - self._trailer)
+        line = self._line(MAX_HEAD - self._trailer)
         if line is None:
             return 0
         self._trailer += len(line) + 2

@@ -50,7 +50,7 @@ if TYPE_CHECKING:
 
 T = TypeVar("T")
 logger, http = logging.getLogger("sagas.server"), logging.getLogger("sagas.http")
-MOST_WORKERS = MOST_THERE = 1000
+MAX_WORKERS = MAX_THERE = 1000
 SHARED = 200
 """Maximum number of workers that one service reports to another."""
 FAILED_COMMIT = 5.0
@@ -59,7 +59,7 @@ After that, new requests have to show whether commits succeed.
 """
 PEER_ANSWER_KEPT = 1.0
 """Seconds for which another service's answer about a saga is reused."""
-MOST_DETAIL = 500
+MAX_DETAIL = 500
 """Maximum characters of an event's detail that other services receive."""
 
 
@@ -272,7 +272,7 @@ class Service:
             attempts = [ActiveAttempt(*row) for row in rows]
         except (SagasError, TypeError):  # it does not answer, or is of another release
             attempts = []
-        if len(self._peer_attempts) >= MOST_THERE:
+        if len(self._peer_attempts) >= MAX_THERE:
             self._peer_attempts.clear()
         self._peer_attempts[view.key] = time.monotonic() + PEER_ANSWER_KEPT, attempts
         return attempts
@@ -448,7 +448,7 @@ class Service:
         """Record that a worker polled for tasks."""
         self.workers.pop(worker, None)
         self.workers[worker] = Seen(worker, time.time(), steps)
-        if len(self.workers) > MOST_WORKERS:
+        if len(self.workers) > MAX_WORKERS:
             self.workers.popitem(last=False)
 
     def request(self, scope: Any, status: int, seconds: float) -> None:
@@ -474,5 +474,5 @@ def event_fields(event: Event) -> dict[str, Any]:
     """Return an event as it is sent to other services."""
     fields = {name: value for name, value in dataclasses.asdict(event).items() if value is not None}
     if event.detail is not None:
-        fields["detail"] = event.detail[:MOST_DETAIL]
+        fields["detail"] = event.detail[:MAX_DETAIL]
     return fields

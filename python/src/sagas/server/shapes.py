@@ -12,7 +12,7 @@ from typing import Any
 from sagas.definition.arguments import meant
 
 Schema = dict[str, Any]
-MOST_SHOWN = 80
+MAX_SHOWN = 80
 WHOLE = re.compile("-?[0-9]{1,20}")
 DECIMAL = re.compile(r"-?[0-9]{1,20}(\.[0-9]{1,20})?([eE][+-]?[0-9]{1,3})?")
 """Numbers of a query, in JSON's syntax: without underscores, and with ASCII digits only."""
@@ -278,7 +278,7 @@ def read_fields(fields: Mapping[str, Field], value: dict[str, Any], path: str) -
     """Return the values of all fields, with defaults for missing ones. Raises `Invalid`."""
     for name in value:
         if name not in fields:
-            shown = name[:MOST_SHOWN]
+            shown = name[:MAX_SHOWN]
             raise Invalid(within(path, shown), f"unknown field{meant(shown, [*fields])}")
     result: dict[str, Any] = {}
     for name, field in fields.items():

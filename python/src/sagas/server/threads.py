@@ -41,7 +41,7 @@ MAX_REST = 2.0
 """The longest rest, in seconds."""
 RECENT = 1.0
 """Seconds for which a client counts as active after a request."""
-MOST_KNOWN = 1000
+MAX_KNOWN = 1000
 
 
 class ComputingTime:
@@ -167,7 +167,7 @@ class FairQueue(Generic[J]):
 
     def _forget(self) -> None:
         """If too many clients are known, forget the one that had no work for the longest time."""
-        if len(self._known) > MOST_KNOWN:
+        if len(self._known) > MAX_KNOWN:
             name, client = next(iter(self._known.items()))
             self._known.move_to_end(name)
             if not client.jobs and not client.running:

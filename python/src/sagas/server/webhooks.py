@@ -175,7 +175,7 @@ def _secret(value: Any) -> bytes:
 # -- one post
 
 
-MOST_ANSWER = 1 << 16
+MAX_ANSWER = 1 << 16
 """Maximum bytes of an answer's head. The body is not read."""
 STATUS = re.compile(rb"HTTP/1\.[01] ([1-5][0-9]{2})(?: |\r?\n)")
 
@@ -231,7 +231,7 @@ async def post(hook: Webhook, delivery: Claimed, seconds: float, allow_local: bo
         if is_secure:
             security = {"ssl": ssl.create_default_context(), "server_hostname": parts.hostname}
         reader, writer = await asyncio.open_connection(
-            address, port, limit=MOST_ANSWER, **security  # type: ignore[arg-type]
+            address, port, limit=MAX_ANSWER, **security  # type: ignore[arg-type]
         )
         try:
             writer.write(request_of(hook, parts, delivery))
@@ -243,7 +243,7 @@ async def post(hook: Webhook, delivery: Claimed, seconds: float, allow_local: bo
 
 async def _status(reader: asyncio.StreamReader) -> int:
     """Return the status of the answer, after any informational (1xx) answers."""
-    left, is_first = MOST_ANSWER, True
+    left, is_first = MAX_ANSWER, True
     while True:
         try:
             line = await reader.readline()
@@ -323,7 +323,7 @@ HOUR, KEPT, KEPT_FAILED = 3600.0, 7 * 86400.0, 30 * 86400.0
 """Seconds between two deletions, and the seconds for which deliveries are stored."""
 GONE = 410
 """The status by which a receiver declines further attempts of a delivery."""
-MOST_ERROR = 200
+MAX_ERROR = 200
 POSTING_EVENTS = (
     "saga_ended",
     "saga_stuck",
@@ -423,7 +423,7 @@ class Webhooks:
         except TimeoutError:
             error = f"TimeoutError: it did not answer within {PATIENCE:g} s"
         except Exception as fault:
-            error = f"{type(fault).__name__}: {fault}"[:MOST_ERROR]
+            error = f"{type(fault).__name__}: {fault}"[:MAX_ERROR]
         posted = outcome(status, error, delivery.attempts)
         is_kept = await self._deliveries.settle(delivery.id, delivery.attempts, posted)
         if is_kept and posted.state is DeliveryState.FAILED:

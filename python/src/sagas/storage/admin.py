@@ -64,7 +64,7 @@ class Source(Protocol):
         """Begin a snapshot: all queries from now on see the same moment."""
 
     def end(self) -> None:
-        """End the snapshot, if one was begun."""
+        """End the snapshot, if one was started."""
 
     def transaction(self) -> contextlib.AbstractContextManager[object]:
         """Write all that is written within the block, or nothing."""

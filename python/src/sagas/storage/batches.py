@@ -2,7 +2,7 @@
 
 A command is stored for each saga, as a command to one saga is (`operator_requests`). The program
 that drives the saga executes it, or a later program does. If a batch is interrupted, its last
-transaction is complete, or the next one has not begun. The same abort can be repeated, and
+transaction is complete, or the next one has not started. The same abort can be repeated, and
 continues with the rest.
 """
 

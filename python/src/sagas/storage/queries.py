@@ -114,7 +114,7 @@ FIND_MANY = {
     for count in (1, 2, 4, 8, 16, 32, 64, 128, 256)
 }
 """The statement for each number of keys: few numbers, so that all statements stay cached."""
-COUNTS, MOST_KEYS = [*FIND_MANY], max(FIND_MANY)
+COUNTS, MAX_KEYS = [*FIND_MANY], max(FIND_MANY)
 IN_OPEN_LOGS = f""" AND s.id IN (
   SELECT o.id FROM shards CROSS JOIN sagas o
   WHERE closed = 0 AND o.id >= shard * {SHARD_CAPACITY} AND o.id < (shard + 1) * {SHARD_CAPACITY}

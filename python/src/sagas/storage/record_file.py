@@ -129,14 +129,14 @@ class RecordFile:
         timeline: The timeline of the server, as far as the program knows. Only `moved` sets it.
         commit: The commit that is sent, and has no reply yet. It is set before the commit is
             sent. Then `heard`, `failed` or `unanswered` is called.
-        sessions: The last session of each shard that has begun. Only this class changes it.
+        sessions: The last session of each shard that has started. Only this class changes it.
     """
 
     def __init__(self, path: str, run: str) -> None:
         self.path, self.run, self.timeline = path, run, ""
         self.sessions: dict[int, Session] = {}
         self._file = -1
-        self._others: dict[Term, Session] = {}  # sessions that have not begun
+        self._others: dict[Term, Session] = {}  # sessions that have not started
         self._waiting: list[bytes] = []  # lines that are not written yet
         # what follows these lines: the last chunk with a reply, and then the commit that has none
         self._heard: Heard | None = None
@@ -203,7 +203,7 @@ class RecordFile:
     def session(self, shard: int, epoch: int) -> Session:
         """Return the session of a shard under an epoch, with the present server.
 
-        The session may not have begun.
+        The session may not have started.
         """
         return self._of((shard, epoch, self.timeline))
 

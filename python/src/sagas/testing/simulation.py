@@ -94,7 +94,7 @@ class Engine:
         return [reply.decode().rstrip("\n") for reply in replies]
 
 
-MOST_CALLS = 10_000
+MAX_CALLS = 10_000
 FAILURES = (OutcomeKind.FAILED, OutcomeKind.FAILED_PERMANENTLY)
 
 
@@ -420,9 +420,9 @@ class Simulation:
         if outcome is self._noted:
             return
         self._noted = outcome
-        if len(self._calls) >= MOST_CALLS:
+        if len(self._calls) >= MAX_CALLS:
             remedy = "If an outcome stays unknown, set max_unknown"
-            raise RuntimeError(f"the saga makes more than {MOST_CALLS:,} calls. {remedy}")
+            raise RuntimeError(f"the saga makes more than {MAX_CALLS:,} calls. {remedy}")
         value: Any = outcome.value
         if outcome.kind is not OutcomeKind.UNKNOWN:
             reported = json.loads(value)

@@ -224,9 +224,9 @@ def seen(entries: list[Entry], waits: str) -> Selection:
 
 SHOWN, MEMBERS, LISTED = 12, 5, 50
 """Groups on a page, sagas of each, and sagas on a page of one group."""
-MOST_GROUPED = 2000
+MAX_GROUPED = 2000
 """Maximum number of entries that are grouped."""
-MOST_FIELDS = 1000
+MAX_FIELDS = 1000
 KIND = Field(Choice(KINDS), default=None)
 QUERY = {
     "kind": KIND,
@@ -248,7 +248,7 @@ class Wanted:
 
     def question(self) -> Question[list[Entry]]:
         """Return the question for its entries."""
-        return attention_pages.entries(self.kind, self.of, newest=self.newest, limit=MOST_GROUPED)
+        return attention_pages.entries(self.kind, self.of, newest=self.newest, limit=MAX_GROUPED)
 
 
 def filter_of(request: Request, fields: dict[str, Any]) -> Filter:
@@ -352,8 +352,8 @@ async def inbox(call: Call) -> Response:
     }
     values |= {"id_of": id_of, "id_of_entry": id_of_entry, "names": counts}
     values |= {
-        "cut": needed[kind] if len(entries) >= MOST_GROUPED else None,
-        "grouped": MOST_GROUPED,
+        "cut": needed[kind] if len(entries) >= MAX_GROUPED else None,
+        "grouped": MAX_GROUPED,
     }
     values |= {"members": MEMBERS}
     return show_page(request, "inbox.html", here="inbox", live="/ui/events", since=since, **values)
@@ -365,7 +365,7 @@ async def act(call: Call) -> Response:
     show the results.
     """
     request = call.request
-    session, fields = await session_and_fields(request, MOST_FIELDS)
+    session, fields = await session_and_fields(request, MAX_FIELDS)
     form = dict(fields)
     kind, verb = form.get("kind", ""), form.get("verb", "")
     if verb not in VERBS.get(kind, {}):
@@ -402,13 +402,13 @@ async def act(call: Call) -> Response:
     work = operators.action_of(service_of(request), verb, options, result, error)
     targets = selection.targets(verb)
     done, refused = await operators.act_on_each(
-        call.service, targets[: operators.MOST_TARGETS], work
+        call.service, targets[: operators.MAX_TARGETS], work
     )
     values: dict[str, Any] = {
         "done": done,
         "refused": len(refused),
         "shown": refused[:LISTED],
-        "left": len(targets) - operators.MOST_TARGETS,
+        "left": len(targets) - operators.MAX_TARGETS,
         "changed": len(waits.split()) - len(selection.entries),
     }
     return show_page(request, "inbox_done.html", here="inbox", kind=kind, **values)

@@ -143,7 +143,7 @@ async def queues(call: Call) -> Response:
 # -- many sagas at once: first a count, then the action
 
 
-MOST_TARGETS = 1000
+MAX_TARGETS = 1000
 """The maximum number of changes by one request."""
 SHOWN = 20
 AT_ONCE = 50
@@ -179,7 +179,7 @@ MODE: Mapping[str, Field] = {
         default=None,
     ),
     "limit": Field(
-        Number(1, MOST_TARGETS, whole=True), "maximum number of changes", default=MOST_TARGETS
+        Number(1, MAX_TARGETS, whole=True), "maximum number of changes", default=MAX_TARGETS
     ),
 }
 
@@ -191,7 +191,7 @@ def bulk_body(name: str, filter_record: Record, more: Mapping[str, Field]) -> Re
 
 def sagas_of(sagas: Filter) -> Question[tuple[int, list[Target]]]:
     """Count the sagas of a filter without an abort request, and return the first of them."""
-    total, keys = yield from lists.to_abort(sagas, MOST_TARGETS)
+    total, keys = yield from lists.to_abort(sagas, MAX_TARGETS)
     return total, [(key, "", False) for key in keys]
 
 
@@ -201,7 +201,7 @@ def entries_of(
     """Count the entries of a filter, and return the first. Without a step, each saga once."""
     by_saga = step is None
     total = yield from attention_pages.count(kind, sagas, step, undo, by_saga=by_saga)
-    entries = yield from attention_pages.entries(kind, sagas, step, undo, limit=MOST_TARGETS)
+    entries = yield from attention_pages.entries(kind, sagas, step, undo, limit=MAX_TARGETS)
     targets: dict[Target, None] = {}
     for entry in entries:
         targets[

@@ -39,7 +39,7 @@ from sagas.storage.filters import NOTHING, Filter
 
 routes = Routes("pages", is_page=True)
 logger = logging.getLogger("sagas.server")
-LISTED, MOST_CLAIMED = 50, 100
+LISTED, MAX_CLAIMED = 50, 100
 RECENTLY = 300.0  # seconds since a worker asked; one that is at a long task asks for none
 
 
@@ -217,7 +217,7 @@ async def workers(call: Call) -> Response:
     service, principal = service_of(request), viewer_of(request)
     since = service.hub.now
     claimed = await service.look(
-        lists.waits(MOST_CLAIMED, person=False, why="external", scope=principal.scope)
+        lists.waits(MAX_CLAIMED, person=False, why="external", scope=principal.scope)
     )
     now, seen = time.time(), (await service.seen(principal))[:200]
     queues = []
@@ -241,7 +241,7 @@ async def workers(call: Call) -> Response:
         workers=seen,
         strange=unknown_steps,
         claimed=claimed,
-        most_claimed=MOST_CLAIMED,
+        most_claimed=MAX_CLAIMED,
         few=FEW,
         now=now,
     )

@@ -32,9 +32,9 @@ from sagas.server.table_rows import (
 )
 
 routes = Routes("pages", is_page=True)
-MOST_EVENTS = 500
-MOST_DRAWN = 1024  # steps
-MOST_EFFECTS = 5
+MAX_EVENTS = 500
+MAX_DRAWN = 1024  # steps
+MAX_EFFECTS = 5
 """Maximum number of questions whose effects are computed. Each needs a plan."""
 
 
@@ -67,7 +67,7 @@ def template_values(
 
     `approvals_of` returns the approvals of a saga's name and definition.
     """
-    drawn, displays = len(view.steps) <= MOST_DRAWN, picture.displays_of(view)
+    drawn, displays = len(view.steps) <= MAX_DRAWN, picture.displays_of(view)
     asks = [wait for wait in view.held if wait.asks]
     attempts = timeline.of(view, now)
     approvals = set[str]()
@@ -114,11 +114,11 @@ def template_values(
         "undo_failed": [step for step in view.steps if step.state == "undo_failed"],
         "icons": picture.ICONS,
         "done": sum(step.state in ("committed", "undo_failed") for step in view.steps),
-        "events": events[-MOST_EVENTS:],
+        "events": events[-MAX_EVENTS:],
         "few": FEW,
         "all_events": len(events),
         "abort": effect(view, abort=True),
-        "effects": effects(view, [(wait.step, wait.undo) for wait in asks[:MOST_EFFECTS]]),
+        "effects": effects(view, [(wait.step, wait.undo) for wait in asks[:MAX_EFFECTS]]),
     }
 
 

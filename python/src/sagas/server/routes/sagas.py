@@ -71,7 +71,7 @@ NOTE = Field(
     default=None,
 )
 UNDO = Field(Flag(), "whether the report is about the compensation", default=False)
-EARLY = Field(Flag(), "if the step has not begun, store the report until it begins", default=True)
+EARLY = Field(Flag(), "if the step has not started, store the report until it begins", default=True)
 ERROR = Field(Text(most=4000), "the reason", example="too expensive")
 REPORT = {"undo": UNDO, "early": EARLY, "note": NOTE}
 START = Record(
@@ -436,7 +436,7 @@ async def complete(call: Call) -> Response:
     """Report that a step is done.
 
     Approvers can report approvals. Operators can also report steps with an unknown outcome, and
-    tasks that no worker claims. If an approval or a worker's step has not begun, the report is
+    tasks that no worker claims. If an approval or a worker's step has not started, the report is
     stored until it begins. The result of a step that starts a child must have the key of a
     child that this step started, or a null key if there is nothing to undo.
     """

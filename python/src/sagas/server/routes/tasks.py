@@ -41,7 +41,7 @@ NAME = "[a-z][a-z0-9_-]{0,31}"
 STEP_NAME = re.compile(rf"({NAME})/((?:{NAME}/)*?{NAME})(/undo)?\Z")
 HEARTBEATS = 3
 """How many heartbeats fit into a lease, so that two of them may be lost."""
-MOST_WRITTEN = 512
+MAX_WRITTEN = 512
 """Maximum levels of a stored value in an answer. Results of children, which contain results of
 their children, may have more levels than inputs.
 """
@@ -122,7 +122,7 @@ async def answered(
 
 def _is_too_deep(task: LeasedTask) -> bool:
     """Return whether a task has too many levels for an answer."""
-    return any(is_deeper(text, MOST_WRITTEN) for text in _texts(task))
+    return any(is_deeper(text, MAX_WRITTEN) for text in _texts(task))
 
 
 async def _written(call: Call, made: Callable[[Any], Any], claim: Claimed, *path: str) -> Response:
@@ -140,7 +140,7 @@ async def _writable(call: Call, claim: Claimed) -> Claimed:
     for task in claim.tasks:
         try:
             if _is_too_deep(task):
-                raise CannotDecode(f"it has more than {MOST_WRITTEN} levels of lists and objects")
+                raise CannotDecode(f"it has more than {MAX_WRITTEN} levels of lists and objects")
             json_views.task(task, claim.now)
             tasks.append(task)
         except CannotDecode as error:
@@ -505,7 +505,7 @@ async def unknown(call: Call) -> Response:
 # -- several reports in one request
 
 
-MOST_REPORTS = 100
+MAX_REPORTS = 100
 """The maximum number of reports in one request."""
 REPORT = Record(
     "TaskReport",
@@ -526,7 +526,7 @@ REPORTS = Record(
     "TaskReports",
     {
         "reports": Field(
-            Several(REPORT, least=1, most=MOST_REPORTS),
+            Several(REPORT, least=1, most=MAX_REPORTS),
             "the reports; each counts as if it was sent alone",
         ),
         **MORE,

@@ -163,7 +163,7 @@ def saga_row(values: wire.Values) -> SagaRow:
 
 MANY = 256
 """Maximum number of sagas in one lookup."""
-MOST_TEXTS = 256
+MAX_TEXTS = 256
 """Maximum number of cached texts of definitions."""
 KNOWN = f"""
 SELECT s.id, -1, d.definition, 0, '', (SELECT p.shape FROM shapes p WHERE p.id = s.id), 0.0
@@ -265,7 +265,7 @@ class Lookups:
         if not missing:
             return
         rows = await self._asker.read(TEXTS, digests=missing)
-        if len(self._texts) + len(rows) > MOST_TEXTS:
+        if len(self._texts) + len(rows) > MAX_TEXTS:
             self._texts = {
                 digest: self._texts[digest] for digest in digests if digest in self._texts
             }

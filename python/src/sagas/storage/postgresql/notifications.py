@@ -39,9 +39,9 @@ NOTIFY = notify_statement(CHANNEL)
 NOTIFY_WIRED = NOTIFY.replace("%(messages)s", "$1")
 """The same for a wire. `array_of` returns its parameter."""
 MOST = 400  # ids per message: PostgreSQL accepts 8,000 bytes
-FIRST_LOOK, MOST_LOOK = 0.5, 30.0  # seconds
+FIRST_LOOK, MAX_LOOK = 0.5, 30.0  # seconds
 RECENT = 10_000
-FIRST_PAUSE, MOST_PAUSE = 0.1, 2.0  # seconds
+FIRST_PAUSE, MAX_PAUSE = 0.1, 2.0  # seconds
 
 
 def payloads(event: str, ids: Iterable[int]) -> list[str]:
@@ -60,7 +60,7 @@ def array_of(messages: Iterable[str]) -> bytes:
 class Listener:
     """A connection that listens on channels, and connects again if it breaks.
 
-    `on_message` is called with each message. `listens` is called whenever it has begun to listen:
+    `on_message` is called with each message. `listens` is called whenever it has started to listen:
     messages may have been missed before.
     """
 
@@ -101,7 +101,7 @@ class Listener:
             except (psycopg.Error, OSError, TimeoutError):
                 pass
             await asyncio.sleep(pause)
-            pause = min(MOST_PAUSE, 2 * pause)
+            pause = min(MAX_PAUSE, 2 * pause)
 
 
 class Notifications:
@@ -176,7 +176,7 @@ class Notifications:
         future = asyncio.get_running_loop().create_future()
         self._waiting.setdefault(event_and_id, []).append(future)
         try:
-            await asyncio.wait([future], timeout=min(MOST_LOOK, FIRST_LOOK * 2.0 ** min(turn, 16)))
+            await asyncio.wait([future], timeout=min(MAX_LOOK, FIRST_LOOK * 2.0 ** min(turn, 16)))
         finally:
             self._waiting[event_and_id].remove(future)
             if not self._waiting[event_and_id]:

@@ -43,7 +43,7 @@ JOINS = pq.version() >= 140000
 """Whether libpq can send one statement after another, without waiting."""
 LET_GO = "DEALLOCATE ALL"
 """A statement, and the server's report of it; psycopg sends it after a rollback."""
-FIRST_PAUSE, MOST_PAUSE = 1.0, 600.0
+FIRST_PAUSE, MAX_PAUSE = 1.0, 600.0
 """Seconds without prepared statements, once a server did not know them.
 
 The values are the first pause, and the longest.
@@ -69,7 +69,7 @@ class Prepares:
         A function deallocated them, or a pooler changed the session.
         """
         self.until = time.monotonic() + self._pause
-        self._pause = min(MOST_PAUSE, 2 * self._pause)
+        self._pause = min(MAX_PAUSE, 2 * self._pause)
 
 
 class Statements(enum.Enum):

@@ -307,7 +307,7 @@ class LoanState(enum.Enum):
     """The state of a loan."""
 
     WAITS = "waits"
-    """The function has not begun."""
+    """The function has not started."""
     HELD = "held"
     OVER = "over"
     LEFT = "left"

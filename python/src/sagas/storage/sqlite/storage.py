@@ -61,7 +61,7 @@ from sagas.storage.sqlite.store_file import (
 from sagas.storage.sqlite.writer import Writer
 
 LOOK = 0.2  # seconds: another program's commit sends no notification
-MOST_LOOK = 30.0
+MAX_LOOK = 30.0
 
 
 def migrate_file(path: str) -> str:
@@ -308,7 +308,7 @@ class Sqlite(queries.Questions):
     async def admit(self, name: str, bounds: Bounds, want: int, have: Sequence[int]) -> Grant:
         """Take slots of a step: this program is the only node."""
         places = free_slots(bounds.concurrency, want, have) if bounds.concurrency else []
-        count, pause = len(places) if bounds.concurrency else want, MOST_LOOK
+        count, pause = len(places) if bounds.concurrency else want, MAX_LOOK
         if bounds.rate_limit and count:
             # a killed program has counted its calls, since only a crash of the machine loses them
             connected = functools.partial(connect, self.file, "NORMAL")
@@ -358,8 +358,8 @@ class Sqlite(queries.Questions):
     def find_many(self, keys: Sequence[str]) -> dict[str, SagaRow]:
         """Return the sagas that have these keys, by key."""
         db, sagas = self._writer.reader() or self._reader, {}
-        for index in range(0, len(keys), queries.MOST_KEYS):
-            batch = [*keys[index : index + queries.MOST_KEYS]]
+        for index in range(0, len(keys), queries.MAX_KEYS):
+            batch = [*keys[index : index + queries.MAX_KEYS]]
             count = queries.COUNTS[bisect.bisect_left(queries.COUNTS, len(batch))]
             batch += batch[:1] * (count - len(batch))
             for row in self._read(db, queries.FIND_MANY[count], batch):
@@ -450,7 +450,7 @@ class Sqlite(queries.Questions):
 
         The shard is set aside, so that seldom happens.
         """
-        await asyncio.sleep(min(MOST_LOOK, LOOK * 2 ** min(turn, 10)))
+        await asyncio.sleep(min(MAX_LOOK, LOOK * 2 ** min(turn, 10)))
 
 
 # -- slots of limits and of rate limits
