@@ -35,6 +35,8 @@ CLEAN: tuple[str, ...] = (
     "library",
     "page",
     "platforms",
+    "python/src/sagas/cli",
+    "python/src/sagas/inspection",
     "tests",
 )
 """The folders, with those below them, and the files in which a finding is an error."""

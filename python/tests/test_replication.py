@@ -293,9 +293,7 @@ def test_a_start_over_http_has_a_limit(
                 ).status_code == 201
                 await asyncio.to_thread(away.go)
                 late = await client.post("/v1/sagas", json=body)
-                assert (
-                    late.status_code == 503 and "retry the same request" in late.text.lower()
-                )
+                assert late.status_code == 503 and "retry the same request" in late.text.lower()
                 await asyncio.to_thread(away.come)
                 again = await client.post("/v1/sagas", json=body)
                 assert again.status_code == 200 and again.json()["key"] == "k"
