@@ -454,7 +454,7 @@ def main() -> int:
         return wrong(options.wrong)
     kills, figures = Counter[str](), Counter[str]()
     bad, began = 0, time.monotonic()
-    options = options.options.split(",") if options.options else None
+    features = options.options.split(",") if options.options else None
     with contextlib.ExitStack() as stack:
         server = broker = None
         if options.store == "postgresql":
@@ -469,7 +469,7 @@ def main() -> int:
                 options.strikes,
                 server,
                 broker=broker,
-                options=options,
+                options=features,
                 deploy=options.deploy,
             )
             kills += one.kills
