@@ -14,7 +14,9 @@ from cases import Task, run, until
 from test_codec import KNOWN
 
 import sagas
+from sagas.core.declared_values import OptionCalls
 from sagas.core.saga_instance import LARGE_VALUE
+from sagas.core.states import AttemptState
 from sagas.definition.payloads import ABSENT
 
 BIG = "b" * (4 * LARGE_VALUE)
@@ -168,5 +170,44 @@ def test_one_claim_has_a_budget(url: str, monkeypatch: pytest.MonkeyPatch) -> No
                 )
                 seen |= {one.task.key for one in tasks}
             assert len(seen) == 7
+
+    run(main())
+
+
+def test_an_attempt_that_has_changed_does_not_continue(tmp_path: pathlib.Path) -> None:
+    """What it asked for before counts no more, even if the work for it starts only later."""
+    saga = sagas.Saga("one")
+    running, may_end = asyncio.Event(), asyncio.Event()
+
+    @saga.step(backoff=sagas.Backoff(initial=0.2))
+    async def work(task: Task) -> int:
+        if not is_lost:
+            is_lost.append(True)
+            raise sagas.Unknown("lost")
+        running.set()
+        await may_end.wait()
+        return 1
+
+    is_lost: list[bool] = []
+
+    async def main() -> None:
+        async with sagas.open(str(tmp_path / "s.db"), [saga]) as store:
+            started = await store.start(saga, "k")
+            coordinator = store._access.coordinator
+            instance = coordinator.sagas.by_key["k"]
+            await until(
+                lambda: [a for a in instance.busy.values() if a.state is AttemptState.SUSPENDED]
+            )
+            (attempt,) = instance.busy.values()
+            executor, seen = coordinator.executor, list[Any]()
+            guard, questions = attempt.pause_guard(), OptionCalls({})
+            read = executor.values.then(attempt, seen.append)
+            asked = executor._answer_question(attempt, questions, guard, seen.append)
+            await running.wait()
+            await read
+            await asked
+            assert seen == []
+            may_end.set()
+            assert (await started.wait(60)).ok
 
     run(main())

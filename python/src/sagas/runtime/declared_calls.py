@@ -226,13 +226,20 @@ class DefinitionCaller:
         value: T = await self._threads.call(name, function)
         return value
 
-    async def answer(self, attempt: Attempt, question: OptionCalls) -> bool:
+    async def answer(
+        self, attempt: Attempt, question: OptionCalls, is_same: Callable[[], bool]
+    ) -> bool:
         """Store the answers of a question in an attempt.
 
+        Args:
+            attempt: The attempt.
+            question: The functions to call.
+            is_same: A guard of the attempt, from the moment at which it asked.
+
         Returns:
-            False if the attempt changed in the meantime.
+            False if the attempt has changed since then.
         """
-        is_same, extras = attempt.pause_guard(), attempt.rare
+        extras = attempt.rare
         extras.called_options = question.option_names
         try:
             answers = await self.call(attempt.instance.kind.name, question.answers)

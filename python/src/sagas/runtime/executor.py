@@ -178,12 +178,17 @@ class Executor:
     def _ask(self, attempt: Attempt, decision: Decision, go_on: Callable[[Attempt], None]) -> None:
         """Call functions of the definition in the background, then continue the attempt."""
         assert decision.option_calls
-        self._coordinator.spawn(self._answer_question(attempt, decision.option_calls, go_on))
+        question, is_same = decision.option_calls, attempt.pause_guard()
+        self._coordinator.spawn(self._answer_question(attempt, question, is_same, go_on))
 
     async def _answer_question(
-        self, attempt: Attempt, question: OptionCalls, go_on: Callable[[Attempt], None]
+        self,
+        attempt: Attempt,
+        question: OptionCalls,
+        is_same: Callable[[], bool],
+        go_on: Callable[[Attempt], None],
     ) -> None:
-        if await self._coordinator.declared.answer(attempt, question):
+        if await self._coordinator.declared.answer(attempt, question, is_same):
             go_on(attempt)
         attempt.instance.release()
 

@@ -8,8 +8,8 @@ and offers the shard again from time to time.
 from __future__ import annotations
 
 import asyncio
-from collections.abc import AsyncIterator, Awaitable, Callable, Sequence
-from typing import TypeVar, cast
+from collections.abc import AsyncIterator, Awaitable, Callable, Coroutine, Sequence
+from typing import Any, TypeVar, cast
 
 from sagas.base.errors import StoreUnavailable
 from sagas.core.batch import LoadedShard
@@ -108,12 +108,17 @@ class ValueReader:
         async with self._slots:
             await self._fill(attempt)
 
-    async def then(self, attempt: Attempt, go_on: Callable[[Attempt], None]) -> None:
-        """Read missing values of an attempt, and continue it unless it has changed.
+    def then(self, attempt: Attempt, go_on: Callable[[Attempt], None]) -> Coroutine[Any, Any, None]:
+        """Read missing values of an attempt, and continue it unless it has changed since the call.
 
         If the attempt waits after that, its values are released.
         """
-        is_same, fault = attempt.pause_guard(), None
+        return self._then(attempt, attempt.pause_guard(), go_on)
+
+    async def _then(
+        self, attempt: Attempt, is_same: Callable[[], bool], go_on: Callable[[Attempt], None]
+    ) -> None:
+        fault = None
         async with self._slots:
             try:
                 await self._fill(attempt)
