@@ -33,7 +33,7 @@ from serving import (
     token,
 )
 
-from sagas.server import openapi, problems
+from sagas.server import openapi, problems, shapes
 
 HERE = pathlib.Path(__file__).resolve().parent
 LANGUAGES = HERE / "other_languages"
@@ -357,3 +357,18 @@ def test_other_languages(
     command = ["java", str(LANGUAGES / "Caller.java"), service.url, operator, "java-1"]
     done = subprocess.run(command, capture_output=True, text=True, timeout=120, check=False)
     assert done.stdout == "201 /v1/sagas/java-1\n200\n200\nrecovered\n", done
+
+
+@pytest.mark.parametrize(
+    "shape, value, detail",
+    [
+        (shapes.Number(least=0), -1, "must be at least 0"),
+        (shapes.Number(most=9), 10, "must be at most 9"),
+        (shapes.Number(1, 9), 10, "must be from 1 to 9"),
+        (shapes.Several(shapes.Number(), least=1), [], "must have at least 1 entries"),
+        (shapes.Several(shapes.Number(), most=1), [1, 2], "must have from 0 to 1 entries"),
+    ],
+)
+def test_bounds_are_in_words(shape: shapes.Shape, value: object, detail: str) -> None:
+    with pytest.raises(shapes.Invalid, match=detail):
+        shape.read(value, "count")

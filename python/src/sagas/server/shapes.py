@@ -105,6 +105,13 @@ class Choice(Shape):
         return {"type": "string", "enum": list(self.some)}
 
 
+def bounds(least: float | None, most: float | None) -> str:
+    """Return in words which numbers are accepted; at least one bound is given."""
+    if most is None:
+        return f"at least {least}"
+    return f"at most {most}" if least is None else f"from {least} to {most}"
+
+
 @dataclasses.dataclass(frozen=True)
 class Number(Shape):
     """A number within bounds. `whole`: an integer."""
@@ -122,7 +129,7 @@ class Number(Shape):
         if (self.least is not None and value < self.least) or (
             self.most is not None and value > self.most
         ):
-            raise Invalid(field, f"must be from {self.least} to {self.most}")
+            raise Invalid(field, f"must be {bounds(self.least, self.most)}")
         return int(value) if self.whole else float(value)
 
     def of_text(self, text: str, field: str) -> float:
@@ -185,7 +192,7 @@ class Several(Shape):
         if not isinstance(value, list):
             raise Invalid(field, "must be a list")
         if len(value) < self.least or (self.most is not None and len(value) > self.most):
-            raise Invalid(field, f"must have from {self.least} to {self.most} entries")
+            raise Invalid(field, f"must have {bounds(self.least, self.most)} entries")
         return [self.of.read(item, f"{field}.{index}") for index, item in enumerate(value)]
 
     def schema(self) -> Schema:
