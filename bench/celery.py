@@ -51,9 +51,9 @@ app.conf.update(sagas_store=os.environ["BENCH_STORE"], worker_prefetch_multiplie
 done = redis.Redis(unix_socket_path=os.environ["BENCH_DONE"])
 queue = sagas.celery.Queue(app, "bench")
 three = sagas.Saga("three")
-three.step(name="a", queue=queue)(lambda task: None)
-three.step(name="b", needs=["a"], queue=queue)(lambda task: None)
-three.step(name="c", needs=["b"], queue=queue)(lambda task: None)
+a = three.step(name="a", queue=queue)(lambda task: None)
+b = three.step(name="b", needs=[a], queue=queue)(lambda task: None)
+three.step(name="c", needs=[b], queue=queue)(lambda task: None)
 late = {"queue": "bench", "ignore_result": True, "acks_late": True}
 
 @app.task(name="empty", **late)

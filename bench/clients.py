@@ -24,7 +24,7 @@ from concurrent.futures import ThreadPoolExecutor
 from typing import NamedTuple
 
 import httpx
-from harness import Driver, commands, languages
+from harness import QUICK, Driver, commands, languages
 from server import Server, serving
 from serving import Served, served
 
@@ -88,7 +88,8 @@ def timed(command: list[str], service: Served, count: int, concurrency: int) -> 
 
 
 def turn(command: list[str], server: Server | None, count: int, concurrency: int) -> Figure:
-    """Run one language with its own service."""
+    """Run one language with its own service. A JVM has its defaults, as that of a user."""
+    command = [word for word in command if word not in QUICK]
     with tempfile.TemporaryDirectory(prefix="sagas-bench-") as folder:
         url = server.create() if server else None
         with served(pathlib.Path(folder), DEFINITIONS, store=url) as service:

@@ -4,8 +4,10 @@
     PYTHONPATH=python/src:python/tests /usr/bin/python3 bench/instructions.py
         [--sagas N] [--runs N] [--part NAME ...]
 
-Instructions, unlike times, hardly depend on the load of the machine. Compare two commits with the
-same options. Needs valgrind, under which a program takes 40 times as long. A value is the median of
+Instructions depend on the load of the machine less than times do. Needs valgrind, under which a
+program takes 40 times as long. So work that is repeated by time would count 40 times: a program
+without sagas is run for ten seconds first, and its rate is subtracted. Batches differ, so compare
+two commits at the same time, with the same options, on an idle machine. A value is the median of
 the runs. The engine process and the database server are not counted.
 
 The parts are `sqlite-1`, `sqlite-16` and `postgresql-16` (sagas of three steps, 1 or 16 open at
@@ -27,6 +29,7 @@ import statistics
 import subprocess
 import sys
 import tempfile
+import time
 from collections.abc import Iterator
 
 from server import Server, serving
@@ -36,6 +39,8 @@ import sagas
 VALGRIND = ["valgrind", "--tool=callgrind", "--instr-atstart=no"]
 PARTS = ("sqlite-1", "sqlite-16", "postgresql-16", "claim")
 WARM = 64
+IDLE = 10.0
+"""Seconds for which a program without sagas is counted."""
 DEFINITION = 'format = 2\nname = "one"\n[[step]]\nname = "a"\nundo = "never"\n'
 
 
@@ -58,7 +63,10 @@ def control(*arguments: str) -> None:
 
 
 async def run_sagas(url: str, at_once: int, count: int) -> None:
-    """Run sagas under callgrind; it counts after the first ones."""
+    """Run sagas under callgrind; it counts after the first ones. Print how long it counted.
+
+    Without sagas, it counts for `IDLE` seconds.
+    """
     saga = saga_of_three()
     async with sagas.open(url, [saga], concurrency=max(16, at_once)) as store:
 
@@ -73,7 +81,9 @@ async def run_sagas(url: str, at_once: int, count: int) -> None:
 
         await all_of("warm", WARM)
         control("-i", "on", str(os.getpid()))
-        await all_of("saga", count)
+        begin = time.monotonic()
+        await (all_of("saga", count) if count else asyncio.sleep(IDLE))
+        print(time.monotonic() - begin)
         control("-i", "off", str(os.getpid()))
 
 
@@ -87,17 +97,25 @@ def collected(text: str) -> int:
 
 def of_sagas(part: str, count: int, server: Server | None) -> float:
     """Return the instructions of a node for a saga."""
+    instructions, seconds = counted(part, count, server)
+    idle, idle_seconds = counted(part, 0, server)
+    return (instructions - seconds * idle / idle_seconds) / count
+
+
+def counted(part: str, count: int, server: Server | None) -> tuple[int, float]:
+    """Return the instructions of a node that runs sagas, and its seconds."""
     with tempfile.TemporaryDirectory() as folder:
         url = server.create() if server else f"{folder}/store.db"
         inside = [sys.executable, __file__, "--within", url, part.rpartition("-")[2], str(count)]
         done = subprocess.run(
             [*VALGRIND, f"--callgrind-out-file={folder}/out", *inside],
             env=os.environ | {"PYTHONHASHSEED": "0"},
+            stdout=subprocess.PIPE,
             stderr=subprocess.PIPE,
             text=True,
             check=True,
         )
-        return collected(done.stderr) / count
+        return collected(done.stderr), float(done.stdout)
 
 
 @contextlib.contextmanager
@@ -129,6 +147,13 @@ def ask(link: http.client.HTTPConnection, path: str, body: object) -> dict[str, 
 
 def of_claims(count: int) -> float:
     """Return the instructions of the service for a claim and its report."""
+    instructions, seconds = counted_claims(count)
+    idle, idle_seconds = counted_claims(0)
+    return (instructions - seconds * idle / idle_seconds) / count
+
+
+def counted_claims(count: int) -> tuple[int, float]:
+    """Return the instructions of a service that answers claims and reports, and its seconds."""
     with tempfile.TemporaryDirectory() as name, service(pathlib.Path(name)) as (process, address):
         link = http.client.HTTPConnection(address, timeout=600)
         for number in range(count + WARM):
@@ -144,11 +169,15 @@ def of_claims(count: int) -> float:
 
         claim(WARM)
         control("-i", "on", str(process.pid))
+        begin = time.monotonic()
         claim(count)
+        if not count:
+            time.sleep(IDLE)
+        seconds = time.monotonic() - begin
         control("-i", "off", str(process.pid))
         process.send_signal(signal.SIGTERM)
         _, text = process.communicate()
-        return collected(text) / count
+        return collected(text), seconds
 
 
 def main() -> None:

@@ -417,7 +417,7 @@ def size(server: Server, options: argparse.Namespace) -> None:
                 await (await store.start(saga, f"order-{number:08}", {"n": number})).wait()
 
             await rate(go, count, together)
-            return store.commits
+            return store._commits
 
     def spent() -> tuple[float, float, float]:
         program_time, children = (
@@ -490,7 +490,7 @@ async def ended(url: str, logs: int) -> None:
             await (await store.start(saga, f"old-{number}")).wait()
 
         await rate(go, 1000, 256)
-        database = store._inside.store
+        database = store._access.coordinator_here().store
         while not any(
             is_closed for (is_closed,) in await database.read("SELECT closed FROM shards")
         ):
@@ -515,7 +515,7 @@ def opening(server: Server, options: argparse.Namespace) -> None:
         called: list[float] = []
         saga = trip(gate=asyncio.Event(), called=called)
         async with sagas.open(url, [saga], concurrency=1000, shutdown_timeout=0.0) as store:
-            if not store._inside.shards.runners:  # type: ignore[union-attr]
+            if not store._access.coordinator_here().shards.runners:
                 for first in range(0, 1000, 100):
                     await asyncio.gather(
                         *(
@@ -563,7 +563,7 @@ def prune(server: Server, options: argparse.Namespace) -> None:
     asyncio.run(ended(url, logs))
     for name in ("alone", "during deletions"):
         done, began = threading.Event(), time.monotonic()
-        gone = retention.Gone()
+        gone = retention.Pruned()
 
         def work() -> None:
             nonlocal gone

@@ -322,7 +322,7 @@ async def with_package(folder: pathlib.Path, saga: sagas.Saga, count: int, toget
 
         timing = await timed(run_saga, count, together)
         assert last[0].ok if saga is row else last[0].states["initial"] == "undone", last
-        return dataclasses.replace(timing, commits=store.commits / (count + WARM))
+        return dataclasses.replace(timing, commits=store._commits / (count + WARM))
 
 
 async def by_hand(

@@ -34,7 +34,7 @@ sys.path.insert(0, str(pathlib.Path(__file__).resolve().parents[1] / "python" / 
 from server import Server, serving  # noqa: E402
 
 import sagas  # noqa: E402
-from sagas.core import shard  # noqa: E402
+from sagas.core.shard import driver  # noqa: E402
 from sagas.runtime import shard_runner  # noqa: E402
 
 FIXED, FROM_INPUT = "fixed", "a definition of its own"
@@ -140,7 +140,7 @@ def measure(server: Server | None, options: argparse.Namespace) -> None:
     """Measure both ways over one kind of store, for each number of definitions."""
     name = "SQLite" if server is None else "PostgreSQL"
     for limit in map(int, options.definitions.split(",")):
-        shard.MAX_ADDED = limit
+        driver.MAX_ADDED = limit  # type: ignore[attr-defined]
         turns_by_way: dict[str, list[Turn]] = {FIXED: [], FROM_INPUT: []}
         for number in range(options.turns):
             for way in (FIXED, FROM_INPUT) if number % 2 == 0 else (FROM_INPUT, FIXED):
@@ -180,7 +180,7 @@ def main() -> None:
     parser.add_argument("--turns", type=int, default=5)
     parser.add_argument("--at", type=int, default=64)
     parser.add_argument("--sagas", type=int, default=600, help="of a turn")
-    parser.add_argument("--definitions", default=str(shard.MAX_ADDED))
+    parser.add_argument("--definitions", default=str(driver.MAX_ADDED))
     parser.add_argument("--store", choices=["sqlite", "postgresql"], action="append")
     options = parser.parse_args()
     shard_runner.EngineProcess = Engines.Counted  # type: ignore[misc]

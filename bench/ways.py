@@ -3,8 +3,9 @@
 
     PYTHONPATH=python/src:python/tests /usr/bin/python3 bench/ways.py [--long] [--runs N]
 
-Two ways are counted. The first is a saga of one step over SQLite, from `start` to its result. The
+Three ways are counted. The first is a saga of one step over SQLite, from `start` to its result. The
 second is the report of an external step over PostgreSQL, from `complete` to the result of the saga.
+The third is a claim at `sagas serve` over SQLite with its report, in the process of the service.
 
 What is counted: in each thread, calls of functions of the package, one after the other. A change is
 a call whose module is another one than that of the call before it. Returns, comprehensions,
@@ -17,8 +18,14 @@ from __future__ import annotations
 import argparse
 import asyncio
 import collections
+import http.client
+import json
+import os
 import pathlib
+import runpy
+import signal
 import statistics
+import subprocess
 import sys
 import tempfile
 import threading
@@ -30,6 +37,9 @@ from server import serving
 
 import sagas
 
+DEFINITION = 'format = 2\nname = "one"\n[[step]]\nname = "a"\nundo = "never"\n'
+SETTLED = 0.2
+"""Seconds after which nothing of a request is under way any more."""
 SOURCE = str(pathlib.Path(sagas.__file__).parent) + "/"
 Calls = dict[str, list[tuple[str, str]]]
 
@@ -55,9 +65,17 @@ class Tracer:
 
     async def trace(self, way: Callable[[], Awaitable[object]]) -> Calls:
         """Return the calls while a coroutine runs."""
+        self.start()
+        await way()
+        return self.stop()
+
+    def start(self) -> None:
+        """Record calls from now on."""
         self.calls.clear()
         self.is_on = True
-        await way()
+
+    def stop(self) -> Calls:
+        """Return the calls since `start`."""
         self.is_on = False
         return {name: list(calls) for name, calls in self.calls.items()}
 
@@ -110,6 +128,60 @@ async def postgresql_ways(tracer: Tracer, runs: int) -> AsyncIterator[Calls]:
                     yield calls
 
 
+def serve(runs_file: str, arguments: list[str]) -> None:
+    """Run `sagas serve`. A signal turns the tracer on and off; the runs are written at the end."""
+    tracer, runs = Tracer(), list[Calls]()
+
+    def turn(*_: object) -> None:
+        if tracer.is_on:
+            runs.append(tracer.stop())
+        else:
+            tracer.start()
+
+    signal.signal(signal.SIGUSR1, turn)
+    sys.argv = ["sagas", "serve", *arguments]
+    try:
+        runpy.run_module("sagas", run_name="__main__")
+    finally:
+        pathlib.Path(runs_file).write_text(json.dumps(runs))
+
+
+def ask(link: http.client.HTTPConnection, path: str, body: object) -> Any:
+    """Return the answer of a POST."""
+    link.request("POST", path, json.dumps(body), {"Content-Type": "application/json"})
+    answer = link.getresponse()
+    text = answer.read()
+    assert answer.status < 300, text
+    return json.loads(text)
+
+
+async def claim_ways(tracer: Tracer, runs: int) -> AsyncIterator[Calls]:
+    """Yield the calls of claims at the service, with their reports."""
+    with tempfile.TemporaryDirectory() as name:
+        folder = pathlib.Path(name)
+        (folder / "one.toml").write_text(DEFINITION)
+        command = [sys.executable, __file__, "--within", f"{folder}/runs", f"{folder}/store.db"]
+        command += ["--definitions", str(folder), "--listen", "127.0.0.1:0", "--log-level", "error"]
+        with subprocess.Popen(command, stdout=subprocess.PIPE, text=True) as process:
+            assert process.stdout
+            address = process.stdout.readline().split("//")[1].strip().strip("/")
+            link = http.client.HTTPConnection(address)
+            for number in range(runs + 1):
+                ask(link, "/v1/sagas", {"definition": "one", "key": f"k{number}", "input": 1})
+                await asyncio.sleep(SETTLED)
+                os.kill(process.pid, signal.SIGUSR1)
+                await asyncio.sleep(SETTLED)
+                wanted = {"steps": ["one/a"], "limit": 1, "wait": 10, "lease": 600}
+                (task,) = ask(link, "/v1/tasks/claim", wanted)["tasks"]
+                report = {"lease": task["lease"], "result": None}
+                ask(link, f"/v1/tasks/{task['attempt_id']}/complete", report)
+                os.kill(process.pid, signal.SIGUSR1)
+                await asyncio.sleep(SETTLED)
+            process.send_signal(signal.SIGTERM)
+        for calls in json.loads((folder / "runs").read_text())[1:]:
+            yield calls
+
+
 async def main() -> None:
     """Print the numbers."""
     parser = argparse.ArgumentParser(description=__doc__.splitlines()[0])
@@ -120,6 +192,7 @@ async def main() -> None:
     ways = {
         "a saga of one step over SQLite": sqlite_ways,
         "a report over PostgreSQL": postgresql_ways,
+        "a claim over HTTP": claim_ways,
     }
     for name, way in ways.items():
         runs = [calls async for calls in way(tracer, options.runs)]
@@ -135,4 +208,7 @@ async def main() -> None:
 
 
 if __name__ == "__main__":
-    asyncio.run(main())
+    if sys.argv[1:2] == ["--within"]:
+        serve(sys.argv[2], sys.argv[3:])
+    else:
+        asyncio.run(main())

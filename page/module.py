@@ -1,6 +1,6 @@
 """The proved calls as a module of WebAssembly.
 
-platforms/build keeps the LLVM module from which the kit compiles the proved crate saga_c for
+platforms/build keeps the LLVM module of the proved crate saga_c, which the kit compiles for
 x86-64. The module is retargeted to wasm64 (retarget.py). The tools of the kit compile and link it
 with the heap of heap.c. Then it gets a memory of 32 bits (narrow.py). The proof covers the crate.
 It does not cover these steps and the compiler, which are tested against the program byte for byte.

@@ -39,16 +39,26 @@ END
 
 go_module() { (cd clients/go && go vet ./... && go test ./...); }
 
+java_jar() {
+  clients/java/build "$room/sagas.jar" || return
+  jar --list --file "$room/sagas.jar" >"$room/jar" && ! grep -v '^sagas/\|META-INF/\|LICENSE' "$room/jar" | grep '[.]class' || return
+  grep -q "$(sed -n 's|^  <version>\(.*\)</version>$|\"\1\"|p' clients/java/pom.xml)" crates/saga_tool/src/words.rt || {
+    echo 'clients/java/pom.xml has another version than the program'
+    return 1
+  }
+}
+
 (
   expect 'the package of Node' node_package
   if [ -f clients/go/go.mod ]; then
     expect 'gofmt -l clients/go' laid_out
     expect 'the module of Go' go_module
   fi
+  expect 'the jar of Java' java_jar
   exit "$wrong"
 ) &
 others=$!
-PYTHONPATH=python/src:python/tests:clients/contract timeout --kill-after=10 600 \
+PYTHONPATH=python/src:python/tests:clients/contract timeout --kill-after=10 900 \
   /usr/bin/python3 -m pytest -q -p no:cacheprovider --tb=short --rootdir=clients/contract -n 2 --dist loadgroup clients/contract || wrong=1
 wait "$others" || wrong=1
 [ "$wrong" = 0 ]

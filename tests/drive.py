@@ -1288,8 +1288,8 @@ class Conversation:
 def room(state):
     """Open sagas as long as the log has room for their ends, and again after one has ended.
 
-    The same holds after a kill and a restart. Shown lines count like those of a file. Without a log
-    there is no limit.
+    The same holds after a kill and a restart. Shown lines count like those of a file. Without a
+    log, nothing is limited.
     """
     definitions = [
         large(state, "long", 256, 255),

@@ -25,6 +25,8 @@ ELSEWHERE = {
 """Names of things outside of the tree."""
 EXAMPLES = ("style.md",)
 """Pages whose names are examples."""
+NOT_SOURCES = {"out", "env", ".venv"}
+"""Folders of a checkout with other files: what was built, and environments of Python."""
 
 
 class Tree:
@@ -55,7 +57,9 @@ class Tree:
 
 def walked(top: Path) -> list[str]:
     """Return the files of a tree without git."""
-    return [str(path.relative_to(top)) for path in top.rglob("*") if "out" not in path.parts]
+    return [
+        str(path.relative_to(top)) for path in top.rglob("*") if not NOT_SOURCES & {*path.parts}
+    ]
 
 
 def unknown(top: Path) -> Iterator[str]:

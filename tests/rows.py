@@ -317,9 +317,9 @@ def wrong(row: Row) -> str:
             run = run_row(row, arguments)
             look(row, run, paths, room)
         except (BadRow, KeyError, OSError, SyntaxError, NameError, TypeError) as error:
-            return f"wrong: {row.place}: {type(error).__name__}: {error}"
+            return f"wrong: {row.label}: {type(error).__name__}: {error}"
         faults = "\n  ".join(run.wrong)
-        return f"wrong: {row.place}\n  sagas {' '.join(arguments)}\n  {faults}" if faults else ""
+        return f"wrong: {row.label}\n  sagas {' '.join(arguments)}\n  {faults}" if faults else ""
 
 
 def files_of(names: list[str]) -> list[Path]:
@@ -346,7 +346,7 @@ def main(arguments: list[str]) -> int:
     try:
         program()
     except subprocess.CalledProcessError:
-        print("rows: there is no program")
+        print("rows: the program is missing")
         return 1
     rows = [row for row in every if row.keys.get("needs", mode) == mode]
     with ThreadPoolExecutor(os.cpu_count()) as pool:

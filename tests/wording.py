@@ -4,9 +4,8 @@
 Reads all Python, the OpenAPI document and the templates of the dashboard by the rules of
 docs/dev/style.md: names, docstrings, comments and messages, and lines of more than 100 columns. It
 prints `FILE:LINE: TEXT -> WHAT TO WRITE` and the counts of each folder. With `--counts` it prints
-only the counts and does not ask Black, with `--errors` only the findings in the folders of CLEAN.
-With paths it reads only the files there. Its status is 1 if a folder of CLEAN has a finding, or if
-Black would lay out a file differently.
+only the counts and does not ask Black. With paths it reads only the files there. Its status is 1 if
+there is a finding, or if Black would lay out a file differently.
 """
 
 from __future__ import annotations
@@ -27,29 +26,19 @@ from typing import NamedTuple
 
 import avoided
 
-CLEAN: tuple[str, ...] = (
-    "bench",
-    "build",
-    "docs",
-    "examples",
-    "library",
-    "page",
-    "platforms",
-    "python/src/sagas/cli",
-    "python/src/sagas/inspection",
-    "tests",
-)
-"""The folders, with those below them, and the files in which a finding is an error."""
-
 HERE = Path(__file__).resolve().parent
 EXCEPTIONS = HERE / "wording-exceptions.txt"
 OPENAPI = "python/src/sagas/server/openapi.json"
 TEMPLATES = "python/src/sagas/server/templates/"
 COLUMNS = 100
+NOT_SOURCES = {"out", "env", ".venv"}
+"""Folders of a checkout with other files: what was built, and environments of Python."""
 
 PART = re.compile(r"[A-Z]+(?![a-z])|[A-Z]?[a-z]+")
 CODE = re.compile(r"`[^`]*`")
-SQL = re.compile(r"\s*(?:SELECT|INSERT|UPDATE|DELETE|WITH|CREATE|ALTER|DROP|PRAGMA|COPY|VALUES)\b")
+SQL = re.compile(
+    r"\s*(?:SELECT|INSERT|UPDATE|DELETE|WITH|CREATE|ALTER|DROP|PRAGMA|COPY|VALUES|CASE)\b"
+)
 JSON_TEXT = re.compile(r'^\s*"(?:title|summary|description)": "(.*)",?$')
 MARKUP = re.compile(
     r"<(script|style)\b.*?</\1>|\{%.*?%\}|\{\{.*?\}\}|\{#.*?#\}|<[^>]*>|&\w+;", re.S
@@ -199,7 +188,9 @@ def tracked(top: Path) -> list[str]:
     if done.returncode == 0:
         files = done.stdout.splitlines()
     else:
-        files = [str(path.relative_to(top)) for path in top.rglob("*") if "out" not in path.parts]
+        files = [
+            str(path.relative_to(top)) for path in top.rglob("*") if not NOT_SOURCES & {*path.parts}
+        ]
     return sorted(file for file in files if (top / file).is_file())
 
 
@@ -233,7 +224,6 @@ def main(arguments: list[str]) -> int:
     """Check the files, print what is wrong, and return the exit status."""
     parser = argparse.ArgumentParser(description=str(__doc__).partition("\n")[0])
     parser.add_argument("--counts", action="store_true", help="print only the counts")
-    parser.add_argument("--errors", action="store_true", help="print only what is an error")
     parser.add_argument("--root", type=Path, default=HERE.parent, help="the checkout to read")
     parser.add_argument("paths", nargs="*", help="folders and files to read (default: all)")
     options = parser.parse_args(arguments)
@@ -249,16 +239,15 @@ def main(arguments: list[str]) -> int:
     for file in others:
         findings += wrong_in(file, (top / file).read_text(encoding="utf-8"), rules)
     unlaid = [] if options.counts else unformatted(top, python)
-    errors = [finding for finding in findings if is_below(finding.file, CLEAN)]
-    shown = [] if options.counts else errors if options.errors else findings
+    shown = [] if options.counts else findings
     for file, line, text, instead in sorted(shown):
         print(f"{file}:{line}: {text} -> {instead}")
     for folder, count in sorted(Counter(folder_of(finding.file) for finding in findings).items()):
         print(f"{count:6} {folder}")
     print("".join(f"{notice}\n" for notice in unlaid), end="")
     read = len(python) + len(others)
-    print(f"wording: {read} files, {len(findings)} findings, {len(errors)} of them errors")
-    return 1 if errors or unlaid else 0
+    print(f"wording: {read} files, {len(findings)} findings")
+    return 1 if findings or unlaid else 0
 
 
 if __name__ == "__main__":

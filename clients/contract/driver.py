@@ -55,7 +55,7 @@ class Driver:
 
     def do_start(self, definition: str, key: str, **options: Any) -> Json:
         run = self.calls.start(definition, key, **options)
-        return {"key": run.key, "new": run.new}
+        return {"key": run.key, "version": run.version, "new": run.new}
 
     def do_get(self, key: str) -> Json:
         if (saga := self.calls.get(key)) is None:
@@ -77,8 +77,33 @@ class Driver:
         return {}
 
     def do_list(self, page: int, definition: str | None = None, **filters: Any) -> Json:
-        listed = self.calls.list(page_size=page, saga=definition, **filters)
-        return {"keys": [one.key for one in listed]}
+        listed = [*self.calls.list(page_size=page, saga=definition, **filters)]
+        versions = [summary.version for summary in listed]
+        return {"keys": [summary.key for summary in listed], "versions": versions}
+
+    def do_decisions(self, page: int, definition: str | None = None, **filters: Any) -> Json:
+        names = ("number", "by", "via", "note", "subject")
+        listed = self.calls.decisions(page_size=page, saga=definition, **filters)
+        decisions = [
+            {
+                **{name: getattr(entry, name) for name in names},
+                "decision": entry.command,
+                "bulk": entry.is_bulk,
+                "at": entry.at > 0,
+                "sagas": [
+                    {
+                        "key": saga.key,
+                        "definition": saga.saga,
+                        "step": saga.step,
+                        "undo": saga.undo,
+                        "answer": saga.answer,
+                    }
+                    for saga in entry.sagas
+                ],
+            }
+            for entry in listed
+        ]
+        return {"decisions": decisions}
 
     def do_events(self, key: str | None = None, definition: str | None = None) -> Json:
         events = self.calls.events(key=key, saga=definition).open()
@@ -123,15 +148,25 @@ class Driver:
         wait: float,
         quiet: bool = False,
     ) -> Json:
-        one = sagas.Worker(url, token, concurrency=concurrency, lease=lease, wait=wait, name=worker)
+        sagas_worker = sagas.Worker(
+            url,
+            token,
+            concurrency=concurrency,
+            lease=lease,
+            wait=wait,
+            name=worker,
+            shutdown_timeout=PATIENCE,
+        )
         for step in steps:
             saga, _, name = step.partition("/")
             undo, name = name.endswith("/undo"), name.removesuffix("/undo")
-            declare = one.compensation if undo else one.step
+            declare = sagas_worker.compensation if undo else sagas_worker.step
             declare(saga, name)(self.play(worker, step, quiet))
         faults: list[Exception] = []
-        thread = threading.Thread(target=self.work, args=(worker, one, faults), daemon=True)
-        self.workers[worker] = one, thread, faults
+        thread = threading.Thread(
+            target=self.work, args=(worker, sagas_worker, faults), daemon=True
+        )
+        self.workers[worker] = sagas_worker, thread, faults
         thread.start()
         return {}
 
@@ -145,8 +180,8 @@ class Driver:
             self.say({"note": "worker_ended", "worker": name, "error": error})
 
     def do_stop(self, worker: str) -> Json:
-        one, thread, faults = self.workers.pop(worker)
-        one.stop()
+        sagas_worker, thread, faults = self.workers.pop(worker)
+        sagas_worker.stop()
         thread.join()
         if faults:
             raise faults[0]
@@ -177,11 +212,11 @@ class Driver:
                         **item_of(task),
                     }
                 )
-            given = task.input
-            if not isinstance(given, dict) or "script" not in given:
-                return given
+            value = task.input
+            if not isinstance(value, dict) or "script" not in value:
+                return value
             action = f"{task.step}/undo" if task.is_compensation else task.step
-            outcomes = given["script"].get(action, ["ok"])
+            outcomes = value["script"].get(action, ["ok"])
             with self.lock:
                 count = self.counts[task.key, action]
                 self.counts[task.key, action] += 1
@@ -200,7 +235,7 @@ class Driver:
             case "fail":
                 raise sagas.Fail("no")
             case "retry":
-                raise ValueError("not yet")
+                raise sagas.Retry("not yet")
             case "unknown":
                 raise sagas.Unknown("who knows")
             case "throw":
@@ -236,7 +271,7 @@ class Driver:
                 raise sagas.Fail("no") if word == "hold" else sagas.Unknown("who knows")
 
 
-NAMES = "key", "phase", "over", "aborted", "input", "states", "results", "errors"
+NAMES = "key", "version", "phase", "over", "aborted", "input", "states", "results", "errors"
 
 
 def saga_of(saga: sagas.ServiceSaga) -> Json:

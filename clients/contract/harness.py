@@ -19,6 +19,14 @@ from typing import Any
 
 TOP = pathlib.Path(__file__).resolve().parents[2]
 LONG = 60.0
+JACKSON = "/usr/share/java/jackson"
+QUICK = ["-XX:TieredStopAtLevel=1", "-XX:+UseSerialGC"]
+"""Options of a JVM that runs for seconds."""
+WARM = """{"id": 1, "do": "open", "url": "http://127.0.0.1:9", "token": null}
+{"id": 2, "do": "get", "key": ""}
+{"id": 3, "do": "end"}
+"""
+"""What Java's driver does once, so that its classes are archived."""
 Json = dict[str, Any]
 
 
@@ -31,11 +39,13 @@ class Refused(Exception):
 
 
 def command_of(language: str, room: pathlib.Path) -> list[str]:
-    """Return the command that starts a language's driver; Go's is built first."""
+    """Return the command that starts a language's driver; those of Go and Java are built first."""
     if language == "python":
         return [sys.executable, str(TOP / "clients/contract/driver.py")]
     if language == "node":
         return ["node", str(TOP / "clients/node/contract/driver.mjs")]
+    if language == "java":
+        return java_command(room)
     program = room / "driver"
     cache = {"GOCACHE": os.environ.get("GOCACHE", str(room / "cache")), "GOFLAGS": "-mod=mod"}
     build = ["go", "build", "-o", str(program), "./internal/contractdriver"]
@@ -43,10 +53,37 @@ def command_of(language: str, room: pathlib.Path) -> list[str]:
     return [str(program)]
 
 
+def java_command(room: pathlib.Path) -> list[str]:
+    """Build the driver with the client, and return the command: one that starts quickly."""
+    java = ["java", *QUICK, "-cp"]
+    java += [java_classes(room, TOP / "clients/java/contract/ContractDriver.java")]
+    archive = room / "driver.jsa"
+    archived = [*java, f"-XX:ArchiveClassesAtExit={archive}", "ContractDriver"]
+    subprocess.run(archived, input=WARM.encode(), check=True, timeout=240, capture_output=True)
+    return [*java, f"-XX:SharedArchiveFile={archive}", "ContractDriver"]
+
+
+def java_classes(room: pathlib.Path, program: pathlib.Path) -> str:
+    """Build a program with the client of Java, and return its class path."""
+    jar, classes = room / "program.jar", room / "classes"
+    jackson = [f"{JACKSON}-{part}.jar" for part in ("annotations", "core", "databind")]
+    paths = os.pathsep.join([str(jar), *jackson])
+    sources = [*(TOP / "clients/java/src/main/java/sagas").glob("*.java"), program]
+    compiler = ["javac", *(f"-J{option}" for option in QUICK), "-cp", paths, "-d", str(classes)]
+    for build in (
+        [*compiler, *map(str, sources)],
+        ["jar", "--create", "--file", str(jar), "-C", str(classes), "."],
+    ):
+        subprocess.run(build, check=True, timeout=240)
+    return paths
+
+
 def languages() -> list[str]:
     """Return the languages that are requested and installed."""
-    wanted = os.environ.get("SAGAS_CLIENTS", "python,node,go").split(",")
-    return [one for one in wanted if one != "go" or (TOP / "clients/go/go.mod").exists()]
+    wanted = os.environ.get("SAGAS_CLIENTS", "python,node,go,java").split(",")
+    return [
+        language for language in wanted if language != "go" or (TOP / "clients/go/go.mod").exists()
+    ]
 
 
 @contextlib.contextmanager
@@ -134,7 +171,7 @@ class Driver:
 
         def enough() -> bool:
             wanted = {"note": note, **fields}
-            matches[:] = [one for one in self.notes if wanted.items() <= one.items()]
+            matches[:] = [note for note in self.notes if wanted.items() <= note.items()]
             return len(matches) >= count
 
         with self._changed:
@@ -150,7 +187,7 @@ class Driver:
         """Return the calls of a step of a saga up to now."""
         with self._changed:
             wanted = {"note": "called", "key": key, "name": name}
-            return [one for one in self.notes if wanted.items() <= one.items()]
+            return [note for note in self.notes if wanted.items() <= note.items()]
 
     def error_output(self) -> str:
         """Return what the driver wrote to its standard error."""

@@ -48,9 +48,13 @@ ship.compensation(external=True)
 order.step(external=True, name="mail", needs=[ship], undo=0)
 fair = sagas.Saga("fair")
 fair.include(order, name="stall", given=lambda task: {"from": task.key})
-store = sagas.open("unused.db", [order, fair])
+def lease(version):
+    saga = sagas.Saga("lease", version=version)
+    saga.step(external=True, name="sign", undo=0)
+    return saga
+store = sagas.open("unused.db", [order, fair, lease(1), lease(2)])
 """
-"""Sagas whose steps come from their input."""
+"""Sagas whose steps come from their input, and two versions of one."""
 ITEMS = [
     "order/ship",
     "order/ship/undo",
@@ -90,7 +94,7 @@ def command() -> Iterator[Made]:
 @pytest.fixture(
     scope="module",
     params=[
-        pytest.param(one, marks=pytest.mark.xdist_group(one)) for one in ("sqlite", "postgresql")
+        pytest.param(kind, marks=pytest.mark.xdist_group(kind)) for kind in ("sqlite", "postgresql")
     ],
 )
 def service(
@@ -106,11 +110,12 @@ def service(
             server = stack.enter_context(serving())
             url = server.create()
         (folder / "shop.py").write_text(SHOP)
-        options = ("--token-file", str(folder / "tokens.toml"), "--app", "shop:store")
-        one = Served(folder, DEFINITIONS, *options, store=url)
-        one.start()
-        stack.callback(one.kill)
-        yield one
+        options = ["--token-file", str(folder / "tokens.toml"), "--app", "shop:store"]
+        options += ["--log-level", "debug"]  # it shows heartbeats and claims
+        service = Served(folder, DEFINITIONS, *options, store=url)
+        service.start()
+        stack.callback(service.kill)
+        yield service
 
 
 @pytest.fixture(scope="module")
@@ -128,10 +133,10 @@ def language(request: pytest.FixtureRequest) -> str:
 def driver(service: Served, operator: str, language: str, command: Made) -> Iterator[Driver]:
     """Run a driver with a worker, for many cases."""
     with contextlib.ExitStack() as stack:
-        one = driven(stack, service, operator, language, command)
-        work(one, service.url, operator, "main")
-        yield one
-        one.end()
+        driver = driven(stack, service, operator, language, command)
+        work(driver, service.url, operator, "main")
+        yield driver
+        driver.end()
 
 
 @pytest.fixture
@@ -144,10 +149,10 @@ def make(service: Served, operator: str, language: str, command: Made) -> Iterat
 def driven(
     stack: contextlib.ExitStack, service: Served, operator: str, language: str, command: Made
 ) -> Driver:
-    one = Driver(command(language))
-    stack.callback(one.kill)
-    assert one.ask("open", url=service.url, token=operator) == {"language": language}
-    return one
+    driver = Driver(command(language))
+    stack.callback(driver.kill)
+    assert driver.ask("open", url=service.url, token=operator) == {"language": language}
+    return driver
 
 
 def work(
@@ -171,12 +176,13 @@ def script(*outcomes: str, **more: list[str]) -> Json:
     }
 
 
-def played(driver: Driver, given: Any, key: str | None = None) -> Json:
+def played(driver: Driver, value: Any, key: str | None = None) -> Json:
     """Run a saga of `pair` from its start to its end."""
     key = key or fresh()
-    assert driver.ask("start", definition="pair", key=key, input=given) == {"key": key, "new": True}
+    started = driver.ask("start", definition="pair", key=key, input=value)
+    assert started == {"key": key, "version": 1, "new": True}
     end: Json = driver.ask("wait", key=key, timeout=LONG)
-    assert end["over"] and end["key"] == key and end["input"] == given
+    assert end["over"] and end["key"] == key and end["input"] == value
     return end
 
 
@@ -205,18 +211,20 @@ def test_outcomes(driver: Driver, language: str) -> None:
         ),
     }
     keys = {name: fresh("outcome") for name in cases}
-    for name, (given, *_) in cases.items():
-        driver.ask("start", definition="pair", key=keys[name], input=given)
+    for name, (value, *_) in cases.items():
+        driver.ask("start", definition="pair", key=keys[name], input=value)
     for name, (_, phase, of_a, of_b, of_undo) in cases.items():
         key, end = keys[name], driver.ask("wait", key=keys[name], timeout=LONG)
         called = [driver.calls(key, step) for step in ("pair/a", "pair/b", "pair/a/undo")]
         assert (end["phase"], *map(len, called)) == (phase, of_a, of_b, of_undo), (name, end)
         for calls in called:
-            assert len({one["idempotency_key"] for one in calls}) == min(1, len(calls)), name
+            assert len({call["idempotency_key"] for call in calls}) == min(1, len(calls)), name
         if of_b:
             assert called[1][0]["results"] == {"a": None if name == "nothing" else {"done": "a"}}
         if of_undo:
-            assert all(one["undo"] and one["result"] == {"done": "a"} for one in called[2])
+            assert all(
+                attempt["undo"] and attempt["result"] == {"done": "a"} for attempt in called[2]
+            )
             assert end["states"] == {"a": "undone", "b": "failed"} and end["results"] == {}
         if name == "fail":
             assert end["states"]["a"] == "failed" and "no" in end["errors"]["a"]
@@ -264,8 +272,10 @@ def test_items(driver: Driver, service: Served, operator: str) -> None:
     order = {"script": {"ship-0": ["ok"], "mail": ["fail"]}, "parcels": [{"to": "Rome"}, 7]}
     assert driver.ask("start", definition="order", key=listed, input=order)["new"]
     assert driver.ask("wait", key=listed, timeout=LONG)["phase"] == "recovered"
-    calls = {one["step"]: one for one in driver.calls(listed, "order/ship")}
-    assert {(one["declared_step"], one["index"], one["item_key"]) for one in calls.values()} == {
+    calls = {call["step"]: call for call in driver.calls(listed, "order/ship")}
+    assert {
+        (call["declared_step"], call["index"], call["item_key"]) for call in calls.values()
+    } == {
         ("ship", 0, None),
         ("ship", 1, None),
     }
@@ -286,16 +296,21 @@ def test_items(driver: Driver, service: Served, operator: str) -> None:
     assert driver.ask("start", definition="order", key=keyed, input=order)["new"]
     assert driver.ask("wait", key=keyed, timeout=LONG)["phase"] == "recovered"
     items = {
-        (one["index"], one["item_key"]): one["item"] for one in driver.calls(keyed, "order/ship")
+        (call["index"], call["item_key"]): call["item"]
+        for call in driver.calls(keyed, "order/ship")
     }
     assert items == {(0, "a b"): 1, (1, "c/ü"): [2]}
     assert driver.ask("start", definition="fair", key=fair, input={"script": {}, "parcels": ["x"]})[
         "new"
     ]
     assert driver.ask("wait", key=fair, timeout=LONG)["phase"] == "completed"
-    (one,) = driver.calls(fair, "fair/stall/ship")
-    assert (one["step"], one["declared_step"], one["item"]) == ("stall-ship-0", "stall/ship", "x")
-    assert one["given"] == {"from": fair}
+    (call,) = driver.calls(fair, "fair/stall/ship")
+    assert (call["step"], call["declared_step"], call["item"]) == (
+        "stall-ship-0",
+        "stall/ship",
+        "x",
+    )
+    assert call["given"] == {"from": fair}
     driver.ask("stop", worker="items")
 
 
@@ -303,17 +318,17 @@ def test_inputs(driver: Driver) -> None:
     """A value is the same as input, as result, and in the results that the next step needs."""
     keys = [fresh("odd/ü %\U0001f600") for _ in ODD]
     for key, value in zip(keys, ODD):
-        given = {"script": {"a": ["echo"], "b": ["echo"]}, "value": value}
-        driver.ask("start", definition="pair", key=key, input=given)
-        assert not driver.ask("start", definition="pair", key=key, input=given)["new"]
+        order = {"script": {"a": ["echo"], "b": ["echo"]}, "value": value}
+        driver.ask("start", definition="pair", key=key, input=order)
+        assert not driver.ask("start", definition="pair", key=key, input=order)["new"]
     for key, value in zip(keys, ODD):
         end = driver.ask("wait", key=key, timeout=LONG)
         assert end["results"] == {"a": value, "b": value} and end["input"]["value"] == value, key
         assert json.dumps(end["results"]["a"]) == json.dumps(value)
         assert driver.calls(key, "pair/b")[0]["results"] == {"a": value}
-    for given in (None, 7, "text", [1]):
-        end = played(driver, given)
-        assert end["results"] == {"a": given, "b": given}
+    for value in (None, 7, "text", [1]):
+        end = played(driver, value)
+        assert end["results"] == {"a": value, "b": value}
 
 
 def test_trace_contexts(driver: Driver) -> None:
@@ -322,18 +337,18 @@ def test_trace_contexts(driver: Driver) -> None:
     The client refuses an invalid one before it sends anything.
     """
     trace = "00-0af7651916cd43dd8448eb211c80319c-b7ad6b7169203331-01"
-    given = script("ok", b=["fail"])
+    value = script("ok", b=["fail"])
     for header in (trace, None):
         key, more = fresh("trace"), {} if header is None else {"traceparent": header}
-        driver.ask("start", definition="pair", key=key, input=given, **more)
+        driver.ask("start", definition="pair", key=key, input=value, **more)
         assert driver.ask("wait", key=key, timeout=LONG)["phase"] == "recovered"
-        calls = [one for step in STEPS for one in driver.calls(key, step)]
-        assert [one["traceparent"] for one in calls] == [header] * 3
+        calls = [call for step in STEPS for call in driver.calls(key, step)]
+        assert [call["traceparent"] for call in calls] == [header] * 3
     for wrong in ("00-1", trace.replace("0af7", "0AF7"), f"ff{trace[2:]}", f"{trace}\r\nx: y"):
         arguments = {
             "definition": "pair",
             "key": fresh("trace"),
-            "input": given,
+            "input": value,
             "traceparent": wrong,
         }
         assert driver.refused("start", **arguments) == "InvalidArgument"
@@ -394,8 +409,8 @@ def test_callers(driver: Driver, service: Served) -> None:
     assert ask("wait", key=aborted, timeout=LONG)["aborted"]
 
     rest = [fresh("listed") for _ in range(5)]
-    for one in rest:
-        ask("start", definition="asked", key=one, input=None, labels=labels)
+    for listed in rest:
+        ask("start", definition="asked", key=listed, input=None, labels=labels)
     assert (
         ask("list", page=2, definition="asked", labels=labels, phase="open")["keys"] == rest[::-1]
     )
@@ -403,6 +418,50 @@ def test_callers(driver: Driver, service: Served) -> None:
     assert ask("list", page=100, search=rest[0])["keys"] == [rest[0]]
     assert ask("list", page=100, labels={"customer": "nobody"})["keys"] == []
     assert refused("list", page=0) in ("InvalidRequest", "InvalidArgument")
+
+
+def test_decisions(driver: Driver) -> None:
+    """A caller lists who decided what, page by page, with each filter."""
+    ask, keys = driver.ask, [fresh("decided") for _ in range(3)]
+    for key in keys:
+        ask("start", definition="asked", key=key, input=None)
+        ask("complete", key=key, step="sign", result=1, note=f"ünusual {key}")
+        ask("wait", key=key, timeout=LONG)
+    ask("start", definition="asked", key=keys[0] + "-2", input=None)
+    ask("abort", key=keys[0] + "-2")
+    for page in (1, 100):
+        listed = ask("decisions", page=page, definition="asked", decision="complete")["decisions"]
+        decided = [entry for entry in listed if entry["sagas"][0]["key"] in keys]
+        assert [entry["note"] for entry in decided] == [f"ünusual {key}" for key in keys[::-1]]
+        assert [entry["number"] for entry in listed] == sorted(
+            (entry["number"] for entry in listed), reverse=True
+        )
+    (entry,) = ask("decisions", page=10, key=keys[0])["decisions"]
+    saga = {"key": keys[0], "definition": "asked", "step": "sign", "undo": False, "answer": "done"}
+    assert entry["sagas"] == [saga] and entry["at"] and entry["via"] == "http"
+    assert not entry["bulk"] and entry["subject"] is None and entry["by"]
+    (entry,) = ask("decisions", page=10, key=keys[0] + "-2", decision="abort")["decisions"]
+    assert entry["sagas"][0]["step"] is None and entry["note"] is None
+    assert ask("decisions", page=10, key="none")["decisions"] == []
+    assert driver.refused("decisions", page=10, decision="none") in (
+        "InvalidRequest",
+        "InvalidArgument",
+    )
+
+
+def test_versions(driver: Driver) -> None:
+    """The version of a saga is asked for, and shown. A key keeps the version that it has."""
+    ask, refused = driver.ask, driver.refused
+    old, new, labels = fresh("version"), fresh("version"), {"run": fresh("v")}
+    start = {"definition": "lease", "key": old, "input": None, "labels": labels}
+    assert ask("start", **start, version=1)["version"] == 1
+    assert ask("start", **start) == {"key": old, "version": 1, "new": False}
+    assert ask("start", **start | {"key": new}) == {"key": new, "version": 2, "new": True}
+    assert refused("start", **start, version=2) == "KeyConflict"
+    assert refused("start", **start | {"key": fresh()}, version=3) == "NoSuchDefinition"
+    assert (ask("get", key=old)["version"], ask("get", key=new)["version"]) == (1, 2)
+    listed = ask("list", page=1, labels=labels)
+    assert listed == {"keys": [new, old], "versions": [2, 1]}
 
 
 def test_rights(make: Make, service: Served, tokens: dict[str, str]) -> None:
@@ -419,13 +478,13 @@ def test_rights(make: Make, service: Served, tokens: dict[str, str]) -> None:
     key = fresh()
     assert driver.ask("start", definition="asked", key=key, input=None)["new"]
     assert driver.refused("complete", key=key, step="sign", result=None) == "Forbidden"
-    for name, given in {
+    for name, value in {
         "wrong": "sagas_wrong",
         "none": None,
         "caller": caller,
         "weak": weak,
     }.items():
-        work(driver, url, given, name)
+        work(driver, url, value, name)
         (ended,) = driver.heard("worker_ended", worker=name)
         assert ended["error"]["name"] == (
             "Forbidden" if name in ("caller", "weak") else "Unauthorized"
@@ -463,12 +522,12 @@ def test_events(make: Make, service: Served) -> None:
     driver.ask("complete", key=key, step="sign", result=1)
 
     def names() -> list[str]:
-        return [one["event"]["name"] for one in driver.notes if one["note"] == "event"]
+        return [note["event"]["name"] for note in driver.notes if note["note"] == "event"]
 
     while "saga_ended" not in names():
         driver.heard("event", len(names()) + 1)
     assert names()[0] == "saga_started" and names()[-1] == "saga_ended"
-    assert {one["event"]["key"] for one in driver.heard("event")} == {key}
+    assert {event["event"]["key"] for event in driver.heard("event")} == {key}
     driver.ask("events_stop")
 
 
@@ -507,7 +566,7 @@ def test_lost_answers(make: Make, service: Served, operator: str) -> None:
     with relaying(int(port), host=host) as relay:
         driver, url = make(), f"http://127.0.0.1:{relay.port}"
         driver.ask("open", url=url, token=operator)
-        for word, given in {
+        for word, value in {
             "/v1/sagas HTTP": script("ok"),
             "/complete": script("ok"),
             "/fail": script("retry", "ok"),
@@ -518,11 +577,11 @@ def test_lost_answers(make: Make, service: Served, operator: str) -> None:
             relay.mark = word.encode() if word == "/v1/sagas HTTP" else None
             work(driver, url, operator, key, steps=SOLO, lease=3, wait=1)
             relay.mark = word.encode()
-            driver.ask("start", definition="solo", key=key, input=given)
+            driver.ask("start", definition="solo", key=key, input=value)
             end = driver.ask("wait", key=key, timeout=LONG)
             assert end["results"] == DONE and relay.mark is None, word
             assert len(driver.calls(key, "solo/a")) == (
-                2 if "ok" in given["script"]["a"][1:] else 1
+                2 if "ok" in value["script"]["a"][1:] else 1
             ), word
             driver.ask("stop", worker=key)
 
@@ -560,15 +619,15 @@ def test_lost_lease(make: Make, service: Served, operator: str) -> None:
     driver = make()
     work(driver, service.url, operator, "w", steps=["solo/a"], lease=1, concurrency=2)
     key, done = fresh("lease"), fresh("lease")
-    for one, word in ((key, "hold"), (done, "deaf")):
-        driver.ask("start", definition="solo", key=one, input=script(word))
-    for one in (key, done):
-        driver.heard("called", key=one)
+    for saga_key, word in ((key, "hold"), (done, "deaf")):
+        driver.ask("start", definition="solo", key=saga_key, input=script(word))
+    for saga_key in (key, done):
+        driver.heard("called", key=saga_key)
     with service.client(operator) as client:
         with driver.paused():
             tasks = {}
             while len(tasks) < 2:
-                tasks |= {one["key"]: one for one in take(client, "solo/a", lease=LONG, most=2)}
+                tasks |= {task["key"]: task for task in take(client, "solo/a", lease=LONG, limit=2)}
         driver.heard("canceled", key=key, why="lease")
         # `complete` counts under any lease that was issued
         driver.ask("release", key=done, step="a")
@@ -577,13 +636,13 @@ def test_lost_lease(make: Make, service: Served, operator: str) -> None:
         assert report(client, tasks[key], result={"done": "a"}).status_code == 200
         rest = {}
         while len(rest) < 2:
-            rest |= {one["key"]: one for one in take(client, "solo/b", most=2)}
+            rest |= {task["key"]: task for task in take(client, "solo/b", limit=2)}
         answer = report(client, tasks[done], result={"done": "another"})
         assert answer.status_code == 409 and error_of(answer) in ("ConflictingReport", "LeaseLost")
         for b in rest.values():
             assert report(client, b, result={"done": "b"}).status_code == 200
-    for one in (key, done):
-        assert driver.ask("wait", key=one, timeout=LONG)["results"] == DONE
+    for saga_key in (key, done):
+        assert driver.ask("wait", key=saga_key, timeout=LONG)["results"] == DONE
     driver.ask("stop", worker="w")
 
 
@@ -722,7 +781,7 @@ def test_long_functions_and_a_stop(make: Make, service: Served, operator: str) -
         stopped = driver.send("stop", worker="w")
         released: set[str] = set()
         while released != set(keys[1:]):
-            for task in take(client, "solo/a", most=2):
+            for task in take(client, "solo/a", limit=2):
                 assert report(client, task, result={"done": "a"}).status_code == 200
                 released.add(task["key"])
         assert not stopped.done()

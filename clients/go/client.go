@@ -81,7 +81,8 @@ func WithDeadline(after time.Duration) StartOption {
 	}
 }
 
-// WithVersion starts this version of the definition (default: the newest).
+// WithVersion starts this version of the definition (default: the newest for a new saga, and any for
+// an existing one).
 func WithVersion(version int) StartOption {
 	return func(s *start) { s.Version = &version }
 }
@@ -109,8 +110,8 @@ func (s *start) header() (http.Header, error) {
 
 // Start starts a saga, or finds the one that has the key. When it returns, the saga is stored.
 //
-// The input is any value that encoding/json writes. If the key has another definition or input, the
-// error is ErrKeyConflict. If the service has no such definition, it is ErrNoSuchDefinition.
+// The input is any value that encoding/json writes. If the key has another definition, version or
+// input, the error is ErrKeyConflict. If the service has no such definition, it is ErrNoSuchDefinition.
 func Start[In any](ctx context.Context, c *Client, definition, key string, input In, options ...StartOption) (Started, error) {
 	asked := start{Definition: definition, Key: key, Input: input}
 	for _, option := range options {
@@ -362,7 +363,7 @@ func (c *Client) History(ctx context.Context, key string) ([]HistoryEvent, error
 // HistoryEvent is what happened to a saga. Event is "note" for what a person did.
 type HistoryEvent struct {
 	Event string          `json:"event"`
-	At    time.Time       `json:"at_at"`
+	At    time.Time       `json:"time"`
 	Step  string          `json:"step"`
 	Value json.RawMessage `json:"value"`
 }

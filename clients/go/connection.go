@@ -51,7 +51,8 @@ func WithToken(token string) Option {
 	return func(s *settings) { s.token = token }
 }
 
-// WithServices adds services over the same database. If one does not answer, the next one is asked.
+// WithServices adds services over the same database. A client or worker begins with a random one of
+// all, and stays there while it answers. If one does not answer, the next one is asked.
 func WithServices(urls ...string) Option {
 	return func(s *settings) { s.services = append(s.services, urls...) }
 }
@@ -84,6 +85,7 @@ type connection struct {
 func newConnection(address string, s settings) (*connection, error) {
 	c := &connection{settings: s}
 	c.services = append([]string{address}, s.services...)
+	c.first = rand.Intn(len(c.services)) // many clients spread over them
 	for at, one := range c.services {
 		parsed, err := url.Parse(one)
 		if err != nil || (parsed.Scheme != "http" && parsed.Scheme != "https") || parsed.Host == "" {
@@ -219,9 +221,9 @@ func (c *connection) ask(ctx context.Context, service string, r request) (body [
 
 // bare leaves out the address and the method, which are said elsewhere.
 func bare(err error) error {
-	var told *url.Error
-	if errors.As(err, &told) {
-		return told.Err
+	var wrapped *url.Error
+	if errors.As(err, &wrapped) {
+		return wrapped.Err
 	}
 	return err
 }

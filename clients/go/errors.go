@@ -89,6 +89,7 @@ const (
 	ErrConflictingReport    ProblemName = "ConflictingReport"
 	ErrSagaOver             ProblemName = "SagaOver"
 	ErrNotAbortable         ProblemName = "NotAbortable"
+	ErrNotRestartable       ProblemName = "NotRestartable"
 	ErrCountChanged         ProblemName = "CountChanged"
 	ErrInvalidLease         ProblemName = "InvalidLease"
 	ErrNoSuchTask           ProblemName = "NoSuchTask"
@@ -120,6 +121,9 @@ const (
 var (
 	// ErrNoResult means that a step has no result that is in effect.
 	ErrNoResult = errors.New("sagas: no result")
+	// ErrStepFailed means that a task needs an optional step, and that the step has failed. The text
+	// has what it raised.
+	ErrStepFailed = errors.New("sagas: step failed")
 	// ErrCannotDecode means that the codec or the blob store of WithCodec and WithBlobs cannot read a
 	// value.
 	ErrCannotDecode = errors.New("sagas: cannot decode")
@@ -157,10 +161,10 @@ func kindOf(status int) ErrorKind {
 
 // problemOf reads an answer that is not a success.
 func problemOf(status int, body []byte) *Problem {
-	var told document
-	if json.Unmarshal(body, &told) == nil && strings.HasPrefix(told.Type, problemPrefix) {
-		told.Status = status
-		return told.problem()
+	var parsed document
+	if json.Unmarshal(body, &parsed) == nil && strings.HasPrefix(parsed.Type, problemPrefix) {
+		parsed.Status = status
+		return parsed.problem()
 	}
 	return &Problem{Status: status, Detail: strings.ToValidUTF8(string(body[:least(len(body), 500)]), "?")}
 }

@@ -232,7 +232,7 @@ func (s *EventStream) read() (*Event, error) {
 func (s *EventStream) block() (*Event, error) {
 	var name string
 	var data strings.Builder
-	id, told := s.last, false
+	id, reported := s.last, false
 	for {
 		line, err := s.lines.ReadString('\n')
 		if err != nil {
@@ -241,7 +241,7 @@ func (s *EventStream) block() (*Event, error) {
 		line = strings.TrimRight(line, "\r\n")
 		if line == "" {
 			s.last = id
-			if told {
+			if reported {
 				return eventOf(name, id, data.String()), nil
 			}
 			return nil, nil
@@ -254,11 +254,11 @@ func (s *EventStream) block() (*Event, error) {
 		case "id":
 			id = value
 		case "data":
-			if told {
+			if reported {
 				data.WriteByte('\n')
 			}
 			data.WriteString(value)
-			told = true
+			reported = true
 		}
 	}
 }

@@ -204,9 +204,30 @@ func TestNextServiceHearsOfATask(t *testing.T) {
 	}
 	car := func(context.Context) any { <-renewed; return 7 }
 	first, second := serve(t, answer(0)), serve(t, answer(1))
-	ends(t, func() error {
-		return worker(t, first, car, WithServices(second), WithLease(600*time.Millisecond)).Run(ctx)
-	})
+	made := worker(t, first, car, WithServices(second), WithLease(600*time.Millisecond))
+	made.conn.first = 0 // it has the task
+	ends(t, func() error { return made.Run(ctx) })
+}
+
+// Clients begin with any of their services, and ask the next one in order.
+func TestClientsSpreadOverServices(t *testing.T) {
+	urls := []string{"http://a", "http://b", "http://c"}
+	begun := map[string]bool{}
+	for count := 0; count < 1000 && len(begun) < len(urls); count++ {
+		client, err := NewClient(urls[0], WithServices(urls[1:]...))
+		if err != nil {
+			t.Fatal(err)
+		}
+		at := client.conn.first
+		begun[client.conn.url()] = true
+		client.conn.turnFrom(urls[at])
+		if next := client.conn.url(); next != urls[(at+1)%len(urls)] {
+			t.Errorf("after %s it asks %s", urls[at], next)
+		}
+	}
+	if len(begun) != len(urls) {
+		t.Errorf("only %v", begun)
+	}
 }
 
 func TestTimeoutsOfReports(t *testing.T) {
@@ -327,6 +348,7 @@ func TestStopEndsAClaim(t *testing.T) {
 			other := serve(t, func(one asked) string { t.Error(one.word); return "{}" })
 			made := worker(t, service.URL, func(context.Context) any { return nil }, WithName("ann"), WithToken("s3cret"),
 				WithServices(other), WithLogger(logger(func(text string) { t.Error(text) })))
+			made.conn.first = 0
 			ends(t, func() error { return made.Run(ctx) })
 			if atomic.LoadInt32(&claims) != 2 || made.conn.url() != service.URL {
 				t.Error(claims, made.conn.url())
@@ -467,6 +489,7 @@ func TestNextServiceIsAskedForEvents(t *testing.T) {
 					return fmt.Errorf("alone: %v", err)
 				}
 				client, _ = NewClient(bad, WithServices(good), timeout, quietly)
+				client.conn.first = 0
 				for {
 					events, err := client.Events(context.Background(), EventFilter{})
 					if err == nil {

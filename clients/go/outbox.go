@@ -121,18 +121,18 @@ func (r *run) together(ctx context.Context, batch []taskReport, next *claim) ([]
 	if err != nil {
 		return batch, nil, err
 	}
-	var told struct {
+	var reply struct {
 		Reports []struct {
 			Kept    bool
 			Problem *document
 		}
 		Next *claimed
 	}
-	if err := json.Unmarshal(answer, &told); err != nil || len(told.Reports) != len(batch) {
+	if err := json.Unmarshal(answer, &reply); err != nil || len(reply.Reports) != len(batch) {
 		return batch, nil, errors.New("sagas: the answer to reports is not of its form")
 	}
 	var left []taskReport
-	for place, one := range told.Reports {
+	for place, one := range reply.Reports {
 		if one.Kept || one.Problem == nil {
 			continue
 		}
@@ -143,7 +143,7 @@ func (r *run) together(ctx context.Context, batch []taskReport, next *claim) ([]
 			left = append(left, again)
 		}
 	}
-	return left, told.Next, nil
+	return left, reply.Next, nil
 }
 
 // alone reports one task.

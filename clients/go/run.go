@@ -148,11 +148,11 @@ func (r *run) do(ctx context.Context, it *call, one *held) {
 	beats, end := context.WithCancel(r.calls)
 	go r.keepLease(beats, it, one)
 	began := time.Now()
-	told := r.w.call(ctx, one)
+	report := r.w.call(ctx, one)
 	took := time.Since(began)
 	end()
 	it.cancel()
-	told.AttemptID, told.Lease = one.AttemptID, one.Lease
+	report.AttemptID, report.Lease = one.AttemptID, one.Lease
 	r.mu.Lock()
 	if r.running[it] == nil { // no caller waits for it
 		r.mu.Unlock()
@@ -162,7 +162,7 @@ func (r *run) do(ctx context.Context, it *call, one *held) {
 	r.mean += (took - r.mean) / 4
 	r.moves++
 	r.reports++
-	r.outbox = append(r.outbox, told)
+	r.outbox = append(r.outbox, report)
 	sends := r.senders < mostSenders
 	if sends {
 		r.senders++

@@ -27,7 +27,9 @@ const (
 type Saga struct {
 	Key        string `json:"key"`
 	Definition string `json:"definition"`
-	Phase      Phase  `json:"phase"`
+	// Version is that of the definition, or 0 if the service does not report it.
+	Version int   `json:"version"`
+	Phase   Phase `json:"phase"`
 	// Over is true if the saga is not open.
 	Over bool `json:"over"`
 	// Aborted is true if the saga was aborted.
@@ -51,6 +53,8 @@ type Saga struct {
 	Results map[string]json.RawMessage `json:"results"`
 	// Errors has what failed steps raised last.
 	Errors map[string]string `json:"errors"`
+	// OptionalFailures has the failed steps without which the saga continued.
+	OptionalFailures []string `json:"optional_failures"`
 	// Plan is the last plan, or nil if nothing failed.
 	Plan *Plan `json:"plan"`
 	// Waits has the attempts that wait.
@@ -63,6 +67,9 @@ type Saga struct {
 type Plan struct {
 	// Cost is nil if no plan is feasible.
 	Cost *int64 `json:"cost"`
+	// Pivot is the pivot of the saga, or the empty text. With a pivot, the costs have no meaning of
+	// their own.
+	Pivot string `json:"pivot"`
 	// BlockingSteps are the steps that make every plan infeasible.
 	BlockingSteps []string      `json:"blocking_steps"`
 	Steps         []PlannedStep `json:"steps"`
@@ -79,6 +86,7 @@ type PlannedStep struct {
 
 // Waiting is an attempt that waits.
 type Waiting struct {
+	// Step is empty if no node executes the saga.
 	Step    string `json:"step"`
 	Undo    bool   `json:"undo"`
 	Attempt int    `json:"attempt"`
@@ -87,8 +95,8 @@ type Waiting struct {
 	Since time.Time `json:"since_at"`
 	// Until is the zero time if there is no limit.
 	Until time.Time `json:"until_at"`
-	// Said is what was raised last, or the name of the worker.
-	Said string `json:"said"`
+	// Detail is what was raised last, or the name of the worker.
+	Detail string `json:"detail"`
 	// Person is true if a person must report something.
 	Person bool `json:"person"`
 }
@@ -102,8 +110,10 @@ type Progress struct {
 
 // Summary is a saga in a list.
 type Summary struct {
-	Key        string            `json:"key"`
-	Definition string            `json:"definition"`
+	Key        string `json:"key"`
+	Definition string `json:"definition"`
+	// Version is that of the definition, or 0 if the service does not know it.
+	Version    int               `json:"version"`
 	Phase      Phase             `json:"phase"`
 	Started    time.Time         `json:"started_at"`
 	Ended      time.Time         `json:"ended_at"`
@@ -125,13 +135,17 @@ func (s *Saga) resultOf(step string) (json.RawMessage, bool) {
 
 // Result returns the result of a step of a saga, or of a step that a task needs.
 //
-// If the step has no result that is in effect, the error is ErrNoResult. Into a T of type any,
+// If the step has no result that is in effect, the error is ErrNoResult. If a task needs an optional
+// step that has failed, the error is ErrStepFailed. Into a T of type any,
 // numbers are read as json.Number, so that large integers keep their value.
 func Result[T any](from Results, step string) (T, error) {
 	var value T
 	found, ok := from.resultOf(step)
 	if !ok {
 		return value, fmt.Errorf("%w of step %q", ErrNoResult, step)
+	}
+	if failure, ok := text(found, "$failed", 1); ok {
+		return value, fmt.Errorf("%w: %s: %s", ErrStepFailed, step, failure)
 	}
 	err := decode(found, &value, "result of "+step)
 	return value, err

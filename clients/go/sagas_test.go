@@ -99,6 +99,7 @@ func TestNextServiceIsAsked(t *testing.T) {
 	}))
 	defer service.Close()
 	client, _ := NewClient("http://app:s3cret@"+still.Addr().String(), WithServices(service.URL), WithTimeout(100*time.Millisecond))
+	client.conn.first = 0
 	if _, err := client.Get(context.Background(), "k"); !errors.Is(err, ErrUnavailable) {
 		t.Error(err)
 	}
@@ -159,6 +160,10 @@ func TestValues(t *testing.T) {
 	if _, err := Result[any](saga, "hotel"); !errors.Is(err, ErrNoResult) {
 		t.Error(err)
 	}
+	saga.Results["mail"] = json.RawMessage(`{"$failed": "smtp"}`)
+	if _, err := Result[struct{ ID int }](saga, "mail"); !errors.Is(err, ErrStepFailed) || !strings.HasSuffix(err.Error(), "mail: smtp") {
+		t.Error(err)
+	}
 	_, err := Result[struct{ ID int }](saga, "car")
 	if err == nil || strings.Contains(err.Error(), "secret") || !strings.Contains(err.Error(), "ID must be int") {
 		t.Error(err)
@@ -187,9 +192,9 @@ func TestOutcomes(t *testing.T) {
 		call := call
 		worker.steps = map[string]function{}
 		Step(worker, "a", "b", func(context.Context, Task[int]) (any, error) { return call() })
-		told, _ := json.Marshal(worker.call(context.Background(), &held{leased: leased{Name: "a/b", Input: json.RawMessage("1")}}))
-		if string(told) != wanted {
-			t.Errorf("%s instead of %s", told, wanted)
+		report, _ := json.Marshal(worker.call(context.Background(), &held{leased: leased{Name: "a/b", Input: json.RawMessage("1")}}))
+		if string(report) != wanted {
+			t.Errorf("%s instead of %s", report, wanted)
 		}
 	}
 	if !errors.Is(Retry("x: %w", cause), cause) {
@@ -197,9 +202,9 @@ func TestOutcomes(t *testing.T) {
 	}
 	worker.steps = map[string]function{}
 	Compensation(worker, "a", "b", func(context.Context, CompensationTask[int, string]) error { t.Error("called"); return nil })
-	told := worker.call(context.Background(), &held{leased: leased{Name: "a/b/undo", Input: json.RawMessage("1"), Result: json.RawMessage("2")}})
-	if told.Outcome != unknown || !strings.Contains(*told.Error, "result") {
-		t.Error(told)
+	report := worker.call(context.Background(), &held{leased: leased{Name: "a/b/undo", Input: json.RawMessage("1"), Result: json.RawMessage("2")}})
+	if report.Outcome != unknown || !strings.Contains(*report.Error, "result") {
+		t.Error(report)
 	}
 }
 

@@ -91,7 +91,7 @@ func Given[T, In any](task Task[In]) (T, error) {
 // sends it; only the last one counts. It does not block.
 func (t Task[In]) Progress(fraction float64, detail string) {
 	if t.held != nil && fraction >= 0 && fraction <= 1 {
-		t.held.progress.Store(&told{fraction, cut(detail, 200)})
+		t.held.progress.Store(&progressNote{fraction, cut(detail, 200)})
 	}
 }
 
@@ -104,8 +104,8 @@ type CompensationTask[In, Out any] struct {
 	OriginalIdempotencyKey string
 }
 
-// told is a progress.
-type told struct {
+// progressNote is the progress of a task: a fraction, and a text.
+type progressNote struct {
 	fraction float64
 	detail   string
 }
@@ -140,8 +140,8 @@ type held struct {
 	leased
 	claimed  time.Time // when its lease began
 	begin    time.Time // the latest time to begin it, so that its first heartbeat comes in time
-	progress atomic.Pointer[told]
-	sent     *told // the progress that was sent last
+	progress atomic.Pointer[progressNote]
+	sent     *progressNote // the progress that was sent last
 }
 
 func taskOf[In any](h *held) (Task[In], error) {
@@ -292,10 +292,10 @@ func reportOfError(err error) taskReport {
 }
 
 // reportOfResult says that the effect happened. A result that JSON cannot hold must not hide that.
-func reportOfResult(result any) (told taskReport) {
+func reportOfResult(result any) (report taskReport) {
 	defer func() {
 		if value := recover(); value != nil {
-			told = unstorable(fmt.Sprintf("panic: %v", value))
+			report = unstorable(fmt.Sprintf("panic: %v", value))
 		}
 	}()
 	text, err := json.Marshal(result)

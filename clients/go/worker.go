@@ -192,15 +192,15 @@ func (w *Worker) Run(ctx context.Context) error {
 func (w *Worker) call(ctx context.Context, h *held) taskReport {
 	ended := make(chan taskReport, 1)
 	go func() {
-		told := reportOfError(errors.New("the function ended its goroutine"))
+		outcome := reportOfError(errors.New("the function ended its goroutine"))
 		defer func() {
 			if value := recover(); value != nil {
 				w.conn.logger.Printf("sagas: %s of %s: panic: %v\n%s", h.Name, h.AttemptID, value, debug.Stack())
-				told = reportOfError(fmt.Errorf("panic: %v", value))
+				outcome = reportOfError(fmt.Errorf("panic: %v", value))
 			}
-			ended <- told
+			ended <- outcome
 		}()
-		told = w.steps[h.Name](ctx, h)
+		outcome = w.steps[h.Name](ctx, h)
 	}()
 	return <-ended
 }

@@ -43,13 +43,16 @@ export interface PlanStep {
 export interface Plan {
   /** `null` if the saga is stuck. */
   cost: number | null;
+  /** The pivot of the saga, or `null`. With a pivot, the costs have no meaning of their own. */
+  pivot: string | null;
   blockingSteps: string[];
   steps: PlanStep[];
 }
 
 /** An attempt that waits. */
 export interface Waiting {
-  step: string;
+  /** `null`: no node executes the saga. */
+  step: string | null;
   undo: boolean;
   attempt: number;
   why: string;
@@ -64,6 +67,8 @@ export interface Waiting {
 export interface Saga<I = any, R = Record<string, any>> {
   key: string;
   definition: string;
+  /** Of the definition; `null` if the service does not report it. */
+  version: number | null;
   phase: Phase;
   /** Whether it is not open. */
   over: boolean;
@@ -80,6 +85,8 @@ export interface Saga<I = any, R = Record<string, any>> {
   results: Partial<R>;
   /** What failed steps raised. */
   errors: Partial<Record<Name<R>, string>>;
+  /** The failed steps without which the saga continued. */
+  optionalFailures: Name<R>[];
   plan: Plan | null;
   waits: Waiting[];
   progress: { step: string; fraction: number; detail: string | null }[];
@@ -89,6 +96,8 @@ export interface Saga<I = any, R = Record<string, any>> {
 export interface SagaSummary {
   key: string;
   definition: string;
+  /** Of the definition; `null` if the service does not know it. */
+  version: number | null;
   phase: Phase;
   started: Date;
   ended: Date | null;
@@ -96,6 +105,35 @@ export interface SagaSummary {
   undoFailed: boolean;
   labels: Labels;
   note: string | null;
+}
+
+/** What an operator or an approver decided on a saga, and how it was answered. */
+export interface DecidedSaga {
+  key: string;
+  definition: string;
+  /** `null`: the saga itself. */
+  step: string | null;
+  /** Whether the compensation of the step is meant. */
+  undo: boolean;
+  answer: "done" | "refused" | "waiting";
+}
+
+/** A decision, or a bulk of decisions. */
+export interface Decision {
+  /** Its position: a later decision has a larger number. */
+  number: number;
+  /** What was decided, for example `retry`. */
+  decision: string;
+  at: Date;
+  /** Who decided; `null`: a program that did not say. */
+  by: string | null;
+  via: "dashboard" | "http" | "command" | "program";
+  note: string | null;
+  isBulk: boolean;
+  /** On what it was, if on no saga: the scope of a pause. */
+  subject: string | null;
+  /** At most 1,000. */
+  sagas: DecidedSaga[];
 }
 
 /** An event of the stream. `missed` says that some are no longer stored: look at the sagas themselves. */
@@ -122,7 +160,7 @@ export interface StartOptions extends CallOptions {
   labels?: Labels;
   /** Seconds after which the saga is aborted if it has not ended. */
   deadline?: number;
-  /** Default: the newest. */
+  /** Default: the newest for a new saga, and any for an existing one. */
   version?: number;
   /** The W3C trace context that the saga is started in (default: none). */
   traceparent?: string;
@@ -157,6 +195,16 @@ export interface ListOptions extends CallOptions {
   startedBefore?: Date | number;
   /** Sagas of which an attempt raised a text that contains this. */
   error?: string;
+}
+
+export interface DecisionOptions extends CallOptions {
+  /** Decisions of each request, from 1 to 1,000 (default: 100). */
+  pageSize?: number;
+  /** Decisions on the saga with this key. */
+  key?: string;
+  definition?: string;
+  /** Decisions of this kind, for example `retry`. */
+  decision?: string;
 }
 
 export interface EventOptions {
@@ -221,7 +269,7 @@ export interface EventStream extends AsyncIterable<SagaEvent> {
  * refuses it, `Unreachable` if no service answered, `InvalidArgument` if nothing was sent, or the reason of `signal`.
  */
 export class Client<D extends Definitions<D> = AnyDefinitions> {
-  /** @param url The service, without user and password, or several over one database: if one does not answer, the next one is asked. */
+  /** @param url The service, without user and password, or several over one database: it begins with a random one, and asks the next one if one does not answer. */
   constructor(url: string | URL | (string | URL)[], options?: ClientOptions);
   /** The service that it asks now. */
   readonly url: string;
@@ -239,6 +287,8 @@ export class Client<D extends Definitions<D> = AnyDefinitions> {
   fail(key: string, step: string, error: string, options?: ReportOptions): Promise<void>;
   /** Lists sagas, the newest first, page by page. */
   list(options?: ListOptions): AsyncGenerator<SagaSummary, void, undefined>;
+  /** Lists decisions on sagas that the token may see, the newest first, page by page. */
+  decisions(options?: DecisionOptions): AsyncGenerator<Decision, void, undefined>;
   /** Follows events from now on. */
   events(options?: EventOptions): EventStream;
   /** Closes the connections that rest. */
@@ -268,7 +318,7 @@ export interface Task<I = any, R = Record<string, any>, Result = any, Item = any
   /** From 1. */
   readonly attempt: number;
   readonly input: I;
-  /** The results of all steps that this one needs. */
+  /** The results of all steps that this one needs. That of an optional step which failed is `{"$failed": error}`. */
   readonly results: Partial<R>;
   /** In a compensation: what the step returned. */
   readonly result: Result;
@@ -308,7 +358,7 @@ export interface WorkerOptions {
  * outcome is unknown: the task comes again with the same idempotency key.
  */
 export class Worker<D extends Definitions<D> = AnyDefinitions> {
-  /** @param url The service, without user and password, or several over one database: if one does not answer, the next one is asked. */
+  /** @param url The service, without user and password, or several over one database: it begins with a random one, and asks the next one if one does not answer. */
   constructor(url: string | URL | (string | URL)[], options?: WorkerOptions);
   readonly url: string;
   readonly concurrency: number;
@@ -353,7 +403,7 @@ export class WaitTimeout extends SagasError {}
 export class Fail extends SagasError {}
 /** Throw it in a function that had no effect, if another attempt may help. */
 export class Retry extends SagasError {}
-/** Throw it in a function if the outcome is unknown. Other errors mean the same. */
+/** Throw it in a function if the outcome is unknown. Other errors mean the same; after a ReferenceError, or if a module is missing, the task also waits for a retry by an operator. */
 export class Unknown extends SagasError {}
 /** The reason of a task's signal: the saga is to be undone. */
 export class Aborted extends SagasError {}
@@ -387,6 +437,8 @@ export class ConflictingReport extends Problem {}
 export class SagaOver extends Problem {}
 /** The saga undoes a child, so it is not aborted. */
 export class NotAbortable extends Problem {}
+/** The saga is open, has completed, or is a child, so it is not restarted. */
+export class NotRestartable extends Problem {}
 /** Another worker has the task, or an operator must decide. */
 export class LeaseLost extends Problem {}
 /** The lease was not issued to this worker for this task. */

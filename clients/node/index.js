@@ -4,6 +4,6 @@ export { Client, Run } from "./lib/client.js";
 export { Worker } from "./lib/worker.js";
 export {
   Aborted, CannotDecode, ConflictingReport, Fail, Forbidden, InvalidArgument, InvalidLease, InvalidRequest, KeyConflict,
-  LeaseLost, NoSuchDefinition, NoSuchSaga, NoSuchTask, NotAbortable, Problem, Retry, SagaOver, SagasError,
+  LeaseLost, NoSuchDefinition, NoSuchSaga, NoSuchTask, NotAbortable, NotRestartable, Problem, Retry, SagaOver, SagasError,
   StepNotWaiting, Unauthorized, Unknown, Unreachable, WaitTimeout,
 } from "./lib/errors.js";

@@ -62,5 +62,5 @@ def cancel_car(task: sagas.Task[Order]) -> None:
 def tour(task: sagas.Task[Order]) -> str:
     """Book a tour, in the program that has the store: not every step needs a worker."""
     if task.input.wish == "a tour that is full":
-        raise RuntimeError("the tour is full")
+        raise sagas.Fail("the tour is full")
     return "booked"

@@ -71,7 +71,7 @@ def refund(task: sagas.Task[Order]) -> None:
 
 @order.step(needs=[charge])
 async def send(task: sagas.Task[Order]) -> None:
-    """Send the parcel. The exception says that nothing was sent."""
+    """Send the parcel. `Fail` says that nothing was sent, and nothing will be."""
     if task.input.item == "piano":
         raise sagas.Fail("a piano does not fit into a parcel")
     service.execute(task.idempotency_key, f"send the {task.input.item}")

@@ -49,12 +49,12 @@ def send(parcel: Parcel) -> str:
 packing = sagas.Saga("packing", input=Order)
 
 
-@packing.step(when=lambda order: order.gift, undo=0)
+@packing.step(when=lambda order: order.gift, undo=sagas.NOTHING)
 def wrap(task: sagas.Task[Order]) -> None:
     print(f"  wrap {len(task.input.parcels)} parcels")
 
 
-@packing.step(needs=[wrap], undo=0)
+@packing.step(needs=[wrap], undo=sagas.NOTHING)
 def pack(task: sagas.Task[Order]) -> int:
     return len(task.input.parcels)
 
@@ -82,7 +82,7 @@ def mail(task: sagas.Task[Order]) -> list[str]:
 best_effort = sagas.Saga("best-effort")
 
 
-@best_effort.step(for_each=by_town, undo=0)
+@best_effort.step(for_each=by_town, undo=sagas.NOTHING)
 def try_to_ship(task: sagas.ItemTask[Order, Parcel]) -> str:
     return send(task.item)
 

@@ -47,7 +47,7 @@ async def hotel(task: sagas.Task[Trip]) -> str:
     """Book a hotel, if one has a room."""
     if not task.input["rooms"]:
         print(f"  hotel in {task.result_of(flight)}: full (attempt {task.attempt})")
-        raise LookupError("no room is free")
+        raise sagas.Retry("no room is free")
     print(f"  hotel in {task.result_of(flight)}")
     return "room 12"
 

@@ -139,25 +139,27 @@ function node_of(box, marked, is_chain) {
   const { step, number, x, y } = box;
   const words = [step.name, ...(step.state ? [state_words(step.state)] : []), ...step.lines];
   const mark = marked.has(number) ? (is_chain ? 'blocks' : 'keep') : '';
-  const node = svg('g', { class: 'node', tabindex: 0, role: 'button', 'data-step': number,
-    'aria-label': `${step.name}: ${state_words(step.state) || 'no state'}${mark && ', ' + mark}. Press for the next state.` });
+  const label = `${step.name}: ${state_words(step.state) || 'no state'}${mark && ', ' + mark}`;
+  const node = svg('g', { class: 'node', 'data-step': number, ...(step.is_fixed ? { role: 'img', 'aria-label': label }
+    : { tabindex: 0, role: 'button', 'aria-label': `${label}. Press for the next state.` }) });
+  if (step.is_now) node.append(outline(box, 9, 'ring now'));
   if (mark) node.append(outline(box, 4.5, is_chain ? 'ring chain' : 'ring'));
   node.append(outline(box, 0, `shape ${step.state || ''}`));
   words.forEach((word, k) => node.append(svg('text', { x, y: y + (k - (words.length - 1) / 2) * LINE + 4.5, 'text-anchor': 'middle', class: k ? 'line' : 'name' }, word)));
   return node;
 }
 
-// The path of a need, from a step to the step that it needs. It is thick if both are marked.
+// The path of a need, from a step back to the step that it needs, with an arrow at the first one. It is thick if both are marked.
 function way_of(boxes, way, marked) {
   const last = way.length - 1, is_marked = marked.has(way[0]) && marked.has(way[last]);
-  const points = way.map((i, k) => [boxes[i].x + (k === 0 ? -boxes[i].w / 2 : k === last ? boxes[i].w / 2 + 12 : 0), boxes[i].y]);
+  const points = way.map((i, k) => [boxes[i].x + (k === 0 ? -boxes[i].w / 2 - 12 : k === last ? boxes[i].w / 2 : 0), boxes[i].y]);
   let path = `M${round(points[0][0])},${round(points[0][1])}`;
   for (let k = 1; k < points.length; k++) {
     const [ax, ay] = points[k - 1], [bx, by] = points[k], middle = round((ax + bx) / 2);
     path += `C${middle},${round(ay)} ${middle},${round(by)} ${round(bx)},${round(by)}`;
   }
-  const [x, y] = points[last];
-  return [svg('path', { class: 'edge', d: path, 'stroke-width': is_marked ? 2.6 : 1.4 }), svg('path', { class: 'tip', d: `M${round(x - 9)},${round(y)} l11,-5 l0,10 z` })];
+  const [x, y] = points[0];
+  return [svg('path', { class: 'edge', d: path, 'stroke-width': is_marked ? 2.6 : 1.4 }), svg('path', { class: 'tip', d: `M${round(x + 9)},${round(y)} l-11,-5 l0,10 z` })];
 }
 
 // The picture of a drawing with the marks of an answer, as an element.

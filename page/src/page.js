@@ -1,7 +1,7 @@
 // The planner page: its inputs, its results, and how it shows them.
 
 const at = id => document.getElementById(id);
-const FIELDS = ['log', 'definition', 'case', 'answer'];
+const FIELDS = ['log', 'definition', 'case', 'answer', 'export'];
 const MOST_DRAWN = 150, MOST_ROWS = 100;
 const PAUSE = 250;
 
@@ -74,6 +74,12 @@ function mark_line(field, number) {
 
 const PLACES = { definition: 'definition', case: 'case', answer: 'certificate', log: 'log' };
 
+// What the engine says about a text as a definition: a word, or nothing.
+async function word_of(text) {
+  const reply = await call('draw', [bytes_of(text)]);
+  return reply.status === INVALID ? /^sagas: definition: (.*)$/.exec(text_of(reply.bytes).trimEnd())?.[1] : '';
+}
+
 // The first line of a definition that is not valid TOML: the line after the longest prefix that can be read. Lines are numbered from 1.
 async function line_not_toml(text) {
   const lines = text.split('\n'), is_toml = async count => {
@@ -102,17 +108,22 @@ async function tell_fault(reply) {
   if (of_line) { quoted = line_of(at('log').value, Number(of_line[1])); mark_line('log', Number(of_line[1])); }
   if (of_shelf) { quoted = `definition ${of_shelf[1]}`; word = line.replace(/ \d+: /, ': '); }
   if (busy) quoted = `step ${busy[1]}`;
-  let other = '';
-  if (word === 'sagas: definition: not-toml') {
-    const shelf = at('definition').value.split(PARTED), number = of_shelf ? Number(of_shelf[1]) : 0;
+  let other = '', of_text = '';
+  if (field === 'definition') {
+    const shelf = at('definition').value.split(PARTED), number = of_shelf ? Number(of_shelf[1]) : 0, text = shelf[number] || '';
     const before = shelf.slice(0, number).reduce((sum, part) => sum + part.split('\n').length, 0);
-    const place = before + await line_not_toml(shelf[number] || '');
-    other = `look at line ${place}: it is the first that cannot be parsed`;
-    quoted = line_of(at('definition').value, place);
-    mark_line('definition', place);
+    const is_toml = word !== 'sagas: definition: not-toml';
+    const found = is_toml ? await line_of_word(text, word.split(': ')[2], word_of) : await line_not_toml(text);
+    if (found !== null) {
+      const place = before + found;
+      if (!is_toml) other = `look at line ${place}: it is the first that cannot be parsed`;
+      quoted = line_of(at('definition').value, place);
+      of_text = `: line ${place}`;
+      mark_line('definition', place);
+    }
   }
   const { remedy } = tell_at(field, word, quoted, other);
-  tell('bad', `The ${PLACES[field]} cannot be read`, line, sentence(remedy));
+  tell('bad', `The ${PLACES[field]} cannot be read${of_text}`, line, sentence(remedy));
 }
 
 function clear() {
@@ -120,7 +131,7 @@ function clear() {
     at(field).removeAttribute('aria-invalid');
     at(`${field}-fault`).replaceChildren();
   }
-  for (const id of ['figure', 'chain', 'numbers', 'steps', 'certificate']) at(id).hidden = true;
+  for (const id of ['replay', 'figure', 'chain', 'numbers', 'steps', 'certificate']) at(id).hidden = true;
   shown = null;
 }
 
@@ -144,7 +155,8 @@ function show_picture(drawing, marked, is_chain, title) {
   } else fill();
   const words = [];
   if (marked.size) words.push(element('span', {}, element('i', { class: is_chain ? 'chain' : '' }), is_chain ? 'the steps that block every plan' : 'keep'));
-  words.push(element('span', {}, 'Arrows lead to what a step needs.'), element('span', {}, 'Click a step to change its state.'));
+  words.push(element('span', {}, 'Arrows lead from what a step needs to the step.'));
+  if (mode() !== 'replay') words.push(element('span', {}, 'Click a step to change its state.'));
   at('legend').replaceChildren(...words);
 }
 
@@ -158,16 +170,17 @@ function chooser(step, number) {
   return made;
 }
 
-// The row of a step: its state, its two costs, the decision and the reason. Without a plan there is no decision.
+// The row of a step: its state, its two costs, the decision, the cost of the other decision and the reason. Without a plan there is no decision.
 function row_of(drawing, beside, kept, i, is_aborted) {
   const step = drawing.steps[i], is_kept = kept?.has(i);
   const price = (label, value, is_taken) => element('td', { class: `price${is_taken ? ' taken' : ''}`, 'data-label': label }, priced(value));
   return element('tr', {},
     element('td', { class: 'name' }, step.name),
-    element('td', { class: 'is' }, chooser(step, i)),
+    element('td', { class: 'is' }, step.is_fixed ? state_words(step.is_now_in) : chooser(step, i)),
     price('cost to keep', cost_to_keep(step, is_aborted), kept && is_kept),
     price('cost to drop', cost_to_drop(step), kept && !is_kept),
     element('td', { class: `shall ${is_kept ? 'stands' : 'gone'}` }, kept ? shall(step, is_kept) : ''),
+    element('td', { class: 'price otherwise', 'data-label': 'otherwise', 'data-step': i }),
     element('td', { class: 'why' }, kept ? why(drawing, beside, kept, i, is_aborted) : ''));
 }
 
@@ -178,14 +191,28 @@ function show_steps(drawing, kept, cost) {
   const fill = count => {
     body.replaceChildren(...drawing.steps.slice(0, count).map((_, i) => row_of(drawing, beside, kept, i, is_aborted)));
     at('all').hidden = count >= drawing.steps.length;
+    if (kept) fill_otherwise(drawing, kept, at('case').value);
   };
   fill(MOST_ROWS);
   at('all').textContent = `Show all ${drawing.steps.length} steps`;
   at('all').onclick = () => fill(drawing.steps.length);
-  at('steps').querySelector('tfoot').replaceChildren(...(kept ? [element('tr', {}, element('td', { colspan: 6 }, `Sum of the marked costs: ${cost}`))] : []));
+  at('steps').querySelector('tfoot').replaceChildren(...(kept ? [element('tr', {}, element('td', { colspan: 7 }, `Sum of the marked costs: ${cost}`))] : []));
   at('steps').classList.toggle('bare', !kept);
   at('steps').hidden = false;
   if (focused !== undefined) body.querySelector(`select[data-step="${focused}"]`)?.focus({ preventScroll: true });
+}
+
+// Fills in, for each row that is shown, what the cheapest plan with the other decision costs. It stops once other steps are shown.
+async function fill_otherwise(drawing, kept, planner_case) {
+  const cells = [...at('steps').querySelectorAll('td.otherwise')], is_aborted = at('aborted').checked;
+  for (const cell of cells) {
+    const number = Number(cell.dataset.step), is_kept = kept.has(number), step = drawing.steps[number];
+    const is_fixed = (is_kept ? cost_to_drop(step) : cost_to_keep(step, is_aborted)) === NEVER;
+    const cost = is_fixed ? null : await cost_otherwise(drawing, planner_case, number, is_kept);
+    if (!cell.isConnected) return;
+    cell.textContent = cost === null ? 'not possible' : cost.toLocaleString('en');
+    if (number % 16 === 15) await new Promise(done => setTimeout(done));
+  }
 }
 
 // Writes the case again after a change of states.
@@ -274,7 +301,14 @@ function read_aborted() {
   } catch { /* told as a fault of the case */ }
 }
 
+// Replaces a case that is of another definition, or none, by one in which all steps are waiting.
+async function fit_case() {
+  const drawing = await drawn();
+  if (drawing && states_typed().length !== drawing.steps.length) at('case').value = JSON.stringify({ states: drawing.steps.map(() => 'waiting') });
+}
+
 async function plan_or_judge() {
+  if (!at('case').value.trim()) await fit_case();
   read_aborted();
   const is_planned = mode() === 'plan';
   let answer = given('answer');
@@ -342,16 +376,193 @@ async function audit() {
   return tell('no', `Invalid: event ${event}, in line ${number}, was not allowed`, `${checked} ${sentence(cause)}`, sentence(remedy));
 }
 
+// ---- The replay of a log.
+
+// The log that is replayed: the texts of its definitions, its events, its sagas, and the moments of the saga that is shown.
+let replay = null;
+
+const moment_shown = () => Number(at('moment').value);
+
+async function load_replay() {
+  const { all, spans } = shelf_of(at('definition').value);
+  const reply = await call('audit_all', [given('log'), all], spans);
+  if (reply.status > REJECTED) return tell_fault(reply);
+  const says = text_of(reply.bytes).trimEnd(), every = events_of(at('log').value);
+  const events = reply.status === OK ? every : every.slice(0, Number(says.split(' ')[1]));
+  const sagas = sagas_of(events);
+  if (!sagas.length) return tell('no', 'The log opens no saga', `Audited here by the proved auditor: ${says}.`);
+  replay = { definitions: at('definition').value.split(PARTED), events, sagas, audited: says };
+  const wanted = link_wanted();
+  at('saga').replaceChildren(...sagas.map(({ saga }) => new Option(`saga ${saga}`, String(saga), false, String(saga) === wanted.saga)));
+  at('saga').hidden = sagas.length === 1;
+  return choose_saga(wanted.moment);
+}
+
+// Shows a saga of the log at a moment, or at its last one.
+async function choose_saga(moment = null) {
+  const { saga, def } = replay.sagas[at('saga').selectedIndex];
+  replay.definition = replay.definitions[def];
+  replay.drawing = read_drawing(text_of((await call('draw', [bytes_of(replay.definition)])).bytes));
+  replay.moments = moments_of(replay.events, saga, replay.drawing.steps.length);
+  const last = replay.moments.length - 1;
+  at('moment').max = String(last);
+  at('moment').value = String(Math.min(moment ?? last, last));
+  at('events').replaceChildren(...replay.moments.map(({ event }, i) => {
+    const button = element('button', { type: 'button' }, event_words(event));
+    button.addEventListener('click', () => move_to(i));
+    return element('li', {}, button);
+  }));
+  return show_moment();
+}
+
+function event_words({ event, step }) {
+  return `${step === undefined ? 'the saga' : replay.drawing.steps[step].name} ${EVENT_WORDS[event]}`;
+}
+
+function move_to(moment) {
+  at('moment').value = String(Math.max(0, Math.min(moment, replay.moments.length - 1)));
+  return show_moment();
+}
+
+// Shows the moment of the slider: the saga's states, and the plan that it follows, or the cheapest one if it had to be planned now.
+async function show_moment() {
+  const number = moment_shown(), moment = replay.moments[number], basis = moment.adopted || moment;
+  clear();
+  at('replay').hidden = false;
+  at('count').textContent = `${number} of ${replay.moments.length - 1}`;
+  at('moment').setAttribute('aria-valuetext', event_words(moment.event));
+  [...at('events').querySelectorAll('button')].forEach((button, i) => button.setAttribute('aria-current', String(i === number)));
+  const current = at('events').children[number];
+  at('events').scrollTop = current.offsetTop - at('events').offsetTop - at('events').clientHeight / 2;
+  history.replaceState(null, '', link_of(replay.link));
+  at('case').value = case_of(basis);
+  at('aborted').checked = basis.is_aborted;
+  const texts = [bytes_of(replay.definition), given('case')];
+  const answer = moment.adopted ? bytes_of(JSON.stringify(moment.adopted.answer)) : (await call('plan', texts)).bytes;
+  const says = text_of((await call('check', [...texts, answer])).bytes).trimEnd();
+  show_answer_at(moment, basis, JSON.parse(text_of(answer)), says);
+  show_certificate(text_of(answer).trimEnd());
+  document.body.dataset.rounds = String(++rounds);
+}
+
+// The drawing of the replay, with the states of a plan's case, and the states now.
+function drawing_at(moment, basis) {
+  const { states } = JSON.parse(case_of(basis));
+  return { ...replay.drawing, steps: replay.drawing.steps.map((step, i) => ({ ...step, state: states[i], is_fixed: true, is_now_in: moment.states[i] })) };
+}
+
+function show_answer_at(moment, basis, answer, says) {
+  const planned = drawing_at(moment, basis), event = event_words(moment.event);
+  const now = { ...planned, steps: planned.steps.map((step, i) => ({ ...step, state: moment.states[i], is_now: i === moment.event.step })) };
+  const when = moment.adopted ? `It follows the plan of event ${basis.moment}` : 'If it had to be planned now';
+  const checked = `Verified here by the proved checker: ${says}. The log is audited: ${replay.audited}.`;
+  const verdict = event[0].toUpperCase() + event.slice(1);
+  if (answer.kind === 'plan') {
+    const kept = new Set(answer.kept), cost = says.split(' ')[1];
+    tell('good', verdict, checked, `${when}: cost ${cost}, ${answer.kept.length ? `keeping ${listed(answer.kept, planned.steps)}` : 'keeping nothing'}.`);
+    show_picture(now, kept, false, `${planned.name}: ${event}`);
+    show_steps(planned, kept, cost);
+  } else {
+    tell('no', verdict, checked, `${when}: no plan is feasible.`);
+    show_picture(now, new Set(answer.chain), true, `${planned.name}: blocked`);
+    show_chain(planned, answer.chain);
+    show_steps(planned, null, '');
+  }
+}
+
+// ---- Exports and links.
+
+const letters_of = text => btoa(String.fromCharCode(...bytes_of(text))).replace(/\+/g, '-').replace(/\//g, '_').replace(/=+$/, '');
+const text_of_letters = letters => text_of(Uint8Array.from(atob(letters.replace(/-/g, '+').replace(/_/g, '/')), letter => letter.charCodeAt(0)));
+
+// What the address asks for: an export, the number of a saga, and a moment. All of it stays in the browser.
+function link_wanted() {
+  const words = new URLSearchParams(location.hash.slice(1)), moment = words.get('moment');
+  return { letters: words.get('replay'), saga: words.get('saga') || '', moment: moment === null ? null : Number(moment) || 0 };
+}
+
+// The address of the moment that is shown, with these letters of an export.
+function link_of(letters) {
+  const words = [...(letters ? [`replay=${letters}`] : ['replay=']), ...(replay.sagas.length > 1 ? [`saga=${at('saga').value}`] : []), `moment=${moment_shown()}`];
+  return `#${words.join('&')}`;
+}
+
+const export_of = () => JSON.stringify({ export: 1, definition: at('definition').value, log: at('log').value });
+
+// Takes the text of an export: a JSON object with the definition, and the log as a text or as a list of events.
+async function take_export(text, letters = '') {
+  let taken = null;
+  try { taken = with_log(JSON.parse(text)); } catch { /* told below */ }
+  document.querySelector('input[value=replay]').checked = true;
+  show_examples();
+  if (typeof taken?.definition !== 'string' || typeof taken?.log !== 'string') {
+    clear();
+    document.body.dataset.mode = mode();
+    document.body.dataset.rounds = String(++rounds);
+    at('export').setAttribute('aria-invalid', 'true');
+    at('export-fault').append(element('b', {}, 'It is no export of a saga.'), element('span', {}, 'An export is a JSON object with a definition and events.'));
+    return tell('bad', 'The export cannot be read', '', 'Make it with sagas store STORE export KEY.');
+  }
+  at('definition').value = taken.definition;
+  at('log').value = taken.log;
+  await run();
+  if (replay) replay.link = letters;
+  return undefined;
+}
+
+async function take_file(file) {
+  if (file) await take_export(await file.text());
+}
+
+async function follow_link() {
+  const { letters } = link_wanted();
+  if (!letters) return false;
+  let text = '';
+  try { text = text_of_letters(letters); } catch { /* told as no export */ }
+  await take_export(text, letters);
+  return true;
+}
+
+async function copy_link() {
+  replay.link = letters_of(export_of());
+  history.replaceState(null, '', link_of(replay.link));
+  let done = 'Copied';
+  try { await navigator.clipboard.writeText(location.href); } catch { done = 'It is the address'; }
+  at('link').textContent = done;
+  setTimeout(() => { at('link').textContent = 'Copy link'; }, 1600);
+}
+
+const KEYS = { ArrowLeft: number => number - 1, ArrowRight: number => number + 1, Home: () => 0, End: () => Infinity };
+
+function listen_to_replay() {
+  at('moment').addEventListener('input', show_moment);
+  at('saga').addEventListener('change', () => choose_saga());
+  for (const [id, key] of [['first', 'Home'], ['previous', 'ArrowLeft'], ['next', 'ArrowRight'], ['last', 'End']])
+    at(id).addEventListener('click', () => move_to(KEYS[key](moment_shown())));
+  at('link').addEventListener('click', copy_link);
+  at('export').addEventListener('change', () => take_file(at('export').files[0]));
+  document.addEventListener('keydown', event => {
+    const is_typing = event.target.closest?.('textarea, select, input, #picture');
+    if (mode() !== 'replay' || !replay || is_typing || !(event.key in KEYS) || event.ctrlKey || event.metaKey || event.altKey) return;
+    event.preventDefault();
+    move_to(KEYS[event.key](moment_shown()));
+  });
+  document.addEventListener('dragover', event => event.preventDefault());
+  document.addEventListener('drop', event => { event.preventDefault(); take_file(event.dataTransfer.files[0]); });
+  addEventListener('hashchange', follow_link);
+}
+
 // ---- Input.
 
 async function run() {
   clear();
+  replay = null;
   document.body.dataset.mode = mode();
-  await (mode() === 'audit' ? audit() : plan_or_judge());
+  await { audit, replay: load_replay, plan: plan_or_judge, judge: plan_or_judge }[mode()]();
   document.body.dataset.rounds = String(++rounds);
 }
 
-const EXAMPLES_OF = { plan: EXAMPLES.sagas, judge: EXAMPLES.judged, audit: EXAMPLES.logs };
+const EXAMPLES_OF = { plan: EXAMPLES.sagas, judge: EXAMPLES.judged, audit: EXAMPLES.logs, replay: EXAMPLES.replayed };
 
 function show_examples() {
   at('example').replaceChildren(...EXAMPLES_OF[mode()].map(({ title }, i) => new Option(title, String(i))));
@@ -384,7 +595,11 @@ function judge_it() {
 
 function listen() {
   let waiting;
-  for (const field of FIELDS) at(field).addEventListener('input', () => { clearTimeout(waiting); waiting = setTimeout(run, PAUSE); });
+  const renew = async field => {
+    if (field === 'definition' && mode() === 'plan') await fit_case();
+    await run();
+  };
+  for (const field of FIELDS) at(field).addEventListener('input', () => { clearTimeout(waiting); waiting = setTimeout(renew, PAUSE, field); });
   document.querySelectorAll('input[name=mode]').forEach(input => input.addEventListener('change', () => { show_examples(); take_example(); }));
   at('example').addEventListener('change', take_example);
   at('aborted').addEventListener('change', () => shown && write_case(states_shown()));
@@ -420,7 +635,8 @@ async function begin() {
       'The page needs WebAssembly with BigInt: Chrome or Edge 85, Firefox 79, Safari 15, or later. Or use the program: ./sagas plan.');
   }
   listen();
-  return take_example();
+  listen_to_replay();
+  return await follow_link() || take_example();
 }
 
 window.sagas = { ready: begin(), call: call_by_letters };

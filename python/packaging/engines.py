@@ -25,7 +25,9 @@ FOLDERS = {"x86_64": "", "aarch64": "aarch64"}
 """The subfolder of `dist/` with the files of each processor."""
 RELEASED = ("sagas", "libsagas.so")
 SOURCES = ("engine.c", "sagas.h", "sagas.c.xz")
-WORDS = ("-std=c11", "-O1")
+PLANNER = "sagas.html"
+"""The planner page, which the dashboard serves."""
+COMPILER_OPTIONS = ("-std=c11", "-O1")
 """The options of the compiler. More optimization takes minutes, and gains nothing."""
 
 
@@ -75,20 +77,20 @@ def released(processor: str) -> Engine:
 def of_dist(folder: str, name: str) -> pathlib.Path:
     """Return the path of a file of `dist/`, in the checkout or the source archive."""
     path = pathlib.PurePosixPath("dist", folder, name)
-    places = (HERE / path, HERE.parent / path)
-    found = next((place for place in places if place.is_file()), None)
-    if found is None:
+    paths = (HERE / path, HERE.parent / path)
+    existing = next((candidate for candidate in paths if candidate.is_file()), None)
+    if existing is None:
         raise FileNotFoundError(
-            f"missing file {places[1]}. Build from a complete checkout, or from the source archive"
+            f"missing file {paths[1]}. Build from a complete checkout, or from the source archive"
         )
-    return found
+    return existing
 
 
 def archived() -> Iterator[tuple[str, bytes]]:
     """Yield each file of `dist/` that a wheel for any machine needs, with its path."""
     for folder, name in [
         *((folder, name) for folder in FOLDERS.values() for name in RELEASED),
-        *(("", name) for name in SOURCES),
+        *(("", name) for name in (*SOURCES, PLANNER)),
     ]:
         yield pathlib.PurePosixPath("dist", folder, name).as_posix(), of_dist(
             folder, name
@@ -117,9 +119,9 @@ def compiled(machine: str, version: str) -> bytes:
         for source in ("engine.c", "sagas.h"):
             shutil.copyfile(of_dist("", source), folder / source)
         (folder / "sagas.c").write_bytes(unpacked(of_dist("", "sagas.c.xz")))
-        words = [*compiler, *WORDS, f'-DSAGAS_VERSION="{version}"', "-o", "sagas"]
+        command = [*compiler, *COMPILER_OPTIONS, f'-DSAGAS_VERSION="{version}"', "-o", "sagas"]
         done = subprocess.run(
-            [*words, "engine.c", "sagas.c", "-lm"],
+            [*command, "engine.c", "sagas.c", "-lm"],
             cwd=folder,
             stdin=subprocess.DEVNULL,
             capture_output=True,

@@ -1,4 +1,4 @@
-"""Builds the wheel and the source archive of this package, with nothing but the standard library
+"""Builds the wheel and the source archive of this package, with only the standard library
 (PEP 517, PEP 660).
 
 The wheel is for one system and processor: those of this machine, or Linux on the processor that
@@ -33,10 +33,10 @@ TIME = (2020, 1, 1, 0, 0, 0)
 
 def project() -> dict[str, Any]:
     """What pyproject.toml says of the package, with its version, which the package itself has."""
-    told: dict[str, Any] = tomllib.loads((HERE / "pyproject.toml").read_text())["project"]
+    project_table: dict[str, Any] = tomllib.loads((HERE / "pyproject.toml").read_text())["project"]
     version = re.search(r'^__version__ = "(.*)"$', (SOURCE / "__init__.py").read_text(), re.M)
     assert version, "the package has no __version__"
-    return told | {"version": version[1]}
+    return project_table | {"version": version[1]}
 
 
 def engine_for(config_settings: dict[str, Any] | None) -> engines.Engine:
@@ -47,13 +47,13 @@ def engine_for(config_settings: dict[str, Any] | None) -> engines.Engine:
 
 def license_text() -> bytes:
     """The license: the checkout's, or that of an unpacked source archive."""
-    places = (HERE / "LICENSE", HERE.parent / "LICENSE")
-    found = next((place for place in places if place.is_file()), None)
-    if found is None:
+    paths = (HERE / "LICENSE", HERE.parent / "LICENSE")
+    existing = next((candidate for candidate in paths if candidate.is_file()), None)
+    if existing is None:
         raise FileNotFoundError(
-            f"there is no {places[1]}. Build from a whole checkout, or from the source archive"
+            f"there is no {paths[1]}. Build from a whole checkout, or from the source archive"
         )
-    return found.read_bytes()
+    return existing.read_bytes()
 
 
 def sources() -> Iterator[tuple[str, bytes]]:
@@ -66,42 +66,48 @@ def sources() -> Iterator[tuple[str, bytes]]:
             ".js",
             ".json",
             ".svg",
+            ".template",
         ):
             yield path.relative_to(HERE / "src").as_posix(), path.read_bytes()
 
 
 def metadata() -> str:
-    told = project()
+    metadata_table = project()
     lines = [
         "Metadata-Version: 2.1",
-        f"Name: {told['name']}",
-        f"Version: {told['version']}",
-        f"Summary: {told['description']}",
-        f"Author: {', '.join(author['name'] for author in told['authors'])}",
-        f"License: {told['license']}",
-        f"Keywords: {','.join(told['keywords'])}",
-        *(f"Project-URL: {name}, {place}" for name, place in told["urls"].items()),
-        *(f"License-File: {name}" for name in told["license-files"]),
-        f"Requires-Python: {told['requires-python']}",
-        *(f"Classifier: {word}" for word in told["classifiers"]),
+        f"Name: {metadata_table['name']}",
+        f"Version: {metadata_table['version']}",
+        f"Summary: {metadata_table['description']}",
+        f"Author: {', '.join(author['name'] for author in metadata_table['authors'])}",
+        f"License: {metadata_table['license']}",
+        f"Keywords: {','.join(metadata_table['keywords'])}",
+        *(f"Project-URL: {name}, {url}" for name, url in metadata_table["urls"].items()),
+        *(f"License-File: {name}" for name in metadata_table["license-files"]),
+        f"Requires-Python: {metadata_table['requires-python']}",
+        *(f"Classifier: {word}" for word in metadata_table["classifiers"]),
     ]
-    for extra, wanted in told["optional-dependencies"].items():
+    for extra, wanted in metadata_table["optional-dependencies"].items():
         lines += [
             f"Provides-Extra: {extra}",
-            *(f'Requires-Dist: {one}; extra == "{extra}"' for one in wanted),
+            *(f'Requires-Dist: {requirement}; extra == "{extra}"' for requirement in wanted),
         ]
     return "\n".join(
-        [*lines, "Description-Content-Type: text/markdown", "", (HERE / told["readme"]).read_text()]
+        [
+            *lines,
+            "Description-Content-Type: text/markdown",
+            "",
+            (HERE / metadata_table["readme"]).read_text(),
+        ]
     )
 
 
-def info(told: list[str]) -> dict[str, str]:
-    """The files that tell of the wheel, which has these tags."""
-    scripts = "\n".join(f"{name} = {place}" for name, place in project()["scripts"].items())
+def info(tags: list[str]) -> dict[str, str]:
+    """Return the files that describe the wheel, which has these tags."""
+    scripts = "\n".join(f"{name} = {function}" for name, function in project()["scripts"].items())
     return {
         "METADATA": metadata(),
         "WHEEL": "Wheel-Version: 1.0\nGenerator: wheels\nRoot-Is-Purelib: false\n"
-        + "".join(f"Tag: {tag}\n" for tag in told),
+        + "".join(f"Tag: {tag}\n" for tag in tags),
         "entry_points.txt": f"[console_scripts]\n{scripts}\n",
         "top_level.txt": "sagas\n",
     }
@@ -147,6 +153,8 @@ def build_wheel(
         wheel.add(name, data)
     for name, data in engine.files.items():
         wheel.add(f"sagas/bin/{name}", data, 0o755)
+    planner = engines.of_dist("", engines.PLANNER).read_bytes()
+    wheel.add(f"sagas/bin/{engines.PLANNER}", planner)
     return wheel.end()
 
 

@@ -22,9 +22,9 @@ PATIENCE = 90.0
 
 def free_port() -> int:
     """Return a port that no process uses at this moment."""
-    with socket.socket() as one:
-        one.bind(("127.0.0.1", 0))
-        return int(one.getsockname()[1])
+    with socket.socket() as connection:
+        connection.bind(("127.0.0.1", 0))
+        return int(connection.getsockname()[1])
 
 
 class Program:

@@ -14,12 +14,14 @@ from collections.abc import Callable, Coroutine, Sequence
 from typing import Any, TypeVar
 
 import sagas
+from sagas.inspection import lists
+from sagas.inspection.views import Waits
 
 T = TypeVar("T")
 Task = sagas.Task[Any]
 QUICK = sagas.Backoff(initial=0.01, maximum=0.02)
 HOUR = sagas.Backoff(initial=3600, maximum=3600)
-PLACES = ("sqlite", "postgresql")
+STORE_KINDS = ("sqlite", "postgresql")
 """The values of the fixture `location`."""
 
 
@@ -29,7 +31,7 @@ def pairs(*options: Sequence[Any]) -> list[tuple[Any, ...]]:
     met = {row: {*itertools.combinations(enumerate(row), 2)} for row in rows}
     left, chosen = set().union(*met.values()), []
     while left:
-        row = max(rows, key=lambda one: len(met[one] & left))
+        row = max(rows, key=lambda row: len(met[row] & left))
         left -= met[row]
         chosen.append(row)
     return [tuple(values[at] for values, at in zip(options, row)) for row in sorted(chosen)]
@@ -55,19 +57,19 @@ def simple(function: Callable[[Task], Any], **options: Any) -> sagas.Saga:
 
 
 async def ended(
-    store: sagas.Store, saga: sagas.Saga, key: str = "k", given: Any = None
+    store: sagas.Store, saga: sagas.Saga, key: str = "k", value: Any = None
 ) -> sagas.SagaResult:
     """Run a saga from its start to its end."""
-    return await (await store.start(saga, key=key, input=given)).wait()
+    return await (await store.start(saga, key=key, input=value)).wait()
 
 
 async def surely_ended(
-    store: sagas.Store, saga: sagas.Saga, key: str = "k", given: Any = None
+    store: sagas.Store, saga: sagas.Saga, key: str = "k", value: Any = None
 ) -> sagas.SagaResult:
     """Run a saga to its end; repeat the calls while the store is unavailable."""
     while True:
         try:
-            return await ended(store, saga, key, given)
+            return await ended(store, saga, key, value)
         except sagas.StoreUnavailable:
             await asyncio.sleep(0.02)
 
@@ -87,9 +89,19 @@ async def until(condition: Callable[[], Any], seconds: float = 120) -> Any:
             await asyncio.sleep(0.005)
 
 
-async def attempts_to_report(store: sagas.Store) -> list[sagas.UnknownAttempt]:
+async def unknown_attempts(store: sagas.Store) -> list[Waits]:
+    """Return the attempts with an unknown outcome."""
+    return await store._answer(lists.waits(1000, person=False, why="unknown"))
+
+
+async def attempts_to_report(store: sagas.Store) -> list[Waits]:
     """Return the attempts whose outcome an operator has to report."""
-    return [held for held in await store.unknown() if held.asked]
+    return [held for held in await unknown_attempts(store) if held.asks]
+
+
+async def stuck_keys(store: sagas.Store) -> list[str]:
+    """Return the keys of the stuck sagas that are not resolved."""
+    return [entry.key for entry in await store.attention() if entry.why == "stuck"]
 
 
 def in_child(work: Callable[[], object], seconds: float = 60) -> str:

@@ -81,7 +81,7 @@ def worker_command(queue: str, name: str) -> list[str]:
 
 @dataclass
 class Strikes:
-    """The programs of one store. They are struck, and started again, until all sagas are over."""
+    """The programs of one store: they get faults, and start again, until all sagas are over."""
 
     folder: pathlib.Path
     kind: str
@@ -89,7 +89,7 @@ class Strikes:
     broker: Broker
     server: Server | None
     sagas: int
-    most: float
+    time_limit: float
     quiet: int
     wrong: str | None = None
     kills: Counter[str] = field(default_factory=Counter)
@@ -122,7 +122,7 @@ class Strikes:
 
     @property
     def is_late(self) -> bool:
-        return time.monotonic() - self.began > self.most
+        return time.monotonic() - self.began > self.time_limit
 
     def start_owner(self, name: str) -> Program:
         variables = {"SAGAS_TEST_NODE": name} | (
@@ -154,9 +154,9 @@ class Strikes:
                 self.start_owner(name)
             return self._until_over()
         finally:
-            for one in (*self.owners.values(), self.worker, self.older):
-                if one:
-                    one.kill()
+            for process in (*self.owners.values(), self.worker, self.older):
+                if process:
+                    process.kill()
 
     def _until_over(self) -> str | None:
         assert self.worker
@@ -185,9 +185,9 @@ class Strikes:
             elif striking:
                 kind = self.draw.choice(KINDS[:-1]) if self.kind == "all" else self.kind
                 getattr(self, f"_{kind}")(*([name] if kind in ("owner", NODES) else []))
-        return f"not over after {self.most:.0f} s"
+        return f"not over after {self.time_limit:.0f} s"
 
-    # -- strikes
+    # -- faults
 
     def _child(self) -> None:
         assert self.worker
@@ -276,17 +276,19 @@ def play(
     sagas: int,
     *,
     server: Server | None = None,
-    most: float = 150,
+    time_limit: float = 150,
     quiet: int = 6,
     wrong: str | None = None,
 ) -> Round:
-    """Play one round: a store, its strikes and the verdict.
+    """Play one round: a store, its faults and the verdict.
 
     The files stay if there are faults. With `wrong` nothing is random; the worker is one of
     `wrong_workers`, or a right one if that is empty.
     """
     folder = pathlib.Path(tempfile.mkdtemp(prefix="sagas-celery-"))
-    strikes = Strikes(folder, kind, random.Random(seed), broker, server, sagas, most, quiet, wrong)
+    strikes = Strikes(
+        folder, kind, random.Random(seed), broker, server, sagas, time_limit, quiet, wrong
+    )
     with witness_at(folder / "socket", folder / "notes"):
         trouble = strikes.until_over()
     verdict = judge(strikes.store, folder / "notes", sagas)
@@ -315,12 +317,12 @@ def _job(broker: str, store: str, kinds: list[str], seeds: list[int], sagas: int
             rounds = []
             for seed in seeds:
                 rounds.append(
-                    one := play(kinds[seed % len(kinds)], seed, running, sagas, server=server)
+                    played := play(kinds[seed % len(kinds)], seed, running, sagas, server=server)
                 )
                 print(
                     (
-                        f"{broker} {store} {one.kind} {seed}:"
-                        f" {dict(one.kills)} {one.problems[:5]} {one.folder or ''}"
+                        f"{broker} {store} {played.kind} {seed}:"
+                        f" {dict(played.kills)} {played.problems[:5]} {played.folder or ''}"
                     ),
                     flush=True,
                 )
@@ -358,12 +360,12 @@ def main() -> int:
             )
             for job in range(options.jobs)
         ]
-        rounds = [one for job in jobs for one in job.result()]
+        rounds = [played for job in jobs for played in job.result()]
     kills, figures = Counter[str](), Counter[str]()
-    for one in rounds:
-        kills += one.kills
-        figures += one.verdict.figures
-    bad = sum(bool(one.problems) for one in rounds)
+    for played in rounds:
+        kills += played.kills
+        figures += played.verdict.figures
+    bad = sum(bool(played.problems) for played in rounds)
     print(
         f"{len(rounds)} rounds over {options.broker} and {options.store}, {bad} bad,"
         f" seed {options.seed},"

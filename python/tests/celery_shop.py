@@ -92,7 +92,12 @@ class Shop:
 
     def open(self, **options: Any) -> sagas.Store:
         """Open the store."""
-        return sagas.open(self.settings["store"], self.sagas, program=program(), **options)
+        return sagas.open(
+            self.settings["store"],
+            self.sagas,
+            settings=sagas.Settings(program=program()),
+            **options,
+        )
 
     def worker(self, folder: pathlib.Path, *more: str, name: str = "w", **other: Any) -> Program:
         """Start a worker and wait until it is ready; `other` replaces options of its command."""
@@ -174,7 +179,7 @@ class Shop:
         async def tour(task: sagas.Task[Trip]) -> dict[str, Any]:
             self.note(task, row=task.result_of(flight).row, meal=task.result_of(meal))
             if task.input.wish == "full":
-                raise ValueError("full")
+                raise sagas.Retry("full")
             if task.input.wish == "never":
                 raise sagas.Fail("never")
             if task.input.wish == "lost" and len(self.calls(task.key)) < 5:
@@ -207,7 +212,7 @@ class Shop:
                 input=len(task.input["more"]),
             )
             if task.input["fail"]:
-                raise ValueError("no")
+                raise sagas.Fail("no")
             return object()  # cannot be written as JSON
 
         return large
@@ -220,7 +225,7 @@ class Shop:
                 self.app, str(self.settings["queue"]), soft_time_limit=1, time_limit=60, priority=3
             ),
             backoff=QUICK,
-            max_unknown=0,
+            max_unknown=1,
         )
         def long(task: Any) -> None:
             self.note(task)
@@ -231,7 +236,7 @@ class Shop:
     def _slow(self) -> sagas.Saga:
         slow = sagas.Saga("slow")
 
-        @slow.step(queue=self.queue, timeout=1, backoff=QUICK, max_unknown=0)
+        @slow.step(queue=self.queue, timeout=1, backoff=QUICK, max_unknown=1)
         def once(task: Any) -> str:
             self.note(task)
             return "late"
@@ -263,7 +268,7 @@ class Shop:
         order = sagas.Saga("order")
 
         @order.step(
-            for_each=lambda given: given["parcels"], queue=self.queue, keep=lambda seat: 5, undo=1
+            for_each=lambda order: order["parcels"], queue=self.queue, keep=lambda seat: 5, undo=1
         )
         def ship(task: sagas.ItemTask[Any, Seat]) -> Seat:
             self.note(task, index=task.index, declared=task.declared_step)
@@ -297,7 +302,7 @@ class Shop:
             self.note(task)
             task.connection.execute(row, (task.key, "book", task.idempotency_key))
             if task.input == "once" and task.attempt == 1:
-                raise ValueError("behind its row")
+                raise ValueError("after its row")
             until = time.monotonic() + 30
             while task.key == "good" and len(self.calls("good")) < 2 and time.monotonic() < until:
                 time.sleep(0.01)  # until the duplicated message is started twice

@@ -1,4 +1,4 @@
-"""The program that `celery_kills.py` strikes: sagas whose steps run on Celery's workers.
+"""The program of `celery_kills.py`: sagas whose steps run on Celery's workers.
 
 Each call is reported to a witness outside.
 
@@ -9,8 +9,8 @@ Both take from the environment SAGAS_TEST_STORE, SAGAS_TEST_SOCKET (of the witne
 SAGAS_TEST_BROKER and SAGAS_TEST_QUEUE. With SAGAS_TEST_OLD a worker has an older definition,
 without one step. With SAGAS_TEST_WRONG=NAME it has the fault of that module of `wrong_workers`.
 SAGAS_TEST_NODE and SAGAS_TEST_LEASE name the program if there are two over PostgreSQL. Messages are
-duplicated or delayed at random, and some outcomes are unknown at random; with SAGAS_TEST_PLAIN
-nothing is random.
+duplicated or delayed at random, some outcomes are unknown at random, and some calls have a bug.
+With SAGAS_TEST_PLAIN nothing is random.
 """
 
 from __future__ import annotations
@@ -29,11 +29,20 @@ from typing import Any
 import celery
 import psycopg
 from witness import Witness
-from world import QUICK, OutsideReader, World, chance, one
+from world import (
+    QUICK,
+    OutsideReader,
+    Refused,
+    World,
+    chance,
+    is_unexpected,
+    retry_bugs,
+    start_and_wait,
+)
 
 import sagas
 import sagas.celery
-from sagas.core.external_work import Order
+from sagas.core.attempt.external_work import Order
 
 PAUSE = 0.001
 TIMEOUT = 4.0
@@ -77,6 +86,8 @@ class OutsideServerReader(OutsideReader):
 class Remote(World):
     """The sagas, over a witness to which each process of a worker has its own connection."""
 
+    has_bugs = "SAGAS_TEST_PLAIN" not in os.environ
+
     def __init__(self, queue: sagas.celery.Queue, store: str, socket: str, old: bool) -> None:
         reader_class = OutsideServerReader if store.startswith("postgresql:") else OutsideReader
         self.queue, self.reader, self._socket, self._old = queue, reader_class(store), socket, old
@@ -106,7 +117,15 @@ class Remote(World):
         """Three steps in a row, with failures and compensations."""
         chain, there = sagas.Saga("chain"), self.queue
 
-        @chain.step(keep=9, undo=1, queue=there, timeout=TIMEOUT, backoff=QUICK)
+        @chain.step(
+            tries=1,
+            no_effect=(Refused,),
+            keep=9,
+            undo=1,
+            queue=there,
+            timeout=TIMEOUT,
+            backoff=QUICK,
+        )
         async def reserve(task: Any) -> Any:
             await asyncio.sleep(PAUSE)
             return self.act(task, 0.05)
@@ -116,18 +135,32 @@ class Remote(World):
             self.act(task, 0.3)
 
         @chain.step(
-            needs=[reserve], tries=3, backoff=QUICK, keep=9, undo=1, queue=there, timeout=TIMEOUT
+            no_effect=(Refused,),
+            needs=[reserve],
+            tries=3,
+            backoff=QUICK,
+            keep=9,
+            undo=1,
+            queue=there,
+            timeout=TIMEOUT,
         )
         def charge(task: Any) -> Any:
             return self.act(task, 0.3, unknown=0.1)
 
-        @charge.compensation(backoff=QUICK, timeout=TIMEOUT, on_exhausted="fail")
+        @charge.compensation(tries=1, backoff=QUICK, timeout=TIMEOUT, on_exhausted="fail")
         def refund(task: Any) -> None:
             self.act(task, 0.05, unknown=0.1)
 
         if not self._old:
 
-            @chain.step(needs=[charge], tries=2, backoff=QUICK, queue=there, timeout=TIMEOUT)
+            @chain.step(
+                no_effect=(Refused,),
+                needs=[charge],
+                tries=2,
+                backoff=QUICK,
+                queue=there,
+                timeout=TIMEOUT,
+            )
             def ship(task: Any) -> Any:
                 return self.act(task, 0.4)
 
@@ -137,29 +170,53 @@ class Remote(World):
         """A diamond with costs."""
         trip, there = sagas.Saga("trip"), self.queue
 
-        @trip.step(queue=there, timeout=TIMEOUT, backoff=QUICK)
+        @trip.step(tries=1, no_effect=(Refused,), queue=there, timeout=TIMEOUT, backoff=QUICK)
         def flight(task: Any) -> Any:
             return self.act(task, 0.1)
 
-        @trip.step(needs=[flight], keep=8, undo=2, backoff=QUICK, queue=there, timeout=TIMEOUT)
+        @trip.step(
+            tries=1,
+            no_effect=(Refused,),
+            needs=[flight],
+            keep=8,
+            undo=2,
+            backoff=QUICK,
+            queue=there,
+            timeout=TIMEOUT,
+        )
         def hotel(task: Any) -> Any:
             return self.act(task, 0.2, unknown=0.1)
 
-        @hotel.compensation(timeout=TIMEOUT, on_exhausted="fail")
+        @hotel.compensation(tries=1, timeout=TIMEOUT, on_exhausted="fail")
         def cancel_hotel(task: Any) -> None:
             self.act(task, 0.0)
 
         @trip.step(
-            needs=[flight], keep=8, undo=5, tries=2, backoff=QUICK, queue=there, timeout=TIMEOUT
+            no_effect=(Refused,),
+            needs=[flight],
+            keep=8,
+            undo=5,
+            tries=2,
+            backoff=QUICK,
+            queue=there,
+            timeout=TIMEOUT,
         )
         def car(task: Any) -> Any:
             return self.act(task, 0.2)
 
-        @car.compensation(timeout=TIMEOUT, on_exhausted="fail")
+        @car.compensation(tries=1, timeout=TIMEOUT, on_exhausted="fail")
         def cancel_car(task: Any) -> None:
             self.act(task, 0.1)
 
-        @trip.step(needs=[hotel, car], skip=3, queue=there, timeout=TIMEOUT, backoff=QUICK)
+        @trip.step(
+            tries=1,
+            no_effect=(Refused,),
+            needs=[hotel, car],
+            skip=3,
+            queue=there,
+            timeout=TIMEOUT,
+            backoff=QUICK,
+        )
         def tour(task: Any) -> Any:
             return self.act(task, 0.3)
 
@@ -169,11 +226,18 @@ class Remote(World):
         """A saga that may be stuck."""
         must, there = sagas.Saga("must"), self.queue
 
-        @must.step(skip=sagas.NEVER, tries=2, backoff=QUICK, queue=there, timeout=TIMEOUT)
+        @must.step(
+            no_effect=(Refused,),
+            skip=sagas.NEVER,
+            tries=2,
+            backoff=QUICK,
+            queue=there,
+            timeout=TIMEOUT,
+        )
         def machine(task: Any) -> Any:
             return self.act(task, 0.4)
 
-        @must.step(needs=[machine], skip=sagas.NEVER)
+        @must.step(tries=1, no_effect=(Refused,), needs=[machine], skip=sagas.NEVER)
         async def licence(task: Any) -> Any:
             return self.act(task, 0.1)
 
@@ -183,7 +247,7 @@ class Remote(World):
         """Steps in this process and on workers."""
         mixed, there = sagas.Saga("mixed"), self.queue
 
-        @mixed.step(keep=9, undo=1, backoff=QUICK)
+        @mixed.step(tries=1, no_effect=(Refused,), keep=9, undo=1, backoff=QUICK)
         async def order(task: Any) -> Any:
             return self.act(task, 0.05, unknown=0.1)
 
@@ -197,7 +261,15 @@ class Remote(World):
         async def pause(task: Any) -> Any:
             return self.act(task, 0.1)
 
-        @mixed.step(needs=[pause], concurrency=2, queue=there, timeout=TIMEOUT, backoff=QUICK)
+        @mixed.step(
+            tries=1,
+            no_effect=(Refused,),
+            needs=[pause],
+            concurrency=2,
+            queue=there,
+            timeout=TIMEOUT,
+            backoff=QUICK,
+        )
         async def go(task: Any) -> Any:
             return self.act(task, 0.3)
 
@@ -230,7 +302,7 @@ async def surely(world: World, store: sagas.Store, number: int) -> None:
     """Run a saga to its end; repeat the calls while the store is unavailable."""
     while True:
         try:
-            return await one(world, store, number)
+            return await start_and_wait(world, store, number)
         except sagas.StoreUnavailable:
             await asyncio.sleep(0.1)
 
@@ -242,7 +314,7 @@ async def main(world: World, store: str, count: int) -> None:
             store,
             world.sagas,
             concurrency=32,
-            engine_processes=4,
+            settings=sagas.Settings(engine_processes=4),
             shutdown_timeout=0.5,
             node=os.environ.get("SAGAS_TEST_NODE", "owner"),
             lease=LEASE,
@@ -261,8 +333,9 @@ async def main(world: World, store: str, count: int) -> None:
 
 
 async def work_on(world: World, opened: sagas.Store, count: int) -> None:
-    """Start the sagas that do not exist, and wait for all."""
+    """Start the sagas that do not exist, and wait for all; retry the attempts that had a bug."""
     print("open", flush=True)
+    retrying = asyncio.create_task(retry_bugs(opened))
     work = asyncio.gather(*(surely(world, opened, number) for number in range(count)))
     asyncio.get_running_loop().add_signal_handler(signal.SIGTERM, work.cancel)
     try:
@@ -270,10 +343,13 @@ async def work_on(world: World, opened: sagas.Store, count: int) -> None:
         print("done", flush=True)
     except asyncio.CancelledError:
         print("closing", flush=True)
+    finally:
+        retrying.cancel()
 
 
 if "SAGAS_TEST_STORE" in os.environ:
     app, world = make()
     if __name__ == "__main__":
         logging.basicConfig(level=logging.WARNING, format="%(asctime)s %(name)s %(message)s")
+        logging.getLogger("sagas").addFilter(is_unexpected)
         asyncio.run(main(world, os.environ["SAGAS_TEST_STORE"], int(sys.argv[1])))

@@ -84,12 +84,13 @@ def validator(text: str) -> Any:
 
 def check(answer: httpx.Response) -> None:
     """Raise `AssertionError` if a response is not as the document describes it."""
+    assert answer.headers.get("x-request-id"), f"{answer.request.method} {answer.request.url}"
     request = answer.request
     raw = request.url.raw_path.decode().partition("?")[0]
     kind = answer.headers.get("content-type", "").partition(";")[0]
     if raw.startswith("/ui") or raw in ("/", "/favicon.ico") or kind == "text/event-stream":
         return
-    where = f"{request.method} {raw} {answer.status_code}"
+    call = f"{request.method} {raw} {answer.status_code}"
     described = operation(request.method, raw)
     body = answer.read()
     if answer.status_code >= 400 and kind == problems.MEDIA_TYPE and request.method != "HEAD":
@@ -97,23 +98,23 @@ def check(answer: httpx.Response) -> None:
         schema = {"$ref": "#/components/schemas/Problem"}
         validator(json.dumps(schema)).validate(document)
         name = document["type"].removeprefix(problems.PREFIX)
-        assert document["status"] == answer.status_code == problems.PROBLEMS[name].status, where
+        assert document["status"] == answer.status_code == problems.PROBLEMS[name].status, call
         if described is None or name in ANYWHERE:
             return
         names = resolved(described["responses"].get(str(answer.status_code), {})).get(
             "description", ""
         )
-        assert f"`{name}`" in names, f"{where}: the document does not have {name}"
-    assert described is not None, f"{where}: the document has no such operation"
+        assert f"`{name}`" in names, f"{call}: the document does not have {name}"
+    assert described is not None, f"{call}: the document has no such operation"
     status = str(answer.status_code)
     seen.setdefault(described["operationId"], set()).add(status)
-    assert status in described["responses"], f"{where}: not in the document"
+    assert status in described["responses"], f"{call}: not in the document"
     content = resolved(described["responses"][status]).get("content")
     if content is None or request.method == "HEAD":
         return
-    assert kind in content, where
+    assert kind in content, call
     if kind in ("application/json", problems.MEDIA_TYPE):
         problem = next(
             validator(json.dumps(content[kind]["schema"])).iter_errors(json.loads(body)), None
         )
-        assert problem is None, f"{where}: {problem.message} at {list(problem.absolute_path)}"
+        assert problem is None, f"{call}: {problem.message} at {list(problem.absolute_path)}"

@@ -1,9 +1,10 @@
 """A shard without a store's event loop, functions and database: the core under random errors.
 
-A `World` stands for the runtime: an engine (`sagas drive --lines`), a store in memory whose commits
-may be refused or lose their reply, and functions that end when the test says so. A seeded generator
-draws each of its moves, so that one number reproduces a failure. At the end `sagas audit` and the
-reference model of `follower.py` check the event log, and the rows are compared with the log.
+A `World` takes the part of the runtime: an engine (`sagas drive --lines`), a store in memory, and
+functions that end when the test says so. Commits of the store may be refused or lose their reply. A
+seeded generator draws each of its moves, so that one number reproduces a failure. At the end
+`sagas audit` and the reference model of `follower.py` check the event log, and the rows are
+compared with the log.
 """
 
 from __future__ import annotations
@@ -21,16 +22,18 @@ from driving import audit, program
 from follower import Definition, Follower
 
 import sagas
-from sagas.core import attempt_machine, outcomes, protocol, recovery
-from sagas.core.attempt_machine import AttemptMachine, Decision, Do, is_reportable
-from sagas.core.batch import Batch, LoadedShard
+from sagas.core import outcomes, recovery
+from sagas.core.attempt import machine as attempt_machine
+from sagas.core.attempt.directives import Decision, Do
+from sagas.core.attempt.machine import AttemptMachine, is_reportable
+from sagas.core.shard.batch import Batch, LoadedShard
 from sagas.core.effects import Abort, Effects
-from sagas.core.attempt import Attempt, FINISHED, RUNNING, SUSPENDED, SuspensionRow
-from sagas.core.saga_instance import SagaInstance
+from sagas.core.attempt.model import Attempt, FINISHED, RUNNING, SUSPENDED, SuspensionRow
+from sagas.core.attempt.instance import SagaInstance
 from sagas.core.outcomes import Outcome
-from sagas.core.shard import ShardDefinitions, ShardDriver, ShardIdentity
+from sagas.core.shard.driver import ShardDefinitions, ShardDriver, ShardIdentity
 from sagas.core.states import ShardState
-from sagas.definition.capacity import SHARD_CAPACITY
+from sagas.definition.capacity import HEADER, SHARD_CAPACITY
 from sagas.definition.compiled import CompiledDefinition
 from sagas.definition.start_options import StartOptions
 
@@ -66,7 +69,7 @@ class Engine:
                 shown.append(line[1:])
             else:
                 replies.append(line.rstrip("\n"))
-        return replies, "".join(shown).removeprefix(protocol.HEADER)
+        return replies, "".join(shown).removeprefix(HEADER)
 
     def kill(self) -> None:
         """Kill the process."""
@@ -105,7 +108,7 @@ class Store:
         """Commit a batch."""
         if batch.text:
             if batch.first != self.events:
-                raise Wrong(f"lines behind {batch.first} events, where {self.events} are")
+                raise Wrong(f"lines after {batch.first} events, where {self.events} are")
             self.chunks.append(batch.text)
             self.events += batch.text.count("\n")
             for line in batch.text.splitlines():
@@ -152,7 +155,7 @@ class Store:
             text=self.text,
             events=self.events,
             opened=len(self.sagas),
-            open=[(id, *row[:3], row[5], None, None) for id, row in sorted(open_ones.items())],
+            open=[(id, *row[:3], row[5], None, None, 0.0) for id, row in sorted(open_ones.items())],
             results=[(*key, *row) for key, row in self.attempts.items() if key[0] in open_ones],
             held=[row for key, row in self.suspensions.items() if key[0] in open_ones],
             epoch=1,
@@ -163,7 +166,7 @@ class World:
     """One shard, from its first saga to the end of its last."""
 
     def __init__(
-        self, kinds: Sequence[sagas.Saga], folder: pathlib.Path, seed: int, sagas_at_most: int
+        self, kinds: Sequence[sagas.Saga], folder: pathlib.Path, seed: int, max_sagas: int
     ) -> None:
         self.random, self.folder = random.Random(seed), folder
         texts = [kind.toml() for kind in kinds]
@@ -180,7 +183,7 @@ class World:
         self.engine: Engine | None = None
         self.known: dict[str, SagaInstance] = {}
         self.now = 1_000_000.0
-        self.left = sagas_at_most
+        self.left = max_sagas
         self.commits: deque[Effects] = deque()
         self.waiting: list[SagaInstance] = []  # to be opened once the shard is active
         self.running: dict[Attempt, None] = {}
@@ -190,15 +193,15 @@ class World:
 
     # -- moves
 
-    def play(self, most: int) -> None:
+    def play(self, steps: int) -> None:
         """Make this many moves, and then only moves that lead to the end."""
         try:
             for count in itertools.count():
                 if not self.left and not self._is_open():
                     break
-                if count > 10 * most:
+                if count > 10 * steps:
                     raise Wrong(f"it does not end: {self._stuck()}")
-                self._move(calm=count > most)
+                self._move(calm=count > steps)
                 self._look()
             while self.commits:
                 self._commit()
@@ -224,7 +227,7 @@ class World:
             moves.append((200, "start", self._start))
         if driver.state is ShardState.STALE and not self.commits:
             moves.append((200, "recover", self._recover))
-        if driver.state is ShardState.ACTIVE and engine and driver.is_due(True):
+        if driver.state is ShardState.ACTIVE and engine and self._is_due():
             moves.append((60, "turn", self._turn))
         if self.commits:
             moves.append((60, "commit", self._commit))
@@ -234,7 +237,9 @@ class World:
             moves.append((30, "ring", lambda: self._ring(timed)))
         if open_attempts := self._open_attempts():
             moves.append((20, "answer", lambda: self._answer(open_attempts)))
-        if retried := [one for one in self._attempts() if attempt_machine.may_retry(one)]:
+        if retried := [
+            attempt for attempt in self._attempts() if attempt_machine.may_retry(attempt)
+        ]:
             moves.append((3, "retry", lambda: self._retry(retried)))
         if not calm:
             if self.commits:
@@ -314,7 +319,7 @@ class World:
 
     def _stuck(self) -> str:
         return "; ".join(
-            f"{saga.key}: {[(one.row, one.state, one.reason) for one in saga.busy.values()]}"
+            f"{saga.key}: {[(busy.row, busy.state, busy.reason) for busy in saga.busy.values()]}"
             for saga in self.driver.sagas.values()
         )
 
@@ -337,7 +342,7 @@ class World:
         log = None
         if self.store.text:
             log = self.folder / "log.jsonl"
-            log.write_text(protocol.HEADER + self.store.text)
+            log.write_text(HEADER + self.store.text)
         return Engine(self.paths, log)
 
     def _turn(self) -> None:
@@ -403,9 +408,14 @@ class World:
             self.engine.kill()
         self.engine = None
 
+    def _is_due(self) -> bool:
+        """Return whether a request to the engine is due."""
+        driver = self.driver
+        return bool(driver.reports or driver.opens or driver.aborts or driver.may_have_tasks)
+
     def _sleep(self) -> None:
         """Let another shard use the engine, when nothing is in progress."""
-        if not self.commits and not self.driver.is_due(True) and not self.driver.unanswered:
+        if not self.commits and not self._is_due() and not self.driver.unanswered:
             self._lose_engine()
             self.driver.set_state(ShardState.IDLE)
 
@@ -431,13 +441,13 @@ class World:
         driver.loaded(rows)
         over = {row[0] for row in self.store.sagas.values() if row[3] is not None}
         # as the runtime looks for them
-        for saga in [one for one in driver.opens_sent if one.key in over]:
+        for saga in [saga for saga in driver.opens_sent if saga.key in over]:
             del driver.opens_sent[saga]
         starting, new = recovery.take_unopened(driver, rows, self.known)
         self.engine = self._engine()
         overdue = recovery.overdue(rows, self.now)
         replies, text = self.engine.ask(recovery.requests(rows, overdue))
-        before = {one for saga in driver.sagas.values() for one in saga.busy.values()} | {
+        before = {attempt for saga in driver.sagas.values() for attempt in saga.busy.values()} | {
             *driver.unstored_reports()
         }
         recovered = recovery.recover(
@@ -448,8 +458,8 @@ class World:
         for attempt in recovered.forgotten:
             attempt.forget()
             self.running.pop(attempt, None)
-        after = {one for saga in driver.sagas.values() for one in saga.busy.values()}
-        if any(one.state is not FINISHED for one in before - after):
+        after = {attempt for saga in driver.sagas.values() for attempt in saga.busy.values()}
+        if any(attempt.state is not FINISHED for attempt in before - after):
             raise Wrong("an attempt that is gone is not finished")
         driver.begin_commit(recovered.effects)
         self._put(recovered.effects)
@@ -470,7 +480,8 @@ class World:
         for saga in (*effects.rare.draining, *effects.rare.overdue):
             self._drain(saga)
         for saga in effects.opened:
-            if saga.is_overdue(effects.batch.at) and not saga.aborted:
+            deadline = saga.options.deadline
+            if deadline is not None and deadline <= effects.batch.at and not saga.aborted:
                 raise Wrong(f"{saga.key} continues after its deadline")
         for abort in effects.rare.aborted:
             if abort.done:
@@ -488,19 +499,19 @@ class World:
             self._call(attempt)
         elif decision.do is Do.REPORT_AGAIN:
             self.machine.report(attempt)
-            self.driver.report(attempt)
+            self.driver.reports[attempt] = None
         elif decision.do is Do.REPORT:
             call = attempt.instance.number, attempt.step, attempt.kind, attempt.attempt
             decides_itself = attempt.declared.kind == "approval"
             if attempt.outcome and not attempt.outcome.called and self.begun[call]:
                 if not decides_itself:
                     raise Wrong(f"{attempt.row} was called, and is reported as if it was not")
-            self.driver.report(attempt)
+            self.driver.reports[attempt] = None
         if decision.row:
             self._suspend(attempt, decision.row)
 
     def _suspend(self, attempt: Attempt, row: SuspensionRow) -> None:
-        attempt.has_row, attempt.pending_row = True, row
+        attempt.expect_row(row)
         effects = self.driver.suspended(attempt, row, self.now)
         self.driver.begin_commit(effects)
         self._put(effects)
@@ -574,24 +585,24 @@ class World:
     def _attempts(self) -> list[Attempt]:
         if not self.driver.is_current:
             return []
-        return [one for saga in self.driver.sagas.values() for one in saga.busy.values()]
+        return [attempt for saga in self.driver.sagas.values() for attempt in saga.busy.values()]
 
     def _timed(self) -> list[Attempt]:
         return [
-            one
-            for one in self._attempts()
-            if one.state is SUSPENDED and one.until is not None and one.until > 0
+            attempt
+            for attempt in self._attempts()
+            if attempt.state is SUSPENDED and attempt.until is not None and attempt.until > 0
         ]
 
     def _ring(self, attempts: list[Attempt]) -> None:
-        attempt = min(attempts, key=lambda one: one.until or 0.0)
+        attempt = min(attempts, key=lambda attempt: attempt.until or 0.0)
         assert attempt.until is not None
         self.now = max(self.now, attempt.until)
         if attempt.pending_row is None:  # its timer is set once its row exists
             self._do(attempt, self.machine.timer(attempt, self.now))
 
     def _open_attempts(self) -> list[Attempt]:
-        return [one for one in self._attempts() if is_reportable(one)]
+        return [attempt for attempt in self._attempts() if is_reportable(attempt)]
 
     def _answer(self, attempts: list[Attempt]) -> None:
         """Report the outcome of an attempt, as an operator does."""
@@ -606,7 +617,7 @@ class World:
     def _retry(self, attempts: list[Attempt]) -> None:
         """Let an operator retry an attempt."""
         attempt = self.random.choice(attempts)
-        self._do(attempt, attempt_machine.retry_attempt(attempt, self.now))
+        self._do(attempt, self.machine.retry(attempt, self.now))
 
     def _abort(self, going: list[SagaInstance]) -> None:
         self.aborts.append(Abort(self.random.choice(going)))
@@ -617,7 +628,7 @@ class World:
     def judge(self) -> None:
         """Check that the log is allowed, and that everything else agrees with it."""
         log = self.folder / "log.jsonl"
-        log.write_text(protocol.HEADER + self.store.text)
+        log.write_text(HEADER + self.store.text)
         verdict = audit(log, self.paths)
         if not verdict.startswith("yes"):
             raise Wrong(f"sagas audit: {verdict}")

@@ -30,9 +30,9 @@ def prices(nevers: int) -> st.SearchStrategy[int | str]:
 
 
 @st.composite
-def steps(draw: st.DrawFn, most: int = 5) -> list[StepDraw]:
-    """Return 1 to `most` steps, each of which may need earlier ones."""
-    count = draw(st.integers(1, most))
+def steps(draw: st.DrawFn, max_steps: int = 5) -> list[StepDraw]:
+    """Return 1 to `max_steps` steps, which may need earlier ones."""
+    count = draw(st.integers(1, max_steps))
     return [
         StepDraw(
             name=f"s{number}",

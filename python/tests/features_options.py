@@ -12,7 +12,9 @@ from collections.abc import Iterable
 
 OPTIONS = (
     "child",
+    "each",
     "for_each",
+    "optional",
     "when",
     "inclusion",
     "deadline",
@@ -27,14 +29,21 @@ OPTIONS = (
     "on_exhausted",
     "context",
     "retention",
+    "restart",
+    "ordered",
     "external",
+    "on_end",
+    "pause",
+    "erase",
+    "pivot",
+    "drain",
     "celery",
 )
-SERVED = ("celery",)
+SERVED = ("celery", "drain")
 """Drawn over PostgreSQL only."""
 APART = {frozenset(("celery", "codec")), frozenset(("celery", "blobs"))}
 """Combinations that a store refuses."""
-EACH, BLOCK = 6, 20
+EACH, BLOCK = 8, 20
 """Features of a round, and rounds of a block."""
 STORES = ("sqlite", "postgresql")
 Pair = frozenset[str]
@@ -42,7 +51,7 @@ Pair = frozenset[str]
 
 def options_over(store: str) -> list[str]:
     """Return the features that a round over this database may have."""
-    return [one for one in OPTIONS if store == "postgresql" or one not in SERVED]
+    return [option for option in OPTIONS if store == "postgresql" or option not in SERVED]
 
 
 def pairs_of(options: Iterable[str]) -> set[Pair]:
@@ -55,17 +64,18 @@ def _row(options: list[str], left: set[Pair], draw: random.Random) -> list[str]:
     chosen: list[str] = []
     while len(chosen) < EACH:
         free = [
-            one
-            for one in options
-            if one not in chosen and not any(frozenset((one, other)) in APART for other in chosen)
+            option
+            for option in options
+            if option not in chosen
+            and not any(frozenset((option, other)) in APART for other in chosen)
         ]
         weight = {
-            one: (
-                sum(frozenset((one, other)) in left for other in chosen),
-                sum(one in pair for pair in left),
+            option: (
+                sum(frozenset((option, other)) in left for other in chosen),
+                sum(option in pair for pair in left),
                 draw.random(),
             )
-            for one in free
+            for option in free
         }
         chosen.append(max(free, key=weight.__getitem__))
     return chosen
@@ -80,7 +90,7 @@ def block(store: str, number: int) -> tuple[tuple[str, ...], ...]:
         while len(rows) < BLOCK:
             chosen = _row(options, left or pairs_of(options), draw)
             left -= pairs_of(chosen)
-            rows.append(tuple(one for one in options if one in chosen))
+            rows.append(tuple(option for option in options if option in chosen))
         if not left:
             draw.shuffle(rows)
             return tuple(rows)

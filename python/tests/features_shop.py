@@ -25,7 +25,7 @@ from collections.abc import Callable
 from typing import Any
 
 from witness import Witness
-from world import QUICK, World, chance
+from world import QUICK, Refused, World, chance, failure, unknown_error
 
 import sagas
 
@@ -39,6 +39,12 @@ SHORT, LONG = 0.3, 6.0
 MAX_MOVES = 1
 """Concurrent calls of `move` for an account in a program; over all nodes one more."""
 EXTERNAL = [("main", "far", "run"), ("main", "far", "undo")]
+OPTIONAL = {"mail", "send", "slip"}
+"""Steps that are optional in a round with that feature."""
+PIVOT = "charge"
+"""The step of `main` that is its pivot in a round with that feature."""
+WITHOUT_COSTS = ("main", "crate", "lid")
+"""The sagas whose costs the package computes in such a round."""
 
 
 @dataclasses.dataclass(frozen=True)
@@ -188,6 +194,8 @@ class Shop:
         more: dict[str, Any] = {"input": plain(task.input)}
         if task.declared_step == "send":
             more["item"] = task.item
+        if task.declared_step in ("ship", "deliver") and self.has("optional"):
+            more["failure"] = task.failure_of("mail")
         if self.has("context") and not function.startswith("post") and ".far" not in function:
             more["context"] = task.context.id
         if ".move" in function and call["kind"] == "run":
@@ -224,10 +232,10 @@ class Shop:
         if task.declared_step == "ask":
             self._fails_at_first(task, call["kind"])
         elif chance(name) < failing:
-            raise sagas.Fail("for good") if chance(name) < failing / 4 else ValueError("fails")
+            raise failure(chance(name) < failing / 4)
         self.note(what="effect", **call)
         if random.random() < unknown:
-            raise ConnectionError("nobody knows")
+            raise NameError("a bug") if random.random() < 0.2 else unknown_error()
         return result_of(task.key, task.step)
 
     def _fails_at_first(self, task: Any, kind: str) -> None:
@@ -240,7 +248,48 @@ class Shop:
             path.parent.mkdir(exist_ok=True)
             with open(path, "ab") as file:
                 file.write(b"x")
-            raise ValueError("fails at first")
+            raise failure(False)
+
+    def call_end(self, task: Any, version: int) -> Any:
+        """Make a call after an end; note the end."""
+        end = {
+            "phase": task.end.phase,
+            "states": task.end.states,
+            "results": plain(task.end.results),
+        }
+        call = {
+            "key": f"{task.key}/::end",
+            "step": task.step,
+            "kind": "run",
+            "token": task.attempt_id,
+            "idempotency_key": task.idempotency_key,
+            "call": f"{os.getpid()} {time.monotonic_ns()}",
+        }
+        more: dict[str, Any] = {"context": task.context.id} if self._has_context(task) else {}
+        function = f"{task.saga}-end.{version}.on_end"
+        input = plain(task.input)
+        self.note(
+            what="begin", function=function, results={}, ended=end, input=input, **more, **call
+        )
+        try:
+            return self._does(task, call, 0.3, 0.1)
+        finally:
+            self.note(what="end", **call)
+
+    def _has_context(self, task: Any) -> bool:
+        return self.has("context") and task.saga != "post"
+
+    def _on_end(self, saga: sagas.Saga, kind: type | None = None, **options: Any) -> None:
+        """Declare a function after the ends of a saga, if the round has that feature."""
+        if not self.has("on_end"):
+            return
+
+        def call(task: Any) -> Any:
+            assert kind is None or isinstance(task.input, kind)
+            return self.call_end(task, saga.version)
+
+        call.__annotations__ = {"task": sagas.EndTask[kind]} if kind else {}
+        saga.on_end(backoff=QUICK, no_effect=(Refused,), **{"tries": 3} | options)(call)
 
     # -- how sagas are declared
 
@@ -256,11 +305,17 @@ class Shop:
     ) -> Any:
         """Declare a step and its compensation."""
         function = f"{saga.name}.{saga.version}.{name}"
-        declare = saga.step(name=name, backoff=QUICK, **{"keep": 9, "undo": 1, **options})
+        defaults = {**self._costs(saga), "tries": 1, "no_effect": (Refused,)}
+        declare = saga.step(name=name, backoff=QUICK, **defaults | options)
         declared = declare(self._function(name, function, failing, unknown))
         undo = self._function(name + "-undo", f"{function}.undo", undo_fails, unknown)
         declared.compensation(tries=3, backoff=QUICK)(undo)
         return declared
+
+    def _costs(self, saga: sagas.Saga, undo: int = 1, keep: int = 9) -> dict[str, int]:
+        """Return the costs of a step of a saga; none if a pivot determines them."""
+        is_free = self.has("pivot") and saga.name in WITHOUT_COSTS
+        return {} if is_free else {"undo": undo, "keep": keep}
 
     def _function(
         self, name: str, function: str, failing: float, unknown: float
@@ -279,19 +334,22 @@ class Shop:
 
     def _hotel(self, version: int, like: int) -> sagas.Saga:
         """Return the child: two steps, and its own child."""
-        hotel, spa = sagas.Saga("hotel", version=version), sagas.Saga("spa", version=version)
+        hotel = sagas.Saga("hotel", version=version, backoff=QUICK)
+        spa = sagas.Saga("spa", version=version, backoff=QUICK)
         self.step(spa, "bath", tries=2)
         first = self.step(hotel, "suite" if version == 2 else "room", tries=2)
         hotel.child(spa, name="rest", input=lambda task: task.input, needs=[first])
         last = self.step(hotel, "key", needs=[first], failing=0.1)
         if like == 2 and version == 1:
             self.step(hotel, "minibar", needs=[last])
+        self._on_end(hotel)
         self.sagas += [hotel, spa]
         return hotel
 
     def _included(self, version: int) -> sagas.Saga:
         """Return the saga that is included, with another one for each item."""
-        crate, lid = sagas.Saga("crate", version=version), sagas.Saga("lid", version=version)
+        crate = sagas.Saga("crate", version=version, backoff=QUICK)
+        lid = sagas.Saga("lid", version=version, backoff=QUICK)
         self.step(lid, "close")
         fold = self.step(crate, "fold")
         crate.include(lid, for_each=lambda input: [of(input, "i")] * 2, needs=[fold])
@@ -301,12 +359,18 @@ class Shop:
         """Return the saga with the features of the round."""
         has, is_later = self.has, like == 2 and self.settings.deploy == "typed"
         kind, box = (LaterOrder, LaterBox) if is_later else (Order, Box)
-        fair = {"fair_by": lambda input: input["account"]} if has("fair_by") else {}
-        main = sagas.Saga("main", version=version, input=kind, **fair)
+        options: dict[str, Any] = {"order": "declared"} if has("ordered") else {}
+        if has("fair_by"):
+            options["fair_by"] = lambda input: input["account"]
+        main = sagas.Saga("main", version=version, input=kind, backoff=QUICK, **options)
         hold = self.step(main, "hold", tries=2)
         needs: list[Any] = [self._pack(main, kind, box, hold)]
+        optional = {"optional": True, "failing": 0.4} if has("optional") else {}
+        if has("optional"):
+            needs.append(self.step(main, "mail", needs=[hold], tries=2, **optional))
         if has("for_each"):
-            needs.append(self.step(main, "send", for_each="items", needs=[hold], tries=2))
+            send = self.step(main, "send", for_each="items", needs=[hold], tries=2, **optional)
+            needs.append(send)
         if has("when"):
             needs.append(
                 self.step(main, "gift", when=lambda input: of(input, "i") % 3, needs=[hold])
@@ -320,11 +384,12 @@ class Shop:
                     hotel,
                     name="stay",
                     needs=[hold],
-                    undo=2,
-                    keep=8,
+                    **self._costs(main, 2, 8),
                     input=lambda task: {**order_of(of(task.input, "i")), "i": task.key},
                 )
             )
+        if has("each"):
+            needs.append(self._parts(main, version, hold))
         if has("concurrency_by"):
             fleet = {"fleet_concurrency": MAX_MOVES + 1} if self.settings.is_served else {}
             needs.append(
@@ -338,26 +403,52 @@ class Shop:
                 )
             )
         if has("external"):
-            far = main.step(
-                external=True, name="far", needs=[hold], tries=2, backoff=QUICK, keep=9, undo=1
-            )
+            costs: dict[str, Any] = self._costs(main)
+            far = main.step(external=True, name="far", needs=[hold], tries=2, **costs)
             far.compensation(external=True, tries=3)
             needs.append(far)
         if has("early"):
-            needs.append(main.step(external=True, name="paper", needs=[hold], undo=0))
+            undo: Any = sagas.NOTHING if has("pivot") else 0
+            needs.append(main.step(external=True, name="paper", needs=[hold], undo=undo, tries=1))
         if has("on_exhausted"):
-            needs.append(
-                self.step(main, "ask", on_exhausted="ask", tries=2, skip=sagas.NEVER, needs=[hold])
-            )
+            skip: dict[str, Any] = {} if has("pivot") else {"skip": sagas.NEVER}
+            needs.append(self.step(main, "ask", on_exhausted="ask", tries=2, needs=[hold], **skip))
         if has("deadline"):
-            wait = main.wait(until=_pause, name="pause", needs=needs, backoff=QUICK, undo=0)
+            wait = main.wait(until=_pause, name="pause", needs=needs, undo=0)
             needs = [wait(self._function("pause", f"main.{version}.pause", 0.0, 0.0))]
+        if has("pivot"):
+            pivot = self._pivot(main, needs)
+            self.step(main, "thank", needs=[pivot], failing=0.2)
+            needs = [pivot]
         name = "deliver" if version == 2 else "ship"
         last = self.step(main, name, needs=needs, failing=0.4, tries=2)
         if like == 2 and self.settings.deploy == "added":
             self.step(main, "extra", needs=[last], failing=0.2)
+        self._on_end(main, kind)
         self.sagas.append(main)
         return main
+
+    def _pivot(self, main: sagas.Saga, needs: list[Any]) -> Any:
+        """Declare the pivot."""
+        function = f"main.{main.version}.{PIVOT}"
+        options: dict[str, Any] = {"tries": 2, "no_effect": (Refused,), "needs": needs}
+        declare = main.step(name=PIVOT, pivot=True, backoff=QUICK, **options)
+        return declare(self._function(PIVOT, function, 0.3, 0.05))
+
+    def _parts(self, main: sagas.Saga, version: int, hold: Any) -> Any:
+        """Declare a step that starts a child for each item of a list from a result."""
+        parcel = sagas.Saga("parcel", version=version, backoff=QUICK)
+        self.step(parcel, "load", tries=2)
+        self.sagas.append(parcel)
+
+        def items(task: Any) -> list[int]:
+            task.result_of(hold)
+            return [*range(1 + of(task.input, "i") % 3)]
+
+        def part(task: Any) -> Any:
+            return {**order_of(of(task.input, "i")), "i": task.key, "part": task.item}
+
+        return main.child(parcel, name="parts", needs=[hold], for_each=items, input=part)
 
     def _pack(self, main: sagas.Saga, kind: type, box: type, hold: Any) -> Any:
         """Declare a step whose input and result have types."""
@@ -373,24 +464,29 @@ class Shop:
 
         pack.__annotations__ = {"task": sagas.Task[kind], "return": box}
         unpack.__annotations__ = {"task": sagas.Task[kind]}
-        declared = main.step(backoff=QUICK, keep=9, undo=1, needs=[hold])(pack)
+        options: dict[str, Any] = {"tries": 1, "no_effect": (Refused,), **self._costs(main)}
+        declared = main.step(backoff=QUICK, needs=[hold], **options)(pack)
         declared.compensation(tries=3, backoff=QUICK)(unpack)
         return declared
 
     def _tick(self) -> sagas.Saga:
         """Return the saga of the schedule."""
-        tick = sagas.Saga("tick")
+        tick = sagas.Saga("tick", backoff=QUICK)
         toll = self.step(tick, "toll", tries=2)
         self.step(tick, "bell", needs=[toll], failing=0.2)
         return tick
 
     def _post(self) -> sagas.Saga:
-        """Return a saga of which Celery workers do two steps."""
-        post = sagas.Saga("post")
+        """Return a saga for which Celery workers do two steps."""
+        post = sagas.Saga("post", backoff=QUICK)
         options: dict[str, Any] = {"queue": self.queue, "timeout": 4.0}
         stamp = self.step(post, "stamp", tries=2, **options)
-        bag = self.step(post, "bag", needs=[stamp])
-        self.step(post, "carry", needs=[bag], failing=0.3, **options)
+        needs = [self.step(post, "bag", needs=[stamp])]
+        if self.has("optional"):
+            slip = self.step(post, "slip", needs=needs, failing=0.4, optional=True, **options)
+            needs.append(slip)
+        self.step(post, "carry", needs=needs, failing=0.3, **options)
+        self._on_end(post, **options)
         self.sagas.append(post)
         return post
 
@@ -398,6 +494,11 @@ class Shop:
 def is_short(number: int) -> bool:
     """Return whether a saga has a deadline that is soon."""
     return number % 3 == 1
+
+
+def is_erasable(key: str) -> bool:
+    """Return whether the operator erases a saga once it has ended: half of them, and no child."""
+    return "/:" not in key and chance(f"{key}/erased") < 0.5
 
 
 def _pause(task: Any) -> datetime.timedelta:
@@ -409,5 +510,7 @@ def plain(value: Any) -> Any:
     if dataclasses.is_dataclass(value) and not isinstance(value, type):
         value = dataclasses.asdict(value)
     if isinstance(value, dict):
-        return {name: plain(one) for name, one in value.items() if name not in ("express", "color")}
+        return {
+            name: plain(field) for name, field in value.items() if name not in ("express", "color")
+        }
     return value

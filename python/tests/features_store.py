@@ -11,7 +11,7 @@ import json
 import pathlib
 import re
 import sqlite3
-from collections.abc import Iterator
+from collections.abc import Iterable, Iterator
 from dataclasses import dataclass, field
 from typing import Any
 
@@ -25,13 +25,20 @@ from records import LogRows
 Json = dict[str, Any]
 STEP = re.compile(r'^name = "(.*)"\n(?:# of (.*)\n)?', re.M)
 VERSION = re.compile(r"^# version (\d+)$", re.M)
-CHILDREN = {"stay": "hotel", "rest": "spa"}
+CHILDREN = {"stay": "hotel", "rest": "spa", "parts": "parcel"}
 """Steps that start children, and the sagas of these."""
 SILENT = {"paper"}
 """Steps without a function."""
 NOT_UNDONE = {"paper", "pause"}
 """Steps without a compensation."""
 GOOD = ("commit", "undone")
+FAILED = "$failed"
+"""The only name in the stored result of an optional step that failed."""
+ERASED = "$erased"
+"""The only name in a stored value that was erased."""
+ERASED_TEXT = "erased"
+"""What is left of an erased error."""
+PIVOT_HEAD = re.compile(r"^# pivot (\S+)$", re.M)
 
 
 def rows_of(url: str, query: str) -> list[tuple[Any, ...]]:
@@ -74,12 +81,43 @@ class Instance:
         version = VERSION.search(self.text)
         self.version = int(version[1]) if version else 1
         self.ends: list[Event] = list(ends_of(self.log, self.steps, self.number))
-        self.good = {(end.step, end.kind): end for end in self.ends if end.word in GOOD}
+        self.failures = {
+            step: value[FAILED]
+            for (step, _, _), (event, value) in self.values.items()
+            if event == "commit" and isinstance(value, dict) and [*value] == [FAILED]
+        }
+        """The errors of optional steps that failed: the log has a commit of them."""
+        self.good = {
+            (end.step, end.kind): end
+            for end in self.ends
+            if end.word in GOOD and end.step not in self.failures
+        }
 
     @property
     def states(self) -> dict[str, str]:
-        """Return the state of each step at its end."""
-        return dict(zip(self.steps, self.end["states"])) if self.end else {}
+        """Return the state of each step at its end, as callers see it."""
+        states = dict(zip(self.steps, self.end["states"])) if self.end else {}
+        return states | {step: "failed" for step in self.failures if states}
+
+    @property
+    def is_erased(self) -> bool:
+        """Return whether the data of the saga was erased."""
+        return isinstance(self.input, dict) and [*self.input] == [ERASED]
+
+    @property
+    def pivot(self) -> str | None:
+        """Return the name of its pivot."""
+        match = PIVOT_HEAD.search(self.text)
+        return match[1] if match else None
+
+    def needed_by(self, steps: Iterable[str]) -> set[str]:
+        """Return what some steps need, directly or not."""
+        reached, left = set[str](), [*steps]
+        while left:
+            fresh = {*self.needs[left.pop()]} - reached
+            reached |= fresh
+            left += fresh
+        return reached
 
     @property
     def is_undo(self) -> bool:
@@ -139,24 +177,24 @@ class FeatureStore:
         self.records = records.read(settings.direct)
         self.undefined: list[str] = []
         self.instances = [*self._stored(), *self._archived()]
-        self.by_token = {one.token: one for one in self.instances}
+        self.by_token = {instance.token: instance for instance in self.instances}
         self.by_key: dict[str, list[Instance]] = {}
-        for one in self.instances:
-            self.by_key.setdefault(one.key, []).append(one)
+        for instance in self.instances:
+            self.by_key.setdefault(instance.key, []).append(instance)
         self.undoes: dict[str, list[Instance]] = {}
-        for one in self.instances:
-            for token in self._undone_by(one) if one.is_undo else ():
-                self.undoes.setdefault(token, []).append(one)
+        for instance in self.instances:
+            for token in self._undone_by(instance) if instance.is_undo else ():
+                self.undoes.setdefault(token, []).append(instance)
 
-    def _undone_by(self, one: Instance) -> list[str]:
+    def _undone_by(self, instance: Instance) -> list[str]:
         """Return the tokens of the children that a saga undoes.
 
         They are in its input. If the input was in the blob store and the saga is in an archive,
         they are found by its key.
         """
-        if isinstance(one.input, dict) and "token" in one.input:
-            return [one.input["token"]]
-        child = re.sub(r":undo(?:/\d+)?", "", one.key)
+        if isinstance(instance.input, dict) and "token" in instance.input:
+            return [instance.input["token"]]
+        child = re.sub(r":undo(?:/\d+)?", "", instance.key)
         return [other.token for other in self.of(child)]
 
     def of(self, key: str) -> list[Instance]:
@@ -215,7 +253,7 @@ class FeatureStore:
     def _texts(log: LogRows) -> list[tuple[str, list[str]]]:
         """Return the name of the saga of each definition, and its steps."""
         tables = [tomllib.loads(text) for text in log.texts]
-        return [(one["name"], [step["name"] for step in one["step"]]) for one in tables]
+        return [(table["name"], [step["name"] for step in table["step"]]) for table in tables]
 
     def _archived(self) -> Iterator[Instance]:
         there = {log.name for log in self.records.logs.values()}
@@ -231,8 +269,11 @@ class FeatureStore:
 
     def _archived_saga(self, log: LogRows, entry: Json) -> Instance:
         values = {
-            (one["step"], one["kind"], one["attempt"]): (one["outcome"], one["value"])
-            for one in entry["results"]
+            (result["step"], result["kind"], result["attempt"]): (
+                result["outcome"],
+                result["value"],
+            )
+            for result in entry["results"]
         }
         text = log.texts[entry["definition"]]
         steps = [step["name"] for step in tomllib.loads(text)["step"]]

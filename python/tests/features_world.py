@@ -1,10 +1,10 @@
-"""The program that `kills_features.py` strikes: a node with callers, an operator and a worker.
+"""The program of `kills_features.py`: a node with callers, an operator and a worker.
 
     python3 tests/features_world.py SETTINGS NODE RELEASE
 
 It prints `open`, and then `done` once its callers have the results of all sagas. SIGTERM closes it.
 It reports each reply that it gets to the witness. A file `quiet` next to the settings says that the
-strikes are over: then the operator also reports the steps that nothing else reports.
+faults are over: then the operator also reports the steps that nothing else reports.
 """
 
 from __future__ import annotations
@@ -12,6 +12,7 @@ from __future__ import annotations
 import asyncio
 import contextlib
 import datetime
+import functools
 import json
 import logging
 import os
@@ -19,6 +20,7 @@ import pathlib
 import random
 import secrets
 import signal
+import subprocess
 import sys
 import types
 from collections.abc import AsyncIterator, Awaitable, Callable
@@ -26,22 +28,26 @@ from typing import Any
 
 import features_celery
 import features_wrong
+from features_erased import blobs_of
 from features_shop import (
     EXTERNAL,
     MARK,
     Scramble,
     Settings,
     Shop,
+    is_erasable,
     is_short,
     labels_of,
     order_of,
     plain,
 )
-from world import chance, is_unexpected
+from features_store import rows_of
+from world import chance, is_unexpected, reported
 
+import psycopg
 import sagas
 import sagas.definition.registry
-from sagas.core.deliveries import TYPES
+from sagas.core.webhook_rows import TYPES
 from sagas.server.webhooks import Webhook, Webhooks
 
 THRESHOLD = 300
@@ -64,7 +70,7 @@ class Node:
 
     @property
     def is_quiet(self) -> bool:
-        """Return whether the strikes are over."""
+        """Return whether the faults are over."""
         return pathlib.Path(self.settings.folder, "quiet").exists()
 
     def _finished_before(self) -> set[str]:
@@ -97,9 +103,9 @@ class Node:
             settings.store,
             self.shop.sagas,
             concurrency=8,
-            engine_processes=4,
+            settings=sagas.Settings(engine_processes=4),
             shutdown_timeout=10,
-            on_event=lambda event: [one.event(event) for one in hooks],
+            on_event=lambda event: [hook.event(event) for hook in hooks],
             **options,
         )
         store.leased = True
@@ -138,6 +144,9 @@ class Node:
         works += [self._worker()] if self.has("external") else []
         works += [self._bulk()] if self.has("label") else []
         works += [self._schedule()] if self.has("schedule") else []
+        works += [self._pauses()] if self.has("pause") and self.name == "one" else []
+        works += [self._erasures()] if self.has("erase") else []
+        works += [self._drains()] if self.has("drain") and self.name != "three" else []
         tasks = [asyncio.create_task(work) for work in works]
         asking = asyncio.create_task(stopped.wait())
         while not asking.done():
@@ -166,16 +175,16 @@ class Node:
     async def _callers(self) -> None:
         numbers = list(range(self.settings.count))
         random.shuffle(numbers)
-        places = asyncio.Semaphore(12)
+        slots = asyncio.Semaphore(12)
 
-        async def one(number: int) -> None:
-            async with places:
-                await self._one(number)
+        async def start_in_turn(number: int) -> None:
+            async with slots:
+                await self._run_saga(number)
 
-        await asyncio.gather(*map(one, numbers))
+        await asyncio.gather(*map(start_in_turn, numbers))
         print("done", flush=True)
 
-    async def _one(self, number: int) -> None:
+    async def _run_saga(self, number: int) -> None:
         """Run a saga to its end, and report each reply to the witness once it arrives."""
         key, options = f"k{number}", dict[str, Any]()
         if key in self.finished:
@@ -185,9 +194,13 @@ class Node:
             saga = self.shop.post
         if self.has("deadline"):
             options["deadline"] = (0.2 + chance(f"{key}/deadline")) if is_short(number) else 600
-        start, given = self.store.start, order_of(number)
+        start, order = self.store.start, order_of(number)
         labels = labels_of(number)
-        run = await self._surely(lambda: start(saga, key, given, labels=labels, **options))
+        try:
+            run = await self._surely(lambda: start(saga, key, order, labels=labels, **options))
+        except sagas.KeyConflict:
+            await self._find_erased(key)
+            return
         self.note(what="started", key=key)
         others = [self._abort(key)] if number % 7 == 3 else []
         if self.has("early") and saga is self.shop.main:
@@ -195,17 +208,44 @@ class Node:
         jobs = [asyncio.create_task(other) for other in others]
         with contextlib.suppress(sagas.NoSuchSaga):  # retention has deleted it
             end = await self._surely(run.wait)
-            self.note(
-                what="over",
-                key=key,
-                by=self.name,
-                phase=end.phase,
-                states=end.states,
-                results=plain(end.results),
-                aborted=end.aborted,
-            )
+            self._over(key, end)
+            is_short_lived = self.has("deadline") and is_short(number)
+            if self.has("restart") and saga is self.shop.main and not is_short_lived:
+                await self._restart(key, end.phase)
         for job in jobs:
             await job
+
+    async def _find_erased(self, key: str) -> None:
+        """Get the end of an erased saga, whose input no start can be compared with."""
+        with contextlib.suppress(sagas.NoSuchSaga):  # retention has deleted it
+            end = await self._surely(lambda: self.store.wait(key))
+            assert end.erased, key
+            self._over(key, end)
+        self.note(what="started", key=key)
+
+    def _over(self, key: str, end: sagas.SagaResult) -> None:
+        self.note(
+            what="over",
+            key=key,
+            by=self.name,
+            phase=end.phase,
+            states=end.states,
+            results=plain(end.results),
+            aborted=end.aborted,
+        )
+
+    async def _restart(self, key: str, phase: str) -> None:
+        """Start a saga that was undone again, from two callers, and wait for its end."""
+        if phase != "recovered":
+            return
+        new = f"{key}x"
+        works = [self._surely(lambda: self.store.restart(key, new)) for _ in range(2)]
+        # the next release does not have it, or one of the two is erased
+        refusals = sagas.DefinitionError, sagas.NotRestartable, sagas.KeyConflict
+        with contextlib.suppress(*refusals if self.has("erase") else refusals[:1]):
+            run, _ = await asyncio.gather(*works)
+            self.note(what="started", key=new)
+            self._over(new, await self._surely(run.wait))
 
     async def _abort(self, key: str) -> None:
         """Abort a saga from two callers at a random moment."""
@@ -230,10 +270,79 @@ class Node:
     # -- schedules, operators, workers
 
     async def _schedule(self) -> None:
-        given = {"mark": f"{MARK} of the schedule"}
+        order = {"mark": f"{MARK} of the schedule"}
         options: dict[str, Any] = {"every": EVERY, "catch_up": "all", "labels": {"by": "schedule"}}
-        await self._surely(lambda: self.store.schedule("tick", self.shop.tick, given, **options))
+        await self._surely(lambda: self.store.schedule("tick", self.shop.tick, order, **options))
         self.note(what="scheduled", name="tick")
+
+    async def _pauses(self) -> None:
+        """Pause a definition or everything for a time, until the faults are over.
+
+        It first resumes what an earlier program has left paused.
+        """
+        while True:
+            for pause in await self._surely(self.store.pauses):
+                await self._resume(pause.saga)
+            if self.is_quiet:
+                return
+            await asyncio.sleep(random.uniform(0.3, 1.0))
+            saga, forward_only = random.choice((None, "main")), random.random() < 0.5
+            options: dict[str, Any] = {"note": "a drill", "forward_only": forward_only}
+            await self._surely(lambda: self.store.pause(saga, by=self.name, **options))
+            self.note(what="paused", saga=saga, forward_only=forward_only)
+            await asyncio.sleep(random.uniform(1.5, 2.5))
+
+    async def _resume(self, saga: str | None) -> None:
+        self.note(what="resuming", saga=saga)
+        with contextlib.suppress(sagas.NoSuchPause):
+            await self._surely(lambda: self.store.resume(saga))
+
+    async def _erasures(self) -> None:
+        """Erase ended sagas at random, some of them twice."""
+        while True:
+            await asyncio.sleep(random.uniform(0.05, 0.3))
+            with contextlib.suppress(sagas.SagasError, psycopg.Error):
+                phase = random.choice(("completed", "recovered", "resolved"))
+                listed = await self.store.list(phase=phase, limit=1000)
+                if keys := [summary.key for summary in listed if is_erasable(summary.key)]:
+                    await self._erase(random.choice(keys))
+
+    async def _erase(self, key: str) -> None:
+        for _ in range(random.choice((1, 1, 2))):
+            read = functools.partial(rows_of, self.settings.direct)
+            blobs = await asyncio.to_thread(blobs_of, read, key)
+            self.note(what="erasing", key=key)
+            is_new = await self.store.erase(key, by=self.name)
+            self.note(what="erased", key=key, new=is_new, blobs=blobs)
+
+    async def _drains(self) -> None:
+        """Drain a node by the command for a time, until the faults are over.
+
+        It first ends the drains that an earlier program has left.
+        """
+        while True:
+            for node in await self._surely(self.store.nodes):
+                if node.drain is not None:
+                    await self._command("undrain", node.name)
+            if self.is_quiet:
+                return
+            await asyncio.sleep(random.uniform(0.1, 0.6))
+            name = random.choice(("one", "two", "three"))
+            if await self._command("drain", name, "--note", "a drill", "--by", self.name):
+                self.note(what="drained", node=name)
+            await asyncio.sleep(random.uniform(0.5, 2.5))
+
+    async def _command(self, *arguments: str) -> bool:
+        """Run `sagas store`; return whether it was done. Other programs may have undone it."""
+        command = [sys.executable, "-m", "sagas", "store", self.settings.direct, *arguments]
+        process = await asyncio.create_subprocess_exec(
+            *command, stdout=subprocess.DEVNULL, stderr=subprocess.DEVNULL
+        )
+        try:
+            return await process.wait() == 0
+        finally:
+            if process.returncode is None:
+                process.kill()
 
     async def _bulk(self) -> None:
         """Abort all sagas of a label, and retry all sagas of another one."""
@@ -252,72 +361,69 @@ class Node:
         """Resolve at random what needs an operator."""
         while True:
             with contextlib.suppress(sagas.SagasError):
-                for one in await self.store.attention():
+                for entry in await self.store.attention():
                     with contextlib.suppress(sagas.SagasError):
-                        await self._answer(one)
+                        await self._answer(entry)
                 if self.is_quiet and self.has("early"):
                     await self._report_late()
             await asyncio.sleep(random.uniform(0.05, 0.3))
 
-    async def _answer(self, one: sagas.Attention) -> None:
+    async def _answer(self, entry: sagas.Attention) -> None:
         """Resolve one attempt as an operator; note each decision before and after the call."""
-        if one.step is None or one.why in ("stuck", "undo_failed"):
-            await self.store.resolve(one.key, "somebody saw to it")
-            self.note(what="resolved", key=one.key)
+        if entry.step is None or entry.why in ("stuck", "undo_failed"):
+            await self.store.resolve(entry.key, "an operator saw to it")
+            self.note(what="resolved", key=entry.key)
             return
-        word = "fail" if self._is_refused(one) else random.choice(("retry", "retry", "complete"))
-        if one.why != "exhausted":
+        word = "fail" if self._is_refused(entry) else random.choice(("retry", "retry", "complete"))
+        if entry.why == "program_error":
+            word = random.choice(("retry", "complete"))
+        elif entry.why != "exhausted":
             word = "complete"
         value = {"operator": secrets.token_hex(3)}
-        kind = "undo" if one.undo else "run"
-        report = {"key": one.key, "step": one.step, "kind": kind, "word": word, "value": value}
-        self.note(what="answering", why=str(one.why), **report)
-        options: dict[str, Any] = {"undo": one.undo, "by": self.name}
+        kind = "undo" if entry.undo else "run"
+        report = {"key": entry.key, "step": entry.step, "kind": kind, "word": word, "value": value}
+        self.note(what="answering", why=str(entry.why), **report)
+        options: dict[str, Any] = {"undo": entry.undo, "by": self.name}
         if word == "retry":
-            await self.store.retry(one.key, one.step, **options)
+            await self.store.retry(entry.key, entry.step, **options)
         elif word == "complete":
-            await self.store.complete(one.key, one.step, value, **options)
+            await self.store.complete(entry.key, entry.step, value, **options)
         else:
-            await self.store.fail(one.key, one.step, "somebody says no", **options)
+            await self.store.fail(entry.key, entry.step, "an operator says no", **options)
         self.note(what="answered", **report)
 
-    def _is_refused(self, one: sagas.Attention) -> bool:
+    def _is_refused(self, entry: sagas.Attention) -> bool:
         """Return whether operators report that a step failed permanently.
 
         Operators never ask for another call of such a step. That call may have its effect before
         the report of an operator who looked earlier.
         """
-        number = int("".join(filter(str.isdigit, one.key.partition("/")[0])) or 0)
+        number = int("".join(filter(str.isdigit, entry.key.partition("/")[0])) or 0)
         is_retried = self.has("label") and number % 3 == 2
-        return not is_retried and chance(f"{one.key}/{one.step}/refused") < 0.25
+        return not is_retried and chance(f"{entry.key}/{entry.step}/refused") < 0.25
 
     async def _report_late(self) -> None:
         """Report the papers that no caller has reported."""
-        for one in await self.store.list(phase="open", saga="main"):
+        for summary in await self.store.list(phase="open", saga="main"):
             with contextlib.suppress(sagas.ConflictError, sagas.InvalidError):
-                value = {"late": one.key}
-                report = {"key": one.key, "step": "paper", "kind": "run", "word": "complete"}
+                value = {"late": summary.key}
+                report = {"key": summary.key, "step": "paper", "kind": "run", "word": "complete"}
                 self.note(what="answering", why="late", value=value, **report)
-                await self.store.complete(one.key, "paper", value)
+                await self.store.complete(summary.key, "paper", value)
 
     async def _worker(self) -> None:
         """Work on the tasks of this node, whichever node drives their sagas."""
         workers = self.store.workers
         while True:
             with contextlib.suppress(sagas.SagasError):  # another worker does it again
-                for one in await workers.claim(EXTERNAL, limit=2, wait=0.2, lease=WORKER_LEASE):
-                    report = await asyncio.to_thread(self._done, one.task)
-                    await workers.report(one.attempt_id, one.lease, **report)
+                for task in await workers.claim(EXTERNAL, limit=2, wait=0.2, lease=WORKER_LEASE):
+                    report = await asyncio.to_thread(self._done, task.task)
+                    await workers.report(task.attempt_id, task.lease, **report)
             await asyncio.sleep(0.01)
 
     def _done(self, task: Any) -> dict[str, Any]:
         """Return a worker's report of a task."""
-        try:
-            return {"result": self.shop.act_in_thread(task, _external(task), 0.1, 0.1)}
-        except ConnectionError as error:
-            return {"unknown": str(error)}
-        except (ValueError, sagas.Fail) as error:
-            return {"error": str(error), "final": isinstance(error, sagas.Fail)}
+        return reported(lambda: self.shop.act_in_thread(task, _external(task), 0.1, 0.1))
 
 
 def _external(task: Any) -> str:

@@ -15,20 +15,26 @@ from typing import Any
 
 import sagas
 from sagas.api.commands import Commands
+from sagas.api.end_calls import EndCalls
 from sagas.core.outcomes import SUCCEEDED, Outcome
+from sagas.definition import pivot
+from sagas.definition import child_fan_outs
 from sagas.definition.task_data import Context
 from sagas.definition.payloads import Payloads
 from sagas.definition.registry import DefinitionRegistry
 from sagas.definition.start_options import StartOptions
 from sagas.definition.task import Task
-from sagas.core.limits import Slots
+from sagas.core.attempt import model as attempts, machine as attempt_machine
+from sagas.core.attempt.pause_index import Pauses
+from sagas.core.shard.limits import Slots
 from sagas.runtime import retention
 from sagas.runtime.children import Children
 from sagas.runtime.instances import Deadlines
 from sagas.runtime.executor import EarlyReports
 from sagas.runtime.scheduler import Scheduler
+from sagas.runtime.shards import Shards
 from sagas.server import webhooks
-from sagas.storage import archive, blob_layer
+from sagas.storage import archive, blob_layer, erasures
 
 
 @dataclasses.dataclass(frozen=True)
@@ -68,6 +74,24 @@ def child_undo_skipped() -> None:
         return Outcome(SUCCEEDED, "null") if attempt.undo else await right(self, attempt)
 
     setattr(Children, "_begun", begun)
+
+
+@variant("child", "each", count=16)
+def children_of_a_list_kept() -> None:
+    """A step that started children for a list counts as undone, and no child is."""
+    setattr(child_fan_outs, "made_key", lambda result: None)
+
+
+@variant("optional", "optional", count=12)
+def optional_failure_fails() -> None:
+    """The failure of an optional step fails its saga."""
+    setattr(attempt_machine, "kept_outcome", lambda attempt, outcome: outcome)
+
+
+@variant("optional", "optional", "for_each", count=24)
+def optional_failure_undone() -> None:
+    """A plan undoes an optional step that failed by its compensation."""
+    setattr(attempts, "undoes_failure", lambda attempt: False)
 
 
 @variant("early-lost", "early")
@@ -171,7 +195,7 @@ def item_of_another() -> None:
 def schedule_not_started() -> None:
     """A schedule continues, and starts nothing."""
 
-    async def start(self: Scheduler, one: Any, key: str) -> None:
+    async def start(self: Scheduler, row: Any, key: str) -> None:
         return None
 
     setattr(Scheduler, "_try", start)
@@ -216,6 +240,16 @@ def compensation_not_called() -> None:
     setattr(DefinitionRegistry, "__init__", init)
 
 
+@variant("on-end", "on_end", count=4)
+def end_not_called() -> None:
+    """Each call after an end counts as started, and is not."""
+
+    async def start(self: EndCalls, *arguments: Any) -> bool:
+        return True
+
+    setattr(EndCalls, "_start", start)
+
+
 @variant("context", "context", count=4)
 def context_of_another() -> None:
     """Functions get a context that was not entered."""
@@ -241,3 +275,47 @@ def answer_replaced() -> None:
 def deleted_without_archive() -> None:
     """Retention deletes shards that it has not archived."""
     setattr(archive, "write", lambda link, log, folder: pathlib.Path(folder))
+
+
+@variant("not-over", "drain", count=20, seconds=4.0)
+def moved_shard_not_loaded() -> None:
+    """A node owns the shards that move to it, and does not execute them."""
+    setattr(Shards, "taken", lambda self, rows: None)
+
+
+@variant("paused", "pause", count=40, seconds=6.0)
+def pause_not_obeyed() -> None:
+    """Attempts of a paused definition are called."""
+
+    def hold(self: Pauses, attempt: Any) -> bool:
+        return False
+
+    setattr(Pauses, "hold", hold)
+    setattr(Pauses, "of_attempt", lambda self, attempt: None)
+
+
+@variant("erased", "erase", count=16, seconds=3.0)
+def erased_result_kept() -> None:
+    """An erasure leaves the results in place."""
+    setattr(erasures, "_blank_value", lambda event, value, mark: value)
+
+
+@variant("erased", "erase", "child", count=16, seconds=3.0)
+def erased_child_kept() -> None:
+    """An erasure leaves the sagas below the erased one in place."""
+    tree = "SELECT id, key, phase, 0 FROM sagas WHERE id = ?"
+    setattr(erasures, "TREE", tree)
+
+
+@variant("pivot", "pivot", count=24)
+def undone_after_pivot() -> None:
+    """A failure after the pivot undoes the other steps after it."""
+    costs = {"run": 0, "undo": 0, "skip": 1, "keep": 1}
+    setattr(pivot, "COSTS", {**pivot.COSTS, pivot.Role.AFTER: costs})
+
+
+@variant("pivot", "pivot", count=24)
+def kept_without_pivot() -> None:
+    """A failure before the pivot keeps what has committed."""
+    costs = {**pivot.COSTS[pivot.Role.BEFORE], "undo": 1, "keep": 0}
+    setattr(pivot, "COSTS", {**pivot.COSTS, pivot.Role.BEFORE: costs})

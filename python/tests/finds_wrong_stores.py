@@ -1,4 +1,4 @@
-"""Mutants of the store over PostgreSQL under random strikes, which may miss a mutant.
+"""Mutants of the store over PostgreSQL under random faults, which may miss a mutant.
 
 test_wrong_stores.py finds each of them reliably. By hand:
 
@@ -31,15 +31,15 @@ def test_a_mutant_is_detected(postgresql: Server, name: str) -> None:
     module = importlib.import_module(f"wrong_stores.{name}")
     if not hasattr(module, "STRIKES"):
         pytest.skip(
-            "no strike shows it: the verifier cannot distinguish a live node from a struck one,"
+            "no strike shows it: the verifier cannot distinguish a live node from a killed one,"
             " or the moment is too short"
         )
     faults: set[str] = set()
     for seed in range(6):
-        one = play(module.STRIKES, seed, 24, postgresql, most=20, wrong=name, quiet=4)
-        faults |= one.verdict.names
-        if one.folder is not None:
-            shutil.rmtree(pathlib.Path(one.folder))
+        played = play(module.STRIKES, seed, 24, postgresql, time_limit=20, wrong=name, quiet=4)
+        faults |= played.verdict.names
+        if played.folder is not None:
+            shutil.rmtree(pathlib.Path(played.folder))
         if faults & module.FINDS:
             return
     pytest.fail(f"{name} was not found by {module.FINDS}, but by {sorted(faults)}")

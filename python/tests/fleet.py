@@ -56,11 +56,11 @@ def judged(
 ) -> tuple[list[ShardCheck], list[str]]:
     """Return the shards, and the faults of each record."""
     shards, faults = shards_of(url, files, sync), list[str]()
-    for one in shards:
-        faults += [] if one.good else [f"record: shard {one.shard}, {one.answer}"]
-        faults += [f"record: shard {one.shard}: lost {loss}" for loss in one.losses]
+    for shard in shards:
+        faults += [] if shard.good else [f"record: shard {shard.shard}, {shard.answer}"]
+        faults += [f"record: shard {shard.shard}: lost {loss}" for loss in shard.losses]
         faults += [
-            f"record: shard {one.shard}: the end of saga {id} is lost" for id in one.ends_lost
+            f"record: shard {shard.shard}: the end of saga {id} is lost" for id in shard.ends_lost
         ]
     return shards, faults
 

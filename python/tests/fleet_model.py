@@ -33,24 +33,24 @@ class Log:
     digests: list[int] = field(default_factory=list)
     sessions: list[Session] = field(default_factory=list)
 
-    def step(self, what: str, numbers: list[int]) -> str | None:
+    def step(self, word: str, numbers: list[int]) -> str | None:
         """Take an event; return why it is not allowed."""
-        if what in ("safe", "moved"):
+        if word in ("safe", "moved"):
             if numbers[0] < self.safe:
                 return "FewerThanShipped"
             if numbers[0] > len(self.digests):
                 return "MoreThanWritten"
-            if what == "safe":
+            if word == "safe":
                 self.safe = numbers[0]
             else:
                 self.server, self.epoch = self.server + 1, numbers[1]
                 del self.digests[numbers[0] :]
             return None
-        if what == "took":
+        if word == "took":
             return self.took(*numbers)
         if numbers[0] >= len(self.sessions):
             return "NoSuchSession"
-        return str(getattr(self, what)(self.sessions[numbers[0]], *numbers[1:]) or "") or None
+        return str(getattr(self, word)(self.sessions[numbers[0]], *numbers[1:]) or "") or None
 
     def took(self, epoch: int, chunks: int, digest: int) -> str | None:
         """A session begins."""
@@ -64,43 +64,47 @@ class Log:
         self.sessions.append(Session(self.server, epoch, chunks))
         return None
 
-    def sent(self, one: Session, digest: int) -> str | None:
+    def sent(self, session: Session, digest: int) -> str | None:
         """It sends a chunk."""
-        if one.stage != "idle":
+        if session.stage != "idle":
             return "NotIdle"
-        one.stage, one.unanswered, one.digest = "sent", 1, digest
+        session.stage, session.unanswered, session.digest = "sent", 1, digest
         return None
 
-    def wrote(self, one: Session, chunks: int, digest: int) -> str | None:
+    def wrote(self, session: Session, chunks: int, digest: int) -> str | None:
         """The database writes what the session sent."""
         faults = {
-            "NothingSent": one.stage != "sent",
-            "OtherServer": one.server != self.server,
-            "OldEpoch": one.epoch != self.epoch,
+            "NothingSent": session.stage != "sent",
+            "OtherServer": session.server != self.server,
+            "OldEpoch": session.epoch != self.epoch,
             "OtherPlace": chunks != len(self.digests),
-            "OtherContent": digest != one.digest,
+            "OtherContent": digest != session.digest,
         }
-        one.stage = "done"
+        session.stage = "done"
         self.digests.append(digest)
         return next((name for name, is_so in faults.items() if is_so), None)
 
-    def stale(self, one: Session) -> str | None:
+    def stale(self, session: Session) -> str | None:
         """The database refuses the session."""
-        was, one.stage = one.stage, "refused"
+        was, session.stage = session.stage, "refused"
         return None if was == "sent" else "NothingSent"
 
-    def heard(self, one: Session) -> str | None:
+    def heard(self, session: Session) -> str | None:
         """The session receives a confirmation."""
-        if one.stage != "done":
+        if session.stage != "done":
             return "NothingDone"
-        if one.server != self.server:
+        if session.server != self.server:
             return "OtherServer"
-        one.known, one.unanswered, one.stage = one.known + one.unanswered, 0, "idle"
-        return "NotShipped" if self.is_synchronous and one.known > self.safe else None
+        session.known, session.unanswered, session.stage = (
+            session.known + session.unanswered,
+            0,
+            "idle",
+        )
+        return "NotShipped" if self.is_synchronous and session.known > self.safe else None
 
-    def told(self, one: Session, chunks: int) -> str | None:
+    def told(self, session: Session, chunks: int) -> str | None:
         """The session acknowledges chunks."""
-        return "NotKnown" if chunks > one.known else None
+        return "NotKnown" if chunks > session.known else None
 
 
 def judge(text: str) -> tuple[int, str] | None:
@@ -108,8 +112,8 @@ def judge(text: str) -> tuple[int, str] | None:
     head, *lines = text.splitlines()
     log = Log({"fleet 1 sync": True, "fleet 1 async": False}[head])
     for number, line in enumerate(lines, 2):
-        what, *numbers = line.split(" ")
-        assert all(len(one) <= 9 for one in numbers), line
-        if why := log.step(what, [int(one) for one in numbers]):
+        word, *numbers = line.split(" ")
+        assert all(len(number) <= 9 for number in numbers), line
+        if why := log.step(word, [int(number) for number in numbers]):
             return number, why
     return None

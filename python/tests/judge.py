@@ -162,7 +162,7 @@ class Judge:
         fault, at = self.verdict.fault, 0
         for first, text in log.chunks:
             if first != at:
-                fault("gap", f"log {log.log}: {first} behind {at}")
+                fault("gap", f"log {log.log}: {first} after {at}")
             at = first + text.count("\n")
         rows = {row.number: row for row in self.records.sagas.values() if row.log == log.log}
         self._audit(log, rows)
@@ -236,7 +236,7 @@ class Judge:
         if set(note["results"]) != standing:
             self.verdict.fault(
                 "told-otherwise",
-                f"{note['key']}: results of {set(note['results'])}, {standing} stand",
+                f"{note['key']}: results of {set(note['results'])}, {standing} are stored",
             )
         for step, value in note["results"].items():
             if value != expected(note["key"], step):
@@ -257,12 +257,12 @@ class Judge:
                 fault("input", note)
             if note["token"] != f"{note['idempotency_key']}-{note['attempt']}":
                 fault("tokens", note)
-        for attempt, given in tokens.items():
-            if len(given) > 1:
-                fault("tokens", f"{attempt} has {given}")
-        for token, given in attempts.items():
-            if len(given) > 1:
-                fault("tokens", f"{token} is of {given}")
+        for attempt, same in tokens.items():
+            if len(same) > 1:
+                fault("tokens", f"{attempt} has {same}")
+        for token, same in attempts.items():
+            if len(same) > 1:
+                fault("tokens", f"{token} is of {same}")
         self.verdict.figures["attempts"] = len(tokens)
 
     def _handed(self) -> None:
@@ -270,13 +270,11 @@ class Judge:
             key = note["key"]
             for step, value in note["results"].items():
                 if value != expected(key, step):
-                    self.verdict.fault(
-                        "handed", f"{key} {note['step']} was handed {value} of {step}"
-                    )
+                    self.verdict.fault("handed", f"{key} {note['step']} got {value} of {step}")
             if note["kind"] == "undo" and note["result"] != expected(key, note["step"]):
                 self.verdict.fault(
                     "handed",
-                    f"the compensation of {key} {note['step']} was handed {note['result']}",
+                    f"the compensation of {key} {note['step']} got {note['result']}",
                 )
 
     # -- saga by saga

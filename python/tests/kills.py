@@ -33,6 +33,9 @@ import time
 from collections import Counter
 from dataclasses import dataclass, field
 
+if __name__ == "__main__":
+    sys.path.insert(0, str(pathlib.Path(__file__).resolve().parent.parent / "src"))
+
 from driving import program
 from judge import Verdict, judge
 from witness import witness_at
@@ -77,7 +80,7 @@ class Striker:
     draw: random.Random
     sagas: int
     concurrency: int
-    most: float
+    time_limit: float
     wrong: str | None = None
     quiet: int = 12
     small: bool = False
@@ -103,7 +106,7 @@ class Striker:
 
     @property
     def is_late(self) -> bool:
-        return time.monotonic() - self.began > self.most
+        return time.monotonic() - self.began > self.time_limit
 
     @property
     def strikes(self) -> int:
@@ -126,12 +129,12 @@ class Striker:
                     return None
                 if process.returncode not in (0, -signal.SIGKILL, -signal.SIGTERM):
                     return f"the program ended with status {process.returncode}"
-        return f"not over after {self.most:.0f} s"
+        return f"not over after {self.time_limit:.0f} s"
 
     def _rest(self, process: subprocess.Popen[bytes]) -> bytes:
         try:
             return process.communicate(
-                timeout=max(1.0, self.most - (time.monotonic() - self.began))
+                timeout=max(1.0, self.time_limit - (time.monotonic() - self.began))
             )[0]
         except subprocess.TimeoutExpired:
             return b""
@@ -156,10 +159,10 @@ class Striker:
             return True
         return False
 
-    def _kill(self, process: subprocess.Popen[bytes], what: str) -> None:
+    def _kill(self, process: subprocess.Popen[bytes], victim: str) -> None:
         if process.poll() is None:
             process.kill()
-            self.kills[what] += 1
+            self.kills[victim] += 1
 
     def _program(self, process: subprocess.Popen[bytes]) -> None:
         self._wait(
@@ -215,7 +218,7 @@ class Striker:
 
 
 def run_once(folder: pathlib.Path, sagas: int) -> int:
-    """Run the program on a store without strikes; return its status."""
+    """Run the program on a store without faults; return its status."""
     striker = Striker(folder, "program", random.Random(0), sagas, 16, 60)
     with witness_at(folder / "socket", folder / "notes"):
         return subprocess.run(
@@ -228,13 +231,19 @@ def run_once(folder: pathlib.Path, sagas: int) -> int:
 
 
 def play(
-    kind: str, seed: int, sagas: int, *, most: float = 90, wrong: str | None = None, quiet: int = 12
+    kind: str,
+    seed: int,
+    sagas: int,
+    *,
+    time_limit: float = 90,
+    wrong: str | None = None,
+    quiet: int = 12,
 ) -> Round:
     """Play one round: a store, its kills and the verdict. The files stay if there are faults."""
     draw = random.Random(seed)
     folder = pathlib.Path(tempfile.mkdtemp(prefix="sagas-kills-"))
     concurrency, small = draw.choice((1, 4, 16, 64)), wrong is None and draw.random() < 0.5
-    striker = Striker(folder, kind, draw, sagas, concurrency, most, wrong, quiet, small)
+    striker = Striker(folder, kind, draw, sagas, concurrency, time_limit, wrong, quiet, small)
     with witness_at(folder / "socket", folder / "notes"):
         trouble = striker.until_over()
     verdict = judge(folder / "store.db", folder / "notes", sagas)
@@ -271,14 +280,14 @@ def main() -> int:
             for number in range(options.rounds)
         ]
         for done, game in enumerate(concurrent.futures.as_completed(games), 1):
-            one = game.result()
-            kills += one.kills
-            figures += one.verdict.figures
-            bad += bool(one.problems)
-            for fault in one.problems[:5]:
-                print(f"\n{one.kind} {one.seed} {one.folder}: {fault}")
+            played = game.result()
+            kills += played.kills
+            figures += played.verdict.figures
+            bad += bool(played.problems)
+            for fault in played.problems[:5]:
+                print(f"\n{played.kind} {played.seed} {played.folder}: {fault}")
             print(
-                f"\r{done} of {options.rounds} rounds, {sum(kills.values())} strikes, {bad} bad",
+                f"\r{done} of {options.rounds} rounds, {sum(kills.values())} faults, {bad} bad",
                 end="",
                 flush=True,
             )

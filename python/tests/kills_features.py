@@ -1,4 +1,4 @@
-"""Random faults over the features together: rounds of six features each, with a deploy in each.
+"""Random faults over the features together: rounds of eight features each, with a deploy in each.
 
     python3 tests/kills_features.py [--rounds N] [--store sqlite|postgresql] [--sagas N]
         [--strikes N] [--seed S] [--options a,b,c] [--deploy added|renamed|typed] [--wrong NAME|all]
@@ -14,7 +14,7 @@ resolve what needs attention. Concurrently nodes
 - over PostgreSQL, lose their database, which is stopped as if its machine had failed.
 
 Halfway, each node is started with the next release of its program. At the end the verifier judges
-the store. `--wrong` gives the nodes a fault that the verifier must find; `all` tries each such
+the store. `--wrong` passes the nodes a fault that the verifier must find; `all` tries each such
 variant.
 
 Every process that is signalled here was started here, and is named by its number.
@@ -49,7 +49,7 @@ from brokers import Broker, Program, broker_at
 from celery_kills import worker_command
 from driving import program
 from features_judge import FeatureVerdict, judge, rows_of
-from features_options import options_of
+from features_options import SERVED, options_of
 from features_shop import DEPLOYS, Settings
 from kills import children
 from server import Server, serving
@@ -58,7 +58,7 @@ from witness import Witness, witness_at
 HERE = pathlib.Path(__file__).resolve().parent
 LEASE = 1.5
 PATIENCE = 20.0
-"""Seconds without strikes after which the operator reports what nothing else reports."""
+"""Seconds without faults after which the operator reports what nothing else reports."""
 KINDS = ("kill", "kill", "term", "stop", "engine")
 SERVED_KINDS = (*KINDS, "kill", "database")
 Json = dict[str, Any]
@@ -100,6 +100,28 @@ class Receiver:
         """Stop listening."""
         self.server.shutdown()
         self.server.server_close()
+
+
+@contextlib.contextmanager
+def delay_noted(witness: Witness) -> Iterator[None]:
+    """Note the longest delay of this process by other ones, at the end."""
+    ended, longest, pause = threading.Event(), 0.0, 0.02
+
+    def measure() -> None:
+        nonlocal longest
+        begin = time.monotonic()
+        while not ended.wait(pause):
+            begin, last = time.monotonic(), begin
+            longest = max(longest, begin - last - pause)
+
+    thread = threading.Thread(target=measure, daemon=True)
+    thread.start()
+    try:
+        yield
+    finally:
+        ended.set()
+        thread.join()
+        witness.note(what="delayed", seconds=longest)
 
 
 @dataclasses.dataclass
@@ -148,7 +170,7 @@ class Node:
 
 
 class Round:
-    """One store, its nodes, and their strikes."""
+    """One store, its nodes, and their faults."""
 
     def __init__(
         self,
@@ -161,13 +183,13 @@ class Round:
         options: Sequence[str] | None = None,
         deploy: str | None = None,
         wrong: str = "",
-        most: float = 180,
+        time_limit: float = 180,
         nodes: int = 3,
         seconds: float = 0.0,
     ) -> None:
         self.folder, self.draw = folder, random.Random(seed)
         self.server, self.broker = server, broker
-        self.strikes, self.most, self.seconds = strikes, most, seconds
+        self.strikes, self.time_limit, self.seconds = strikes, time_limit, seconds
         self.kills = Counter[str]()
         store = "postgresql" if server else "sqlite"
         self.url = server.create() if server else str(folder / "store.db")
@@ -205,6 +227,7 @@ class Round:
         with contextlib.ExitStack() as stack:
             stack.enter_context(witness_at(self.folder / "socket", notes))
             self.witness = Witness(self.settings.socket)
+            stack.enter_context(delay_noted(self.witness))
             receiver = Receiver(notes, self.folder / "socket", random.Random(self.settings.seed))
             stack.callback(receiver.close)
             self.settings = dataclasses.replace(self.settings, hook=receiver.url)
@@ -262,12 +285,12 @@ class Round:
 
     @property
     def struck(self) -> int:
-        """Return the number of strikes."""
+        """Return the number of faults."""
         return sum(self.kills.values())
 
     def _check_time(self) -> None:
-        if time.monotonic() - self.began > self.most:
-            raise TimeoutError(f"not over after {self.most:.0f} s: {self._left()}")
+        if time.monotonic() - self.began > self.time_limit:
+            raise TimeoutError(f"not over after {self.time_limit:.0f} s: {self._left()}")
 
     def _keep_up(self) -> None:
         """Start the nodes again that have ended."""
@@ -324,8 +347,9 @@ class Round:
     def _left(self) -> list[Any]:
         """Return what is not over yet, as the database has it."""
         open_sagas = rows_of(self.url, "SELECT key FROM sagas WHERE phase IS NULL LIMIT 5")
+        calls = "SELECT id FROM suspensions WHERE step = -1 LIMIT 5"
         posts = "SELECT id FROM webhook_deliveries WHERE state = 'pending' LIMIT 5"
-        return [*open_sagas, *rows_of(self.url, posts)]
+        return [*open_sagas, *rows_of(self.url, calls), *rows_of(self.url, posts)]
 
     def _is_over(self) -> bool:
         """Return whether no work is left. The schedule ends with that."""
@@ -338,7 +362,7 @@ class Round:
             attention = attention.replace("undo_failed", "(recovered AND undo_failed)")
         return not self._left() and not rows_of(self.url, attention)
 
-    # -- strikes
+    # -- faults
 
     def _strike(self) -> None:
         self._wait(self.draw.uniform(0.05, 0.7))
@@ -416,24 +440,24 @@ def play(
     keeps: bool = True,
     **round_options: Any,
 ) -> Played:
-    """Play one round: a store, its strikes and the verdict."""
+    """Play one round: a store, its faults and the verdict."""
     folder = pathlib.Path(tempfile.mkdtemp(prefix="sagas-features-"))
-    one = Round(folder, seed, count, strikes, server, **round_options)
-    verdict = one.play()
+    game = Round(folder, seed, count, strikes, server, **round_options)
+    verdict = game.play()
     is_bad = keeps and bool(verdict.faults)
     if not is_bad:
         shutil.rmtree(folder)
         if server:
-            server.drop(one.url)
-    of = one.settings
-    return Played(of.options, of.deploy, verdict, one.kills, folder if is_bad else None)
+            server.drop(game.url)
+    of = game.settings
+    return Played(of.options, of.deploy, verdict, game.kills, folder if is_bad else None)
 
 
 def try_wrong(name: str, server: Server | None = None) -> Played:
-    """Play a round of a wrong variant, without strikes."""
+    """Play a round of a wrong variant, without faults."""
     variant = features_wrong.VARIANTS[name]
     settings = {"options": variant.options, "deploy": variant.deploy, "seconds": variant.seconds}
-    return play(1, variant.count, 0, server, most=60, wrong=name, keeps=False, **settings)
+    return play(1, variant.count, 0, server, time_limit=60, wrong=name, keeps=False, **settings)
 
 
 def main() -> int:
@@ -463,7 +487,7 @@ def main() -> int:
             broker = stack.enter_context(broker_at("redis", folder))
         for number in range(options.rounds):
             seed = options.seed + number
-            one = play(
+            played = play(
                 seed,
                 options.sagas,
                 options.strikes,
@@ -472,15 +496,15 @@ def main() -> int:
                 options=features,
                 deploy=options.deploy,
             )
-            kills += one.kills
-            figures += one.verdict.figures
-            bad += bool(one.verdict.faults)
-            for fault in one.verdict.faults[:8]:
-                print(f"{seed} {one.folder}: {fault}")
-            summary = f"{seed}: {','.join(one.options)}; {one.deploy}"
+            kills += played.kills
+            figures += played.verdict.figures
+            bad += bool(played.verdict.faults)
+            for fault in played.verdict.faults[:8]:
+                print(f"{seed} {played.folder}: {fault}")
+            summary = f"{seed}: {','.join(played.options)}; {played.deploy}"
             strikes = sum(kills.values())
             print(
-                f"{summary}; {number + 1} of {options.rounds} rounds, {strikes} strikes, {bad} bad",
+                f"{summary}; {number + 1} of {options.rounds} rounds, {strikes} faults, {bad} bad",
                 flush=True,
             )
     print(f"seed {options.seed}, {time.monotonic() - began:.0f} s")
@@ -491,15 +515,22 @@ def main() -> int:
     return 1 if bad else 0
 
 
+def is_served_only(name: str) -> bool:
+    """Return whether a wrong variant needs PostgreSQL."""
+    return bool({*features_wrong.VARIANTS[name].options} & {*SERVED})
+
+
 def wrong(name: str) -> int:
     """Try wrong variants; the status is 1 if one is not found by the name of its fault."""
     missed = 0
-    for one in sorted(features_wrong.VARIANTS) if name == "all" else [name]:
-        played, finds = try_wrong(one), features_wrong.VARIANTS[one].finds
+    for variant in sorted(features_wrong.VARIANTS) if name == "all" else [name]:
+        finds, is_served = features_wrong.VARIANTS[variant].finds, is_served_only(variant)
+        with serving({"fsync": "on"}) if is_served else contextlib.nullcontext() as server:
+            played = try_wrong(variant, server)
         is_detected = finds in played.names
         missed += not is_detected
         print(
-            f"{one}: {'found by' if is_detected else 'NOT found by'} {finds};"
+            f"{variant}: {'found by' if is_detected else 'NOT found by'} {finds};"
             f" {sorted(played.names)}",
             flush=True,
         )

@@ -60,7 +60,7 @@ TABLES = ("nodes", "shards", "event_log", "sagas", "attempts", "suspensions")
 
 @dataclass
 class NodeStriker(Striker):
-    """One of the nodes, and its strikes."""
+    """One of the nodes, and its faults."""
 
     server: Server | None = None
     relay: Relay | None = None
@@ -164,11 +164,11 @@ def play(
     sagas: int,
     server: Server,
     *,
-    most: float = 180,
+    time_limit: float = 180,
     wrong: str | None = None,
     quiet: int = 6,
 ) -> Round:
-    """Play one round: a database, its strikes and the verdict.
+    """Play one round: a database, its faults and the verdict.
 
     The files stay if there are faults.
     """
@@ -190,7 +190,7 @@ def play(
                     random.Random(f"{seed}{name}"),
                     sagas,
                     concurrency,
-                    most,
+                    time_limit,
                     wrong,
                     quiet,
                     small,
@@ -212,18 +212,18 @@ def play(
             thread.join()
     twice = noted(url, folder / "notes")
     verdict = judge(url, folder / "notes", sagas)
-    for files in ([one.folder / "record" for one in strikers], []):
+    for files in ([striker.folder / "record" for striker in strikers], []):
         shards, faults = fleet.judged(url, files)
         verdict.faults += faults
         verdict.figures["records" if files else "records of the database alone"] += len(shards)
-        verdict.figures["recorded events"] += sum(one.events for one in shards)
+        verdict.figures["recorded events"] += sum(shard.events for shard in shards)
     for token in twice:
         verdict.faults.append(f"inside-twice: {token}")
     for trouble in troubles:
         if trouble:
             verdict.fault("not-over", trouble)
-    for one in strikers:
-        errors = (one.folder / "errors").read_text(errors="replace")
+    for each in strikers:
+        errors = (each.folder / "errors").read_text(errors="replace")
         if "Traceback" in errors and not wrong:
             verdict.faults.append("traceback: " + errors[errors.index("Traceback") :][:3000])
     kills = strikers[0].kills + strikers[1].kills
@@ -250,15 +250,15 @@ def main() -> int:
     bad, began = 0, time.monotonic()
     with serving({"fsync": "on"}) as server:
         for number in range(options.rounds):
-            one = play(kinds[number % len(kinds)], options.seed + number, options.sagas, server)
-            kills += one.kills
-            figures += one.verdict.figures
-            bad += bool(one.problems)
-            for fault in one.problems[:5]:
-                print(f"\n{one.kind} {one.seed} {one.folder}: {fault}")
+            played = play(kinds[number % len(kinds)], options.seed + number, options.sagas, server)
+            kills += played.kills
+            figures += played.verdict.figures
+            bad += bool(played.problems)
+            for fault in played.problems[:5]:
+                print(f"\n{played.kind} {played.seed} {played.folder}: {fault}")
             print(
                 f"{number + 1} of {options.rounds} rounds,"
-                f" {sum(kills.values())} strikes, {bad} bad",
+                f" {sum(kills.values())} faults, {bad} bad",
                 flush=True,
             )
     print(f"seed {options.seed}, {time.monotonic() - began:.0f} s")

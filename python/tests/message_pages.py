@@ -3,7 +3,7 @@
     python3 python/tests/message_pages.py
 
 It writes the pages docs/reference/messages*.md. `test_architecture.py` compares them with the
-source. A word in capitals stands for a value of a message, and `...` for a part of it.
+source. A word in capitals is a value of a message, and `...` for a part of it.
 """
 
 from __future__ import annotations
@@ -22,6 +22,8 @@ SRC = TOP / "python/src/sagas"
 PAGES = TOP / "docs/reference"
 SERVICE = ("Problem",)
 COMMANDS = ("Trouble",)
+DEMO = SRC / "server/demo_orders.py"
+"""The functions of a demo fail as those of a user do. Their texts are no messages."""
 EXCEPTIONS = (
     "[Exceptions](exceptions.md) says what each name means, and whether to repeat the call."
 )
@@ -32,10 +34,10 @@ def wrapped(text: str, indent: str = "") -> str:
     return textwrap.fill(text, 100, subsequent_indent=indent, break_on_hyphens=False)
 
 
-def head(title: str, readers: str, what: str, more: str) -> str:
+def head(title: str, readers: str, subject: str, more: str) -> str:
     """Return the beginning of a page."""
     kind = (
-        f"*Reference. For {readers}. It lists the texts of {what}. `python3 "
+        f"*Reference. For {readers}. It lists the texts of {subject}. `python3 "
         "python/tests/message_pages.py` writes this page from the source.*"
     )
     rule = f"A word in capitals is a value, and `...` is a part that depends on the call. {more}"
@@ -69,7 +71,7 @@ def placeholder(node: ast.expr) -> str:
 
 def messages() -> Iterator[tuple[str, str]]:
     """Yield the name and the template of each message."""
-    for path in sorted(SRC.rglob("*.py")):
+    for path in sorted({*SRC.rglob("*.py")} - {DEMO}):
         for node in ast.walk(ast.parse(path.read_text(encoding="utf-8"))):
             if not isinstance(node, ast.Call):
                 continue
@@ -108,31 +110,31 @@ HEADS = {
     "messages-temporary.md": head(
         title="Messages of temporary errors and conflicts",
         readers="Python developers",
-        what="exceptions after which a call may be repeated, or was decided otherwise",
+        subject="exceptions after which a call may be repeated, or was decided otherwise",
         more=EXCEPTIONS,
     ),
     "messages-invalid.md": head(
         title="Messages of invalid arguments and stores",
         readers="Python developers",
-        what="exceptions that a repetition of the call does not help",
+        subject="exceptions that a repetition of the call does not help",
         more=EXCEPTIONS,
     ),
     "messages.md": head(
         title="Messages of other exceptions",
         readers="Python developers",
-        what="exceptions",
+        subject="exceptions",
         more=EXCEPTIONS,
     ),
     "messages-service.md": head(
         title="Messages of the HTTP service",
         readers="developers of callers and workers",
-        what="`detail` in a problem",
+        subject="`detail` in a problem",
         more="[HTTP errors](http-errors.md) has the status of each type.",
     ),
     "messages-commands.md": head(
         title="Messages of the commands",
         readers="operators",
-        what="errors of `sagas store` and `sagas serve`",
+        subject="errors of `sagas store` and `sagas serve`",
         more="A command that prints one has status 2, or 4 for a file.",
     ),
 }
@@ -146,16 +148,16 @@ def item(text: str) -> str:
 
 def pages() -> dict[str, str]:
     """Return the text of each page."""
-    found: dict[str, set[str]] = {}
+    texts: dict[str, set[str]] = {}
     for name, text in messages():
-        found.setdefault(name, set()).add(text)
+        texts.setdefault(name, set()).add(text)
     result = {}
     for page, names in groups().items():
         parts = [HEADS[page]]
         for name in names:
-            if name in found:
+            if name in texts:
                 title = "" if len(names) == 1 else f"## `{name}`\n\n"
-                parts.append(title + "\n".join(map(item, sorted(found[name]))) + "\n")
+                parts.append(title + "\n".join(map(item, sorted(texts[name]))) + "\n")
         result[page] = "\n".join(parts)
     return result
 

@@ -93,7 +93,7 @@ class Node(World):
         for gate in self.gates.values():
             gate.set()
 
-    async def one(self, store: sagas.Store, number: int, saga: int = 0) -> None:
+    async def run_saga(self, store: sagas.Store, number: int, saga: int = 0) -> None:
         """Run a saga to its end; report both replies to the witness once they arrive here."""
         key, note, reader = f"k{number}", self.witness.note, self.reader
         run = await started(store, self.sagas[saga], key, {"i": number})
@@ -142,7 +142,12 @@ class Stage:
         """Open a node until the block ends. `room`: the number of sagas that it puts into a log."""
         node = Node(Witness(self._socket), self.url, gates, inside)
         store = sagas.open(
-            url or self.url, node.sagas, node=name, lease=600, idle=600, record=self.record
+            url or self.url,
+            node.sagas,
+            node=name,
+            lease=600,
+            settings=sagas.Settings(idle=600),
+            record=self.record,
         )
         await store.__aenter__()
         if room:
@@ -158,15 +163,16 @@ class Stage:
     async def over(self, *work: Awaitable[object]) -> None:
         """Wait until the moment is over; a wrong store may not get there."""
         _, late = await asyncio.wait(
-            [asyncio.ensure_future(one) for one in work], timeout=3 if self.wrong else 60
+            [asyncio.ensure_future(coroutine) for coroutine in work],
+            timeout=3 if self.wrong else 60,
         )
-        for one in late:
-            one.cancel()
+        for task in late:
+            task.cancel()
 
-    async def happens(self, what: Callable[[], Any]) -> None:
+    async def happens(self, condition: Callable[[], Any]) -> None:
         """Wait for a condition; with a wrong store it may never hold."""
         with contextlib.suppress(TimeoutError if self.wrong else ()):
-            await until(what, 3 if self.wrong else 60)
+            await until(condition, 3 if self.wrong else 60)
 
     def ask(self, text: str) -> list[tuple[Any, ...]]:
         """Return the rows of a query."""
@@ -220,7 +226,7 @@ async def nothing_happens(stage: Stage) -> int:
     """Four sagas in sequence, without any error."""
     async with stage.node("one", gates=False) as (node, store):
         for number in range(4):
-            await stage.over(node.one(store, number))
+            await stage.over(node.run_saga(store, number))
     return 4
 
 
@@ -230,7 +236,7 @@ async def another_node_has_the_log(stage: Stage) -> int:
     The other node, which calls its steps too, continues both sagas.
     """
     async with stage.node("same") as (first, store):
-        work = [asyncio.create_task(first.one(store, number)) for number in range(2)]
+        work = [asyncio.create_task(first.run_saga(store, number)) for number in range(2)]
         await until(lambda: len(first.called) == 2)
         async with stage.node("same") as (second, other):
             await until(lambda: len(second.called) == 2)
@@ -257,7 +263,7 @@ async def in_one_commit(
     started. Their outcomes are then one commit, after the start.
     """
     with stage.locked("sagas"):
-        work = asyncio.create_task(node.one(store, number))
+        work = asyncio.create_task(node.run_saga(store, number))
         await until(stage.waiting)
         for key in keys:
             node.gates[key, "a"].set()
@@ -271,15 +277,15 @@ async def another_node_has_one_of_two_logs(stage: Stage) -> int:
     Nothing is written of the log that another node has, and all of the other one.
     """
     async with stage.node("one", room=1) as (first, store), stage.node("two") as (second, _):
-        work = [asyncio.create_task(first.one(store, number)) for number in range(2)]
+        work = [asyncio.create_task(first.run_saga(store, number)) for number in range(2)]
         await until(lambda: len(first.called) == 2)
         stage.give("k1", "two")
         await until(lambda: second.called)
-        before = store.commits
+        before = store._commits
         work.append(await in_one_commit(stage, first, store, ("k0", "k1"), 2))
         await until(lambda: ("k0", "b") in first.called)
         await until(lambda: ("k1", "b") in first.called or len(inner(store).shards.runners) == 2)
-        assert store.commits == before + 2
+        assert store._commits == before + 2
         if stage.ask("SELECT 1 FROM attempts JOIN sagas USING (id) WHERE key = 'k1'"):
             stage.fault_names.add("not-its-own")
         second.open_all()
@@ -294,7 +300,7 @@ async def another_node_has_the_only_log(stage: Stage) -> int:
     Its lines join on, so that their primary key refuses nothing; still nothing may be written.
     """
     async with stage.node("one") as (first, store), stage.node("two") as (second, _):
-        work = asyncio.create_task(first.one(store, 0))
+        work = asyncio.create_task(first.run_saga(store, 0))
         await until(lambda: first.called)
         stage.give("k0", "two")
         await until(lambda: second.called)
@@ -314,7 +320,7 @@ async def a_commit_of_two_logs_comes_late(stage: Stage) -> int:
     """
     with relaying(stage.server.port) as relay:
         async with stage.node("one", url=through(stage, relay), room=1) as (node, store):
-            work = [asyncio.create_task(node.one(store, number)) for number in range(4)]
+            work = [asyncio.create_task(node.run_saga(store, number)) for number in range(4)]
             await until(lambda: len(node.called) == 4)
             # the statement is prepared after it, and not being parsed when it is cut
             work.append(await in_one_commit(stage, node, store, ("k0", "k1"), 4))
@@ -345,7 +351,7 @@ async def a_refused_start_comes_late(stage: Stage) -> int:
     with relaying(stage.server.port) as relay:
         async with stage.node("one", gates=False, url=through(stage, relay)) as (node, store):
             for number in range(2):
-                await node.one(store, number)
+                await node.run_saga(store, number)
             with stage.locked("sagas"):
                 start = asyncio.create_task(store.start(node.sagas[0], key="late", input={}))
                 late = await until(stage.waiting)
@@ -366,7 +372,7 @@ async def the_answer_to_a_commit_is_lost(
     """
     with relaying(stage.server.port) as relay:
         async with stage.node("one", url=through(stage, relay), inside=inside) as (node, store):
-            work = asyncio.create_task(node.one(store, 0))
+            work = asyncio.create_task(node.run_saga(store, 0))
             await until(lambda: node.called)
             relay.mark = mark
             node.gates["k0", "a"].set()
@@ -386,10 +392,10 @@ def through(stage: Stage, relay: Relay) -> str:
 async def the_commit_takes_long(stage: Stage) -> int:
     """No node can write lines while a saga is started, and while its step ends."""
     async with stage.node("one") as (node, store):
-        first = asyncio.create_task(node.one(store, 0))
+        first = asyncio.create_task(node.run_saga(store, 0))
         await until(lambda: node.called)
         with stage.locked("event_log"):
-            second = asyncio.create_task(node.one(store, 1))
+            second = asyncio.create_task(node.run_saga(store, 1))
             node.gates["k0", "a"].set()
             await until(stage.waiting)
             await asyncio.sleep(0.05)  # a reply that came before the commit has arrived by now
@@ -414,13 +420,13 @@ async def at_once(stage: Stage, looks: bool) -> int:
         second,
         other,
     ):
-        for one in (store, other):
+        for node_store in (store, other):
             # so that its next keys are looked for, or are not
-            one._lookup.guessing.record_start(was_there=looks)
+            node_store._lookup.guessing.record_start(was_there=looks)
         with stage.locked("sagas"):
             work = [
-                asyncio.create_task(first.one(store, 0)),
-                asyncio.create_task(second.one(other, 0)),
+                asyncio.create_task(first.run_saga(store, 0)),
+                asyncio.create_task(second.run_saga(other, 0)),
             ]
             await until(lambda: len(stage.waiting()) == 2)
         await stage.over(*work)
@@ -432,7 +438,7 @@ async def a_node_lives(stage: Stage) -> int:
     own.
     """
     async with stage.node("one") as (first, store):
-        work = asyncio.create_task(first.one(store, 0))
+        work = asyncio.create_task(first.run_saga(store, 0))
         await until(lambda: first.called)
         async with stage.node("two") as (second, other):
             beats: set[object] = set()
@@ -453,14 +459,14 @@ async def steps_are_inside(stage: Stage) -> int:
     """As `nothing_happens`, of steps inside the database."""
     async with stage.node("one", gates=False, inside=True) as (node, store):
         for number in range(4):
-            await stage.over(node.one(store, number))
+            await stage.over(node.run_saga(store, number))
     return 4
 
 
 async def another_node_has_the_log_of_a_step_inside(stage: Stage) -> int:
     """A step inside ends when its log is another node's, which has called it too."""
     async with stage.node("same", inside=True) as (first, store):
-        work = asyncio.create_task(first.one(store, 0))
+        work = asyncio.create_task(first.run_saga(store, 0))
         await until(lambda: first.called)
         async with stage.node("same", inside=True) as (second, other):
             await until(lambda: second.called)
@@ -483,7 +489,9 @@ async def another_node_has_the_logs_of_steps_inside(stage: Stage) -> int:
     Their logs are another node's, which has called them too: each ends by its own record.
     """
     async with stage.node("same", inside=True, room=1) as (first, store):
-        work = [asyncio.create_task(first.one(store, number, number // 2)) for number in range(3)]
+        work = [
+            asyncio.create_task(first.run_saga(store, number, number // 2)) for number in range(3)
+        ]
         await until(lambda: len(first.called) == 3)
         async with stage.node("same", inside=True) as (second, _):
             await until(lambda: len(second.called) == 3)
@@ -502,7 +510,7 @@ async def the_commit_of_a_step_inside_is_refused(stage: Stage) -> int:
     """A constraint that is checked in the commit refuses it, at the first try."""
     async with stage.node("one", gates=False, inside=True) as (node, store):
         node.refused.add(("k0", "a"))
-        await stage.over(node.one(store, 0))
+        await stage.over(node.run_saga(store, 0))
     return 1
 
 

@@ -1,6 +1,6 @@
 """The objects of OpenAPI 3.1, as the tables of the specification define them.
 
-They say which fields each object may and must have, and of which type. Debian's package
+They say which fields each object may and must have, and their types. Debian's package
 `openapi-specification` has the text, and no JSON Schema of 3.1.
 """
 
@@ -66,11 +66,11 @@ def type_of(cell: str) -> Of:
     """Return the type in a cell of a table."""
     tokens = [match for match in WORD.finditer(cell)]
 
-    def one() -> Of:
+    def parse_part() -> Of:
         match = tokens.pop(0)
         text = match[0]
         if text == "Map[":
-            one()  # of the names: always `string`
+            parse_part()  # of the names: always `string`
             tokens.pop(0)
             return closed("map")
         if text == "[":
@@ -78,10 +78,10 @@ def type_of(cell: str) -> Of:
         return Of("any") if text == "Any" or "{" in text else Of(match[1] or match[2])
 
     def some() -> Of:
-        parts = [one()]
+        parts = [parse_part()]
         while tokens and tokens[0][0] == "\\|":
             tokens.pop(0)
-            parts.append(one())
+            parts.append(parse_part())
         return parts[0] if len(parts) == 1 else Of("or", tuple(parts))
 
     def closed(word: str) -> Of:
@@ -128,76 +128,76 @@ class Checker:
     def __init__(self) -> None:
         self.rules, self.seen = read(), dict[str, int]()
 
-    def faults(self, value: Any, of: Of, where: str) -> Iterator[str]:
+    def faults(self, value: Any, of: Of, path: str) -> Iterator[str]:
         """Return the errors of a value."""
         self.seen[of.word] = self.seen.get(of.word, 0) + 1
         if of.word == "or":
             is_reference = isinstance(value, dict) and "$ref" in value
             reference = Of("Reference")
             part = reference if is_reference and reference in of.parts else of.parts[0]
-            yield from self.faults(value, part, where)
+            yield from self.faults(value, part, path)
         elif of.word in KINDS:
             if not isinstance(value, KINDS[of.word]):
-                yield f"{where}: it is not a {of.word}"
+                yield f"{path}: it is not a {of.word}"
         elif of.word == "list":
             if not isinstance(value, list):
-                yield f"{where}: it is not a list"
-            for number, one in enumerate(value if isinstance(value, list) else ()):
-                yield from self.faults(one, of.parts[0], f"{where}/{number}")
+                yield f"{path}: it is not a list"
+            for number, part in enumerate(value if isinstance(value, list) else ()):
+                yield from self.faults(part, of.parts[0], f"{path}/{number}")
         elif of.word == "map":
             if not isinstance(value, dict):
-                yield f"{where}: it is not a map"
-            for name, one in value.items() if isinstance(value, dict) else ():
-                yield from self.faults(one, of.parts[0], f"{where}/{name}")
+                yield f"{path}: it is not a map"
+            for name, part in value.items() if isinstance(value, dict) else ():
+                yield from self.faults(part, of.parts[0], f"{path}/{name}")
         elif of.word == "Schema":
-            yield from schema_faults(value, where)
+            yield from schema_faults(value, path)
         elif of.word != "any":
-            yield from self._object(value, self.rules[of.word], where)
+            yield from self._object(value, self.rules[of.word], path)
 
-    def _object(self, value: Any, rules: Rules, where: str) -> Iterator[str]:
+    def _object(self, value: Any, rules: Rules, path: str) -> Iterator[str]:
         if not isinstance(value, dict):
-            yield f"{where}: it is not an object"
+            yield f"{path}: it is not an object"
             return
-        for name, one in rules.required.items():
-            if one in ("", value.get("type")) and name not in value:
-                yield f"{where}: {name} is missing"
-        for name, one in value.items():
+        for name, kind_of_object in rules.required.items():
+            if kind_of_object in ("", value.get("type")) and name not in value:
+                yield f"{path}: {name} is missing"
+        for name, kind_of_object in value.items():
             kind = rules.fields.get(name)
             for pattern, of in rules.patterns.items():
                 kind = kind or (of if re.fullmatch(pattern, name) else None)
             if kind is not None:
-                yield from self.faults(one, kind, f"{where}/{name}")
+                yield from self.faults(kind_of_object, kind, f"{path}/{name}")
             elif not name.startswith("x-") or name.startswith(("x-oai-", "x-oas-")):
-                yield f"{where}: unknown field {name}"
+                yield f"{path}: unknown field {name}"
 
 
-def schema_faults(schema: Any, where: str) -> Iterator[str]:
+def schema_faults(schema: Any, path: str) -> Iterator[str]:
     """Return the errors by the meta-schema of JSON Schema 2020-12, which must define each
     keyword.
     """
     try:
         jsonschema.Draft202012Validator.check_schema(schema)
     except jsonschema.SchemaError as error:
-        yield f"{where}: {error.message}"
-    yield from keyword_faults(schema, where)
+        yield f"{path}: {error.message}"
+    yield from keyword_faults(schema, path)
 
 
-def keyword_faults(schema: Any, where: str) -> Iterator[str]:
+def keyword_faults(schema: Any, path: str) -> Iterator[str]:
     """Return keywords that JSON Schema does not define, in a schema and those within it."""
     known = ANNOTATIONS | {*jsonschema.Draft202012Validator.VALIDATORS}
     for name in schema if isinstance(schema, dict) else ():
         if name not in known and not name.startswith("x-"):
-            yield f"{where}: unknown keyword {name}"
-    for one, location in subschemas(schema):
-        yield from keyword_faults(one, f"{where}/{location}")
+            yield f"{path}: unknown keyword {name}"
+    for inner, location in subschemas(schema):
+        yield from keyword_faults(inner, f"{path}/{location}")
 
 
 def subschemas(schema: Any) -> Iterator[tuple[Any, str]]:
     """Return the schemas within one, with their locations."""
     for name, value in schema.items() if isinstance(schema, dict) else ():
         if name in ("properties", "$defs", "patternProperties", "dependentSchemas"):
-            yield from ((one, f"{name}/{key}") for key, one in value.items())
+            yield from ((inner, f"{name}/{key}") for key, inner in value.items())
         elif name in ("oneOf", "anyOf", "allOf", "prefixItems"):
-            yield from ((one, f"{name}/{at}") for at, one in enumerate(value))
+            yield from ((inner, f"{name}/{at}") for at, inner in enumerate(value))
         elif name in ("items", "additionalProperties", "not", "if", "then", "else", "contains"):
             yield value, name

@@ -112,8 +112,8 @@ class Relay:
                 forth.write_eof()
                 await both[1]
             self._links -= {writer, forth}
-            for one in both:
-                one.cancel()
+            for task in both:
+                task.cancel()
             writer.close()
             forth.close()
 

@@ -37,9 +37,9 @@ def folder_of_programs() -> pathlib.Path:
 
 def free_port() -> int:
     """Return a port that no process uses."""
-    with socket.socket() as one:
-        one.bind(("127.0.0.1", 0))
-        return int(one.getsockname()[1])
+    with socket.socket() as connection:
+        connection.bind(("127.0.0.1", 0))
+        return int(connection.getsockname()[1])
 
 
 @functools.cache
@@ -51,7 +51,7 @@ def made() -> pathlib.Path:
     atexit.register(shutil.rmtree, folder, ignore_errors=True)
     folder.chmod(0o755)
     server = Server(folder / "new")
-    server.own()
+    server.take_ownership()
     options = ["-U", "owner", "-A", "trust", "-E", "UTF8", "--no-locale", "--no-sync"]
     server.run("initdb", "-D", str(server.folder / "data"), *options)
     return server.folder / "data"
@@ -66,7 +66,7 @@ class Server:
             settings or {}
         )
 
-    def own(self) -> None:
+    def take_ownership(self) -> None:
         """Make its folder, which belongs to its user."""
         self.folder.mkdir(parents=True, exist_ok=True)
         if os.geteuid() == 0:
@@ -74,12 +74,12 @@ class Server:
 
     def make(self) -> None:
         """Make its files."""
-        self.own()
+        self.take_ownership()
         subprocess.run(["cp", "-a", str(made()), str(self.folder / "data")], check=True)
 
     def copy(self, primary: Server) -> None:
         """Make its files those of another server; it will start as the standby of that one."""
-        self.own()
+        self.take_ownership()
         options = [
             "-D",
             str(self.folder / "data"),
@@ -146,8 +146,8 @@ class Server:
             "unix_socket_directories": str(self.folder),
         } | self._settings
         options = " ".join(f"-c {name}={value}" for name, value in settings.items())
-        places = ["-D", str(self.folder / "data"), "-l", str(self.folder / "output")]
-        self.run("pg_ctl", *places, "-o", options, "-w", "-t", "180", "start")
+        options_of_files = ["-D", str(self.folder / "data"), "-l", str(self.folder / "output")]
+        self.run("pg_ctl", *options_of_files, "-o", options, "-w", "-t", "180", "start")
 
     def stop(self, mode: str = "immediate") -> None:
         """Stop it: `fast`, or `immediate` as if its machine had failed."""

@@ -18,7 +18,7 @@ from typing import Any, BinaryIO
 from service_worker import RATES, Bare
 from serving import environment
 from witness import Witness
-from world import OutsideReader
+from world import OutsideReader, Refused
 
 import sagas
 
@@ -45,14 +45,15 @@ class _Actor(socketserver.ThreadingUnixStreamServer):
         kind = "undo" if request.pop("undo") else "run"
         failing, unknown = RATES[request["saga"], request["step"], kind]
         try:
-            task = SimpleNamespace(**request, is_compensation=kind == "undo")
+            more = {"is_compensation": kind == "undo", "declared_step": request["step"]}
+            task = SimpleNamespace(**request, **more)
             return {"do": "ok", "value": self.world.act(task, failing, unknown)}
         except sagas.Fail:
             return {"do": "fail", "value": None}
-        except ConnectionError:
-            return {"do": "unknown", "value": None}
-        except ValueError:
+        except (sagas.Retry, Refused):
             return {"do": "retry", "value": None}
+        except BaseException:
+            return {"do": "unknown", "value": None}
 
 
 @contextlib.contextmanager

@@ -7,9 +7,9 @@ A round is one store. Callers start sagas, wait for their ends and approve; work
 Concurrently the service is killed with SIGKILL or asked to end, workers are killed, or are stopped
 past their leases and continued; reports are sent twice. Some sagas are aborted as a step of theirs
 is unknown. Over PostgreSQL there are two services, and half of the callers and workers use each;
-one service may be stopped past its lease, too. With `--workers mixed` one third of ten workers is
-in Python, one in Node, one in Go. The package's verifier judges the store. Every process that is
-signalled here was started here, and is named by its number.
+one service may be stopped past its lease, too. Attempts whose functions had a bug are retried. With
+`--workers mixed` ten workers are in Python, Node, Go and Java in turn. The package's verifier
+judges the store. Every process that is signalled here was started here, and is named by its number.
 """
 
 from __future__ import annotations
@@ -58,7 +58,12 @@ class Callers:
     """
 
     def __init__(
-        self, services: list[Served], socket: pathlib.Path, sagas: int, count: int, most: float
+        self,
+        services: list[Served],
+        socket: pathlib.Path,
+        sagas: int,
+        count: int,
+        time_limit: float,
     ) -> None:
         self.services, self.reader, self.witness = (
             services,
@@ -66,7 +71,7 @@ class Callers:
             Witness(str(socket)),
         )
         self.left, self.lock = list(range(sagas)), threading.Lock()
-        self.until, self.over = time.monotonic() + most, threading.Event()
+        self.until, self.over = time.monotonic() + time_limit, threading.Event()
         self.faults: list[str] = []
         self.threads = [threading.Thread(target=self._call, daemon=True) for _ in range(count)]
         self.approver = threading.Thread(target=self._approve, daemon=True)
@@ -112,11 +117,11 @@ class Callers:
                         if not self.left:
                             return
                         number = self.left.pop(0)
-                    self._one(clients, number)
+                    self._run_saga(clients, number)
         except Exception as error:  # reported at the end
             self.faults.append(f"a caller: {error!r}")
 
-    def _one(self, clients: list[httpx.Client], number: int) -> None:
+    def _run_saga(self, clients: list[httpx.Client], number: int) -> None:
         key, note = f"k{number}", self.witness.note
         body = {"definition": NAMES[number % 4], "key": key, "input": {"i": number}}
         answer = self._ask(clients, lambda client: client.post("/v1/sagas", json=body))
@@ -173,11 +178,19 @@ class Callers:
                             self.witness.note(
                                 what="finished", key=key, there=self.reader.finished(key, value)
                             )
+                    self._retry_bugs(clients[0])
                 self.over.wait(0.1)
+
+    def _retry_bugs(self, client: httpx.Client) -> None:
+        """Retry each attempt whose function had a bug, as after a deploy of its worker."""
+        answer = client.get("/v1/attention?kind=program_error")
+        for entry in answer.json()["entries"] if answer.status_code == 200 else []:
+            path = f"/v1/sagas/{entry['key']}/steps/{entry['step']}/retry"
+            client.post(path, json={"undo": entry["undo"]})
 
 
 class Round:
-    """One store, its services, workers and callers, and their strikes."""
+    """One store, its services, workers and callers, and their faults."""
 
     def __init__(
         self,
@@ -187,7 +200,7 @@ class Round:
         workers: int,
         callers: int,
         strikes: int,
-        most: float,
+        time_limit: float,
         url: str | None,
         others: Sequence[list[str]] = (),
     ) -> None:
@@ -199,7 +212,7 @@ class Round:
             else [Served(folder, texts())]
         )
         self.kills: Counter[str] = Counter()
-        self.sagas, self.most, self.count = sagas, most, workers
+        self.sagas, self.time_limit, self.count = sagas, time_limit, workers
         self.callers = callers
         self.workers: list[subprocess.Popen[bytes]] = []
 
@@ -257,7 +270,7 @@ class Round:
                     )
                 )
             callers = Callers(
-                self.services, self.folder / "socket", self.sagas, self.callers, self.most
+                self.services, self.folder / "socket", self.sagas, self.callers, self.time_limit
             )
             try:
                 self.workers = [self._worker(index) for index in range(self.count)]
@@ -286,28 +299,28 @@ class Round:
             "the service",
             "the service, asked to end",
             "a worker",
-            "a worker stands still",
-            *(["the service stands still"] if self.url else []),
+            "a worker pauses",
+            *(["the service pauses"] if self.url else []),
         ]
-        what = self.draw.choice(kinds)
+        target = self.draw.choice(kinds)
         index = self.draw.randrange(self.count)
         service = self.draw.choice(self.services)
-        if what == "the service":
+        if target == "the service":
             service.kill()
             service.start()
-        elif what == "the service, asked to end":
+        elif target == "the service, asked to end":
             service.stop()
             service.start()
-        elif what == "the service stands still":
+        elif target == "the service pauses":
             assert service.process
             self._stand_still(service.process, NODE_LEASE)
-        elif what == "a worker":
+        elif target == "a worker":
             self.workers[index].kill()
             self.workers[index].wait()
             self.workers[index] = self._worker(index)
         else:
             self._stand_still(self.workers[index], LEASE)
-        self.kills[what] += 1
+        self.kills[target] += 1
 
     def _stand_still(self, process: subprocess.Popen[bytes], lease: float) -> None:
         process.send_signal(signal.SIGSTOP)
@@ -328,21 +341,23 @@ def play(
     workers: int,
     callers: int,
     strikes: int,
-    most: float = 240,
+    time_limit: float = 240,
     server: Server | None = None,
     others: Sequence[list[str]] = (),
 ) -> tuple[Verdict, Counter[str], pathlib.Path | None]:
     """Play one round; its files stay if there are faults."""
     folder = pathlib.Path(tempfile.mkdtemp(prefix="sagas-service-"))
     url = server.create() if server else None
-    one = Round(folder, random.Random(seed), sagas, workers, callers, strikes, most, url, others)
-    verdict = one.play()
+    game = Round(
+        folder, random.Random(seed), sagas, workers, callers, strikes, time_limit, url, others
+    )
+    verdict = game.play()
     if verdict.faults:
-        return verdict, one.kills, folder
+        return verdict, game.kills, folder
     shutil.rmtree(folder)
     if server and url:
         server.drop(url)
-    return verdict, one.kills, None
+    return verdict, game.kills, None
 
 
 def main() -> int:
@@ -369,7 +384,7 @@ def main() -> int:
         )
         made = stack.enter_context(commands())
         others = (
-            [made(one) for one in languages() if one != "python"]
+            [made(language) for language in languages() if language != "python"]
             if options.workers == "mixed"
             else []
         )
@@ -381,7 +396,7 @@ def main() -> int:
                 workers,
                 options.callers,
                 options.strikes,
-                most=900,
+                time_limit=900,
                 server=server,
                 others=others,
             )
@@ -392,7 +407,7 @@ def main() -> int:
                 print(f"{options.seed + number} {folder}: {fault}")
             print(
                 f"{number + 1} of {options.rounds} rounds,"
-                f" {sum(kills.values())} strikes, {bad} bad",
+                f" {sum(kills.values())} faults, {bad} bad",
                 flush=True,
             )
     print(f"seed {options.seed}, {time.monotonic() - began:.0f} s")

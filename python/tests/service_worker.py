@@ -14,11 +14,11 @@ import random
 from typing import Any
 
 from witness import Witness
-from world import OutsideReader, World
+from world import OutsideReader, Refused, World
 
 import sagas
 from sagas.api.service_connection import ServiceRefused
-from sagas.server import definition_files
+from sagas.definition import definition_files
 
 LATE = """format = 2
 name = "late"
@@ -60,6 +60,8 @@ RATES: dict[tuple[str, str, str], tuple[float, float]] = {
 class Bare(World):
     """The world without functions: its definitions are files."""
 
+    has_bugs = True
+
     def __init__(self, witness: Any, reader: OutsideReader, folder: pathlib.Path) -> None:
         self.witness, self.reader = witness, reader
         self.sagas = definition_files.read(folder)
@@ -84,8 +86,10 @@ class Twice(sagas.Worker):
                 )
                 assert again and again["repeated"], (path, body, again)
             except ServiceRefused as refusal:
-                # a service that was restarted has forgotten an unknown outcome and its lease
-                assert refusal.status == 409 and path.endswith("/unknown"), (path, body, refusal)
+                # a service that was restarted has forgotten an unknown outcome and its lease, and
+                # after a failure the same attempt may be offered again, under another lease
+                is_known = path.endswith(("/unknown", "/fail"))
+                assert refusal.status == 409 and is_known, (path, body, refusal)
         return reply
 
 
@@ -124,7 +128,9 @@ def main() -> None:
     worker = Twice(options.url, lease=options.lease, concurrency=options.concurrency, wait=5)
     for (saga, step, kind), (failing, unknown) in RATES.items():
         declare = worker.step if kind == "run" else worker.compensation
-        declare(saga, step)(functools.partial(world.act, failing=failing, unknown=unknown))
+        declare(saga, step, no_effect=(Refused,))(
+            functools.partial(world.act, failing=failing, unknown=unknown)
+        )
     worker.run()
 
 

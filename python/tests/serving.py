@@ -29,6 +29,8 @@ COUNT = itertools.count()
 
 TRIP = """format = 2
 name = "trip"
+[defaults]
+tries = 1
 [[step]]
 name = "flight"
 undo = "never"
@@ -46,6 +48,8 @@ tries = 2
 """
 ORDER = """format = 2
 name = "order"
+[defaults]
+tries = 1
 [[step]]
 name = "review"
 tries = 9
@@ -55,6 +59,8 @@ needs = ["review"]
 """
 LICENCE = """format = 2
 name = "licence"
+[defaults]
+tries = 1
 [[step]]
 name = "server"
 undo = "never"
@@ -67,6 +73,8 @@ skip = "never"
 """
 FEW = """format = 2
 name = "few"
+[defaults]
+tries = 1
 [[step]]
 name = "a"
 keep = 9
@@ -79,7 +87,7 @@ undo = "never"
 DEFINITIONS = {
     "trip.toml": TRIP,
     "trip.service.toml": (
-        "[step.tour]\nbackoff = { initial = 0.05 }\nmax_unknown = 0\n"
+        "[step.tour]\nbackoff = { initial = 0.05 }\nmax_unknown = 1\n"
         '[step.car]\nundo_on_exhausted = "fail"\n'
     ),
     "order.toml": ORDER,
@@ -214,12 +222,12 @@ def served(
     store: str | None = None,
 ) -> Iterator[Served]:
     """Run a service until the block ends."""
-    one = Served(folder, files, *arguments, store=store)
-    one.start()
+    service = Served(folder, files, *arguments, store=store)
+    service.start()
     try:
-        yield one
+        yield service
     finally:
-        one.kill()
+        service.kill()
 
 
 def command(*arguments: str) -> subprocess.CompletedProcess[str]:
@@ -241,12 +249,12 @@ def token(folder: pathlib.Path, name: str, *roles: str) -> str:
 
 
 def take(
-    client: httpx.Client, *steps: str, wait: float = 30, lease: float = 600, most: int = 1
+    client: httpx.Client, *steps: str, wait: float = 30, lease: float = 600, limit: int = 1
 ) -> list[dict[str, Any]]:
     """Claim tasks."""
     answer = client.post(
         "/v1/tasks/claim",
-        json={"steps": steps, "wait": wait, "lease": lease, "limit": most, "worker": "w"},
+        json={"steps": steps, "wait": wait, "lease": lease, "limit": limit, "worker": "w"},
     )
     assert answer.status_code == 200, answer.text
     tasks: list[dict[str, Any]] = answer.json()["tasks"]
@@ -268,9 +276,9 @@ def report(
     )
 
 
-def start(client: httpx.Client, definition: str, key: str, given: Any = None) -> httpx.Response:
+def start(client: httpx.Client, definition: str, key: str, value: Any = None) -> httpx.Response:
     """Start a saga."""
-    return client.post("/v1/sagas", json={"definition": definition, "key": key, "input": given})
+    return client.post("/v1/sagas", json={"definition": definition, "key": key, "input": value})
 
 
 def all_done(client: httpx.Client, *steps: str, failing: Sequence[str] = ()) -> None:

@@ -14,11 +14,11 @@ import sagas
 WORLD = os.environ.get("SAGAS_TEST_WORLD")
 
 
-def note(task: sagas.Task[Any], what: str) -> None:
+def note(task: sagas.Task[Any], event: str) -> None:
     """Append a call of a function to a file, as a service outside would."""
     if WORLD is not None:
         with pathlib.Path(WORLD).open("a") as file:
-            file.write(json.dumps([task.key, what, task.idempotency_key, task.attempt]) + "\n")
+            file.write(json.dumps([task.key, event, task.idempotency_key, task.attempt]) + "\n")
 
 
 @dataclass
@@ -93,14 +93,14 @@ async def mail(task: sagas.Task[Order]) -> list[str]:
 plain = sagas.Saga("plain")
 
 
-@plain.step
-async def one(task: sagas.Task[None]) -> int:
+@plain.step(name="one")
+async def first(task: sagas.Task[None]) -> int:
     return 1
 
 
-@plain.step(needs=[one])
+@plain.step(needs=[first])
 async def two(task: sagas.Task[None]) -> int:
-    return task.result_of(one) + 1
+    return task.result_of(first) + 1
 
 
 @dataclass
@@ -200,7 +200,7 @@ def tour(task: sagas.Task[Trip]) -> list[Any]:
 
 
 def wanted(number: int) -> Order:
-    """Return the order of this number: 0 to 6 parcels, of some of which one cannot be sent."""
+    """Return the order of this number: 0 to 6 parcels, some with one that cannot be sent."""
     count, is_bad = number % 7, number % 3 == 2
     parcels = [
         Parcel("nowhere" if is_bad and index == count // 2 else f"t{index}", index * 4, 0.003)
@@ -210,7 +210,7 @@ def wanted(number: int) -> Order:
 
 
 def parcels(count: int, bad: int | None = None, value: Any = lambda index: index) -> Order:
-    """Return an order of `count` parcels, of which one cannot be sent."""
+    """Return an order of `count` parcels, one that cannot be sent."""
     made = (
         Parcel("nowhere" if index == bad else f"t{index}", value(index)) for index in range(count)
     )

@@ -14,11 +14,11 @@ import pytest
 
 import sagas
 from sagas.core import recovery
-from sagas.core.batch import LoadedShard
+from sagas.core.shard.batch import LoadedShard
 from sagas.core.effects import Effects
-from sagas.core.attempt import Attempt
-from sagas.core.saga_instance import SagaInstance
-from sagas.core.shard import ShardDefinitions, ShardDriver, ShardIdentity
+from sagas.core.attempt.model import Attempt
+from sagas.core.attempt.instance import SagaInstance
+from sagas.core.shard.driver import ShardDefinitions, ShardDriver, ShardIdentity
 from sagas.core.states import ShardState
 from sagas.definition.registry import DefinitionRegistry
 from sagas.runtime.acknowledgements import Acknowledgements
@@ -66,7 +66,7 @@ def noted(record: RecordFile) -> list[str]:
 def written(record: RecordFile) -> list[str]:
     """Return the lines that are in the file."""
     fields = [line.split(" ") for line in pathlib.Path(record.path).read_text().splitlines()]
-    return [" ".join([one[0], *one[5:]]) for one in fields if one[0] != "sagas-record"]
+    return [" ".join([field[0], *field[5:]]) for field in fields if field[0] != "sagas-record"]
 
 
 def digest(text: str) -> int:
@@ -79,40 +79,40 @@ SECOND = f"sent 2 {digest(('a' + chr(10) + 'b' + chr(10)) * 2)}"
 
 def test_an_acknowledgement_is_written_with_its_reply(record: RecordFile) -> None:
     """An acknowledgement can wait if it depends on no more than another one."""
-    session, one = record.session(SHARD, 1), commit(0)
-    record.commit = one
+    session, first_commit = record.session(SHARD, 1), commit(0)
+    record.commit = first_commit
     assert written(record) == []
-    record.heard(one, {SHARD})
-    record.told((session, 2), "wake")
+    record.heard(first_commit, {SHARD})
+    record.acknowledge((session, 2), "wake")
     expected = ["took 0 0", FIRST, "heard 2", "told 2 wake"]
     assert written(record) == expected
-    record.told((session, 2), "call")
-    record.told((session, 1), "call")
-    record.told((session, 2), "wake")
+    record.acknowledge((session, 2), "call")
+    record.acknowledge((session, 1), "call")
+    record.acknowledge((session, 2), "wake")
     assert written(record) == expected and noted(record) == [*expected, "told 2 call"]
 
 
 def test_an_acknowledgement_of_an_older_chunk_while_another_is_sent(record: RecordFile) -> None:
     """It is written at once. The chunk in transit follows, with its reply."""
-    session, one, two = record.session(SHARD, 1), commit(0), commit(2)
-    record.commit = one
-    record.heard(one, {SHARD})
-    record.commit = two
-    record.told((session, 2), "call")
+    session, first_commit, second_commit = record.session(SHARD, 1), commit(0), commit(2)
+    record.commit = first_commit
+    record.heard(first_commit, {SHARD})
+    record.commit = second_commit
+    record.acknowledge((session, 2), "call")
     assert written(record) == ["took 0 0", FIRST, "heard 2", "told 2 call"]
-    record.heard(two, {SHARD})
+    record.heard(second_commit, {SHARD})
     assert noted(record)[4:] == [SECOND, "heard 4"]
 
 
 def test_an_early_acknowledgement_follows_what_was_sent(record: RecordFile) -> None:
     """It also precedes the reply, if one comes."""
-    session, one, two = record.session(SHARD, 1), commit(0), commit(2)
-    record.commit = one
-    record.heard(one, {SHARD})
-    record.commit = two
-    record.told((session, 4), "call")
+    session, first_commit, second_commit = record.session(SHARD, 1), commit(0), commit(2)
+    record.commit = first_commit
+    record.heard(first_commit, {SHARD})
+    record.commit = second_commit
+    record.acknowledge((session, 4), "call")
     assert written(record) == ["took 0 0", FIRST, "heard 2", SECOND, "told 4 call"]
-    record.heard(two, {SHARD})
+    record.heard(second_commit, {SHARD})
     record.commit = commit(4, "c\n")
     assert [line.split(" ")[0] for line in noted(record)[5:]] == ["heard", "sent"]
 
@@ -122,8 +122,8 @@ def test_a_commit_without_an_answer(record: RecordFile) -> None:
     session = record.session(SHARD, 1)
     record.commit = commit(0)
     record.unanswered()
-    record.commit = one = commit(0)
-    record.heard(one, ())
+    record.commit = first_commit = commit(0)
+    record.heard(first_commit, ())
     record.commit = commit(0)
     record.failed()
     assert noted(record) == ["took 0 0", FIRST, FIRST, "stale", FIRST, "failed"]
@@ -132,11 +132,11 @@ def test_a_commit_without_an_answer(record: RecordFile) -> None:
 
 def test_another_server_takes_over_while_a_commit_is_sent(record: RecordFile) -> None:
     """The commit and its reply are those of the server at the time of sending."""
-    one = commit(0)
-    record.commit = one
+    first_commit = commit(0)
+    record.commit = first_commit
     record.moved("00000002")
-    record.heard(one, {SHARD})
-    record.told((record.session(SHARD, 1), 2), "call")
+    record.heard(first_commit, {SHARD})
+    record.acknowledge((record.session(SHARD, 1), 2), "call")
     record.close()
     lines = [line.split(" ") for line in pathlib.Path(record.path).read_text().splitlines()[1:]]
     assert [(fields[0], fields[4]) for fields in lines] == [
@@ -152,18 +152,18 @@ def test_a_shard_that_begins(record: RecordFile, early: bool) -> None:
     """Its takeover is noted once, before its first commit and before acknowledgements that depend
     on it.
     """
-    one, session = commit(0, shard=8), record.session(8, 1)
-    one.parts["born"] = [(8, "name")]
-    record.commit = one
+    first_commit, session = commit(0, shard=8), record.session(8, 1)
+    first_commit.parts["born"] = [(8, "name")]
+    record.commit = first_commit
     if early:
-        record.told((session, 2), "call")
-    record.heard(one, {8})
+        record.acknowledge((session, 2), "call")
+    record.heard(first_commit, {8})
     if not early:
-        record.told((session, 2), "call")
+        record.acknowledge((session, 2), "call")
     assert record.session(8, 1) is session
-    two = commit(2, shard=8)
-    record.commit = two
-    record.heard(two, {8})
+    second_commit = commit(2, shard=8)
+    record.commit = second_commit
+    record.heard(second_commit, {8})
     acknowledged, heard = "told 2 call", "heard 2"
     order = [acknowledged, heard] if early else [heard, acknowledged]
     assert noted(record) == ["took 0 0", "took 0 0", FIRST, *order, SECOND, "heard 4"]
@@ -191,36 +191,40 @@ def test_lines_are_in_order(tmp_path: pathlib.Path) -> None:
                 shard, edge = chance.choice((1, 2)), chance.choice(EDGES)
                 early = chance.random() < 0.1
                 events = chance.randint(0, heads[shard]) + 5 * early
-                record.told((record.session(shard, 1), events), edge)
+                record.acknowledge((record.session(shard, 1), events), edge)
                 if newest.get((shard, edge), -1) < events:
-                    is_most = events > max([newest.get((shard, one), -1) for one in EDGES])
+                    is_newest = events > max([newest.get((shard, edge), -1) for edge in EDGES])
                     newest[shard, edge] = events
                     expected[shard].append(f"told {events} {edge}")
-                    if is_most:
+                    if is_newest:
                         has = pathlib.Path(record.path).read_text().splitlines()
                         assert has[-1] == f"told run {shard} 1 {LINE} {events} {edge}"
             elif under_way is None or chance.random() < 0.1:
                 if under_way is not None:
                     record.unanswered()
                 shards = chance.choice(([1], [2], [1, 2], []))
-                rows = [(one, heads[one], 0.0, chance.choice("xyz") + "\n", 1) for one in shards]
+                rows = [(log, heads[log], 0.0, chance.choice("xyz") + "\n", 1) for log in shards]
                 under_way = Sent({"lines": rows} if rows else {}, {})
-                for one, first, _, text, _ in rows:
-                    under_way.events[one] = first + 1
-                    expected[one].append(f"sent {first} {digest(texts[one] + text)}")
+                for log, first, _, text, _ in rows:
+                    under_way.events[log] = first + 1
+                    expected[log].append(f"sent {first} {digest(texts[log] + text)}")
                 record.commit = under_way
             else:
                 rows, mine = list(under_way.parts.get("lines", ())), chance.choice(({1, 2}, {1}))
                 record.heard(under_way, mine)
-                for one, first, _, text, _ in rows:
-                    if one in mine:
-                        heads[one], texts[one] = first + 1, texts[one] + text
-                    expected[one].append(f"heard {first + 1}" if one in mine else "stale")
+                for log, first, _, text, _ in rows:
+                    if log in mine:
+                        heads[log], texts[log] = first + 1, texts[log] + text
+                    expected[log].append(f"heard {first + 1}" if log in mine else "stale")
                 under_way = None
         record.close()
         for shard, lines in expected.items():
-            fields = [one.split(" ") for one in pathlib.Path(record.path).read_text().splitlines()]
-            shard_lines = [" ".join([one[0], *one[5:]]) for one in fields if one[2] == str(shard)]
+            fields = [
+                line.split(" ") for line in pathlib.Path(record.path).read_text().splitlines()
+            ]
+            shard_lines = [
+                " ".join([field[0], *field[5:]]) for field in fields if field[2] == str(shard)
+            ]
             assert in_canonical_order(shard_lines) == in_canonical_order(
                 lines
             ), f"seed {seed}, shard {shard}"
@@ -230,17 +234,17 @@ def in_canonical_order(lines: Sequence[str]) -> list[str]:
     """Return the lines, with each such acknowledgement moved before the commit that it follows."""
     ordered, heard = list[str](), 0
     for line in lines:
-        what, *fields = line.split(" ")
-        heard = int(fields[0]) if what == "heard" else heard
+        word, *fields = line.split(" ")
+        heard = int(fields[0]) if word == "heard" else heard
         index = len(ordered)
-        if what == "told" and int(fields[0]) <= heard:
-            while ordered[index - 1].startswith(("sent", "told")) and _is_behind(ordered, index):
+        if word == "told" and int(fields[0]) <= heard:
+            while ordered[index - 1].startswith(("sent", "told")) and _may_swap(ordered, index):
                 index -= 1
         ordered.insert(index, line)
     return ordered
 
 
-def _is_behind(lines: Sequence[str], index: int) -> bool:
+def _may_swap(lines: Sequence[str], index: int) -> bool:
     """Return whether a commit is between that index and the last reply."""
     for line in reversed(lines[:index]):
         if line.startswith("sent"):
@@ -280,11 +284,11 @@ def recovered(shard: ShardDriver, busy: Sequence[tuple[int, str, int]]) -> recov
     """Return the effects of a recovery of a shard whose saga is open, with these attempts."""
     shard.fail()
     shard.set_state(ShardState.LOADING)
-    rows = [(SHARD * 1000, "k", 0, "{}", None, None, None)]
+    rows = [(SHARD * 1000, "k", 0, "{}", None, None, None, 0.0)]
     loaded = LoadedShard("line\n", 1, 1, rows, [], [], 2, LINE, 1)
     shard.loaded(loaded)
     known = {saga.key: saga for saga in shard.sagas.values()}
-    busy_tasks = [{"saga": 0, "step": one, "task": word, "attempt": at} for one, word, at in busy]
+    busy_tasks = [{"saga": 0, "step": step, "task": word, "attempt": at} for step, word, at in busy]
     return recovery.recover(loaded, [json.dumps({"busy": busy_tasks})], 0.0, shard, known)
 
 

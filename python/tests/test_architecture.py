@@ -8,6 +8,10 @@ import re
 import message_pages
 import package_map
 
+from sagas.core.shard.batch import RareRows
+from sagas.storage.postgresql import commit_statement
+from sagas.storage.sqlite import writer
+
 FOLDER = package_map.TOP / "docs/dev/architecture"
 CHANGES = re.compile(r"\b(INSERT INTO|UPDATE (?!SET\b|OF\b)|DELETE FROM|pg_notify\()")
 """A part of a statement that changes rows, or reports that they changed."""
@@ -28,9 +32,11 @@ def statements(body: list[ast.stmt], owner: str) -> list[str]:
         else:
             continue
         within = [*ast.walk(node)]
-        prose = {id(one.value) for one in within if isinstance(one, ast.Expr)}
+        prose = {id(node.value) for node in within if isinstance(node, ast.Expr)}
         texts = [
-            one.value for one in within if isinstance(one, ast.Constant) and id(one) not in prose
+            node.value
+            for node in within
+            if isinstance(node, ast.Constant) and id(node) not in prose
         ]
         if any(isinstance(text, str) and CHANGES.search(text) for text in texts):
             changing += [f"{owner}.{name}" for name in names]
@@ -73,3 +79,11 @@ def test_each_line_is_short() -> None:
     """It fits into a line of 120 columns."""
     layers = [layer for _, layers in package_map.PAGES.values() for layer in layers]
     assert [line for layer in layers for line in package_map.lines(layer) if len(line) > 120] == []
+
+
+def test_each_part_of_a_batch_has_its_statement() -> None:
+    """A part that no statement names would be lost without an error."""
+    parts = {*RareRows.__annotations__}
+    assert parts - {*writer.PARTS} == {"begun", "defined"}, "of SQLite"
+    assert parts - {*commit_statement.COLUMNS} == {"work"}, "of PostgreSQL"
+    assert {*commit_statement.PLAIN} <= parts

@@ -31,13 +31,13 @@ BOUNDS: dict[str, dict[str, Any]] = {
 
 
 def kinds(gate: asyncio.Event) -> dict[str, sagas.Saga]:
-    """Return a saga for each reason to wait, whose step is called until the gate opens."""
+    """Return a saga for each reason to wait, whose step is called until its gate opens."""
 
     async def wait(task: Task) -> None:
         await gate.wait()
 
     async def fail(task: Task) -> None:
-        raise ValueError("not now")
+        raise sagas.Retry("not now")
 
     sagas_by_reason = {word: sagas.Saga(word) for word in (*BOUNDS, "backoff", "worker")}
     for word, options in BOUNDS.items():
@@ -53,7 +53,7 @@ def test_without_async(tmp_path: pathlib.Path) -> None:
     saga.step(name="a", external=True)
     with sagas.open_sync(tmp_path / "x.db", [saga]) as store:
         store.start(saga, "k")
-        run(until(lambda: [one.waits for one in store.active_attempts("k")] == ["worker"]))
+        run(until(lambda: [attempt.waits for attempt in store.active_attempts("k")] == ["worker"]))
         store.complete("k", "a")
 
 
@@ -67,12 +67,14 @@ def test_a_call_after_a_wait_is_not_listed_as_waiting(location: str) -> None:
 
     async def main() -> None:
         async with sagas.open(location, [late], shutdown_timeout=0.0) as store:
-            with contextlib.closing(StoreReader(store.reader())) as looks:
+            with contextlib.closing(StoreReader(store._reader())) as looks:
                 await store.start(late, "k")
-                await until(lambda: [one.waits for one in store.active_attempts("k")] == [""])
+                await until(
+                    lambda: [attempt.waits for attempt in store.active_attempts("k")] == [""]
+                )
                 view = looks.ask(one_saga.view("k"))
                 assert view and view.held == [] and looks.ask(lists.waits(person=False)) == []
-                state = with_active_attempts(view, store.active_attempts("k"), store.now())
+                state = with_active_attempts(view, store.active_attempts("k"), store._now())
                 assert state.running == {("then", False)} and state.held == []
 
     run(main())
@@ -96,7 +98,7 @@ def test_the_store_and_its_program_together() -> None:
             summary, False, None, None, {}, [], None, rows, [], [], [stretch], [], [], "", "x-1"
         )
         state = with_active_attempts(view, begun, 100.0)
-        return [(one.why, one.said) for one in state.held], ("a", False) in state.running
+        return [(wait.why, wait.detail) for wait in state.held], ("a", False) in state.running
 
     def begun(waits: str, attempt: int = 1) -> sagas.ActiveAttempt:
         return sagas.ActiveAttempt("a", False, attempt, waits, None)
@@ -143,7 +145,7 @@ def test_started_attempts_have_a_reason_to_wait(
         async with sagas.open(location, there.values(), shutdown_timeout=0.0) as store:
 
             def waits(key: str) -> list[str]:
-                return [one.waits for one in store.active_attempts(key)]
+                return [attempt.waits for attempt in store.active_attempts(key)]
 
             for word, kind in there.items():
                 if word in BOUNDS:
@@ -159,7 +161,7 @@ def test_started_attempts_have_a_reason_to_wait(
             assert (
                 (backoff.step, backoff.undo, backoff.attempt) == ("a", False, 2)
                 and backoff.until is not None
-                and backoff.until > store.now() + 3000
+                and backoff.until > store._now() + 3000
             )
             assert store.active_attempts("nobody") == []
             for key, says in (

@@ -19,7 +19,7 @@ from serving import command
 from test_blobs import LARGE, THRESHOLD, Memory, at, copy, values_in
 
 import sagas
-from sagas.core import attempt_machine
+from sagas.core.attempt import machine as attempt_machine
 from sagas.definition.payloads import PLAIN
 from sagas.storage import blob_layer
 
@@ -37,7 +37,9 @@ def blobs_of(store: sagas.Store) -> Any:
 
 async def approval_requested(store: sagas.Store, key: str) -> None:
     """Wait until a saga waits for its approval."""
-    await until(lambda: [one for one in store.active_attempts(key) if one.waits == "approval"])
+    await until(
+        lambda: [attempt for attempt in store.active_attempts(key) if attempt.waits == "approval"]
+    )
 
 
 async def swept(store: sagas.Store) -> int:
@@ -100,7 +102,7 @@ def test_a_copy_deletes_nothing_of_the_original(
             await until(lambda: "this store is a copy of it" in caplog.text)
 
     async def gone(store: sagas.Store) -> bool:
-        return [one.key for one in await store.list()] == ["own"]
+        return [summary.key for summary in await store.list()] == ["own"]
 
     async def again() -> None:
         async with at(location, blobs, saga) as store:
@@ -188,8 +190,10 @@ def test_two_nodes_have_the_same_values(url: str, tmp_path: pathlib.Path) -> Non
     saga, blobs = copy(), sagas.FolderBlobStore(tmp_path / "blobs")
 
     async def main() -> None:
-        async with at(url, blobs, saga, node="one") as one, at(url, blobs, saga, node="two") as two:
-            here, there = await wait_for_name(one), await wait_for_name(two)
+        async with at(url, blobs, saga, node="one") as first, at(
+            url, blobs, saga, node="two"
+        ) as second:
+            here, there = await wait_for_name(first), await wait_for_name(second)
             for _ in range(3):
                 assert all(await asyncio.gather(here.is_own(), there.is_own()))
             assert here.prefix == there.prefix
@@ -240,7 +244,7 @@ def test_a_missing_value_parks_only_its_attempt(
     """
     saga, flaky = copy(), Flaky()
     monkeypatch.setattr(blob_layer, "PAUSES", (0.001,))
-    monkeypatch.setattr(attempt_machine, "LEAST_UNREAD", 0.05)
+    monkeypatch.setattr(attempt_machine, "LEAST_UNREAD", 0.0005)  # shorter than a commit
     bad = [f"bad-{number}" for number in range(6)]  # more than are read at a time
 
     async def main() -> None:
@@ -266,8 +270,8 @@ def test_a_missing_value_parks_only_its_attempt(
                 await store.complete(key, "sign")
             assert (await store.wait("good", 60)).results["second"] == f"{LARGE}12"
             parked = await until(lambda: all_parked(store))
-            assert {one.why for one in parked} == {"cannot_decode"}
-            assert all("the blob store raised OSError" in str(one.detail) for one in parked)
+            assert {entry.why for entry in parked} == {"cannot_decode"}
+            assert all("the blob store raised OSError" in str(entry.detail) for entry in parked)
             await store.start(saga, "new", LARGE)
             run_of = await store.get(bad[0])
             assert run_of is not None and await run_of.abort()

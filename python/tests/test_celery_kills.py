@@ -1,4 +1,4 @@
-"""Random strikes over Redis and RabbitMQ, SQLite and PostgreSQL, in pairs.
+"""Random faults over Redis and RabbitMQ, SQLite and PostgreSQL, in pairs.
 
 All sagas end, and the verifier finds no fault. `tests/celery_kills.py --rounds N` makes N rounds.
 """
@@ -17,9 +17,10 @@ SAGAS = 24
 STRIKES = 3
 """Sagas of a round: each start of a worker takes its time."""
 SERVED = ("worker", "owner", "store", "all")
-"""Kinds that are struck over PostgreSQL if Redis is the broker, and over SQLite if RabbitMQ is. The
-others are struck the other way round. So each kind meets each broker and each database, and each
-broker meets each database.
+"""Kinds that get faults over PostgreSQL if Redis is the broker, and over SQLite if RabbitMQ is.
+
+The others get faults the other way round. So each kind meets each broker and each database, and
+each broker meets each database.
 """
 
 
@@ -35,13 +36,13 @@ def struck(
 ) -> None:
     """Check that a round has no fault."""
     seed = number + [*KINDS, NODES].index(kind)
-    one = play(kind, seed, broker, SAGAS, server=server, quiet=strikes)
-    assert not one.problems, f"{kind}: {one.folder}: {one.problems[:5]}"
+    played = play(kind, seed, broker, SAGAS, server=server, quiet=strikes)
+    assert not played.problems, f"{kind}: {played.folder}: {played.problems[:5]}"
 
 
 @pytest.mark.parametrize("kind", [kind for kind in KINDS if kind not in SERVED])
 def test_over_redis(redis: Broker, kind: str) -> None:
-    """Workers, the broker and older workers are struck; messages are duplicated or delayed."""
+    """Workers, the broker and older workers get faults; messages are duplicated or delayed."""
     struck(kind, 1000, redis, None)
 
 

@@ -119,7 +119,7 @@ def test_the_example() -> None:
     assert lines[second + 1 : second + 4] == [
         "  committed flight",
         "  undone    car",
-        "  failed    tour: RuntimeError: the tour is full",
+        "  failed    tour: sagas.Fail: the tour is full",
     ]
     worker = lines[lines.index("what the worker did:") + 1 :]
     assert worker.count("  a car for seat 12A") == 2 and worker.count("  car 7 is canceled") == 1

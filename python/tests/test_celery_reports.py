@@ -27,7 +27,7 @@ import sagas.celery
 from sagas.cli import store_command
 from sagas.core import outcomes
 from sagas.core.outcomes import Outcome
-from sagas.core.external_work import Order
+from sagas.core.attempt.external_work import Order
 from sagas.runtime import retention
 from sagas.storage.factory import open_worker_session
 from sagas.storage.postgresql import worker_session
@@ -54,7 +54,7 @@ class Late:
         queue.send = self._lose  # type: ignore[method-assign]
         self.saga = sagas.Saga("late")
 
-        @self.saga.step(queue=queue, max_unknown=0, backoff=QUICK)
+        @self.saga.step(queue=queue, max_unknown=1, backoff=QUICK)
         def once(task: Task) -> str:
             return "never called here"
 
@@ -72,7 +72,7 @@ class Late:
             yield store
 
     @property
-    def words(self) -> dict[str, Any]:
+    def parameters(self) -> dict[str, Any]:
         """Return the report of its worker's transaction."""
         order = self.orders[0]
         return {"attempt": order.token, "lease": order.lease, "value": '"by the worker"'}
@@ -143,7 +143,7 @@ def test_its_transaction_is_open(inside: Late, commits: bool) -> None:
             await link.execute("CREATE TABLE public.book(key text)")
             await link.commit()
             await link.execute("INSERT INTO public.book VALUES ('k')")
-            assert await (await link.execute(worker_session.RECORD, inside.words)).fetchall()
+            assert await (await link.execute(worker_session.RECORD, inside.parameters)).fetchall()
             failing = asyncio.create_task(store.fail("k", "once", "I gave up"))
             await until(lambda: blocked(inside.location) or failing.done(), 30)
             await (link.commit() if commits else link.rollback())
@@ -167,7 +167,7 @@ def test_the_operator_was_first(inside: Late) -> None:
         async with inside.held() as store, link:
             await store.fail("k", "once", "I gave up")
             assert not (await store.wait("k", 60)).ok
-            recorded = await link.execute(worker_session.RECORD, inside.words)
+            recorded = await link.execute(worker_session.RECORD, inside.parameters)
             assert not await recorded.fetchall()
 
     run(main())
@@ -245,7 +245,7 @@ def test_a_message_that_comes_after_its_saga_was_deleted(late: Late) -> None:
 
     run(main())
     assert retention.prune(late.location, -3600.0).sagas == 1
-    with pytest.raises(sagas.WrongStore, match="saga 'k' .* late: the saga was deleted"):
+    with pytest.raises(sagas.WrongStore, match="saga 'k' .* late: the saga has been deleted"):
         open_worker_session(late.location).begin(late.orders[0])
 
 
@@ -314,9 +314,7 @@ def test_a_function_leaves_no_settings(broker: Broker, url: str) -> None:
 
 @pytest.mark.parametrize("in_loop", [False, True])
 def test_a_function_commits_nothing_by_itself(broker: Broker, url: str, in_loop: bool) -> None:
-    """As in a program: psycopg's calls and statements for it raise, and the attempt does not
-    succeed.
-    """
+    """As in a program: psycopg's calls and statements for it raise, and the attempt is parked."""
     seen: list[str] = []
 
     def once(task: Task) -> None:
@@ -332,13 +330,15 @@ def test_a_function_commits_nothing_by_itself(broker: Broker, url: str, in_loop:
         await task.connection.execute("SELECT 1")
         await task.connection.execute("COMMIT")
 
-    here = Here(broker, url, later if in_loop else once, transaction=True)
+    here = Here(broker, url, later if in_loop else once, transaction=True, tries=1)
 
     async def main() -> None:
         async with sagas.open(url, [here.saga]) as store:
-            end = await ended(store, here.saga)
-            assert end.states == {"once": "failed"} and len(seen) == 1
-            assert "the transaction was over before its step" in str(end)
+            await store.start(here.saga, "k")
+            await until(store.attention)
+            (held,) = await store.attention()
+            assert held.why == "program_error" and len(seen) == 1
+            assert "the transaction was over before its step" in (held.detail or "")
 
     run(main())
 

@@ -42,11 +42,13 @@ def test_there_are_enough() -> None:
 
 @pytest.mark.parametrize("name", [None, *(name for name in NAMES if OF[name].STRIKES == "run")])
 def test_in_a_run(broker: Broker, name: str | None) -> None:
-    """Sagas run without strikes; with a right worker there is no fault."""
-    one = play("none", 1, broker, SAGAS, quiet=0, most=60, wrong=name or "")
-    if one.folder is not None:
-        shutil.rmtree(one.folder)
-    assert (OF[name].FINDS in one.verdict.names) if name else not one.problems, one.problems[:5]
+    """Sagas run without faults; a right worker has no fault."""
+    played = play("none", 1, broker, SAGAS, quiet=0, time_limit=60, wrong=name or "")
+    if played.folder is not None:
+        shutil.rmtree(played.folder)
+    assert (
+        (OF[name].FINDS in played.verdict.names) if name else not played.problems
+    ), played.problems[:5]
 
 
 def messages(broker: Broker, shop: Shop) -> int:
@@ -61,7 +63,7 @@ def messages(broker: Broker, shop: Shop) -> int:
         unix_socket_path=str(broker.folder / "socket")
     ) as link, link.pipeline() as both:
         waiting, taken = both.llen(queue).hvals("unacked").execute()
-    return int(waiting) + sum(json.loads(one)[2] == queue for one in taken)
+    return int(waiting) + sum(json.loads(task)[2] == queue for task in taken)
 
 
 @contextlib.contextmanager

@@ -73,7 +73,10 @@ class Shop:
         charge = saga.step(name="charge", keep=9, undo=0, backoff=QUICK)(self.charging(gives))
         charge.compensation(self.refunding(refund_as))
         ok = saga.approval(name="ok", needs=[charge])(lambda task: None)
-        saga.step(name="ship", needs=[ok, charge], tries=2, backoff=QUICK)(self.shipping(ship_as))
+        ship = saga.step(
+            name="ship", needs=[ok, charge], tries=2, backoff=QUICK, no_effect=(TypeError,)
+        )
+        ship(self.shipping(ship_as))
 
     def charging(self, gives: Any) -> Callable[[Task], Any]:
         async def charge(task: Task) -> Any:
@@ -109,7 +112,8 @@ async def opened_at(location: str, shop: Shop, *keys: str) -> None:
             await store.start(shop.saga, key, {"amount": 314159})
         await until(
             lambda: sum(
-                any(one.waits == "approval" for one in store.active_attempts(key)) for key in keys
+                any(attempt.waits == "approval" for attempt in store.active_attempts(key))
+                for key in keys
             )
             == len(keys)
         )
@@ -117,7 +121,9 @@ async def opened_at(location: str, shop: Shop, *keys: str) -> None:
 
 async def parked(store: sagas.Store, key: str = "k") -> list[sagas.Attention]:
     """Return what needs an operator, once the saga waits for another program."""
-    await until(lambda: any(one.waits == "cannot_decode" for one in store.active_attempts(key)))
+    await until(
+        lambda: any(attempt.waits == "cannot_decode" for attempt in store.active_attempts(key))
+    )
     while not (entries := await store.attention()):  # its row is being written
         await asyncio.sleep(0.005)
     return entries
@@ -155,15 +161,15 @@ def test_a_type_that_changed_parks_the_attempt(
             warning = "this program cannot read 1 open saga"
             assert warning in caplog.text and "314159" not in caplog.text
             await store.complete("k", "ok")
-            (one,) = await parked(store)
-            assert (one.key, one.why, one.step, one.undo, one.detail) == (
+            (entry,) = await parked(store)
+            assert (entry.key, entry.why, entry.step, entry.undo, entry.detail) == (
                 "k",
                 "cannot_decode",
                 "ship",
                 False,
                 why,
             )
-            assert one.why is sagas.AttentionReason.CANNOT_DECODE
+            assert entry.why is sagas.AttentionReason.CANNOT_DECODE
             with pytest.raises(
                 TimeoutError, match="ship waits for a program that can read its stored values"
             ):
@@ -179,9 +185,9 @@ def test_a_type_that_changed_parks_the_attempt(
 
     with caplog.at_level(logging.WARNING):
         run(main())
-    assert [one.detail for one in events if one.name == "step_cannot_decode"] == [why]
+    assert [event.detail for event in events if event.name == "step_cannot_decode"] == [why]
     assert not [
-        one for one in events if one.name in ("step_retrying", "step_failed", "plan_adopted")
+        event for event in events if event.name in ("step_retrying", "step_failed", "plan_adopted")
     ]
 
 
@@ -195,9 +201,9 @@ def test_a_compensation_that_cannot_read_waits(location: str) -> None:
         await opened_at(location, Shop(Old), "k")
         async with sagas.open(location, [new.saga]) as store:
             await store.complete("k", "ok")
-            (one,) = await parked(store)
-            assert (one.step, one.undo, one.why) == ("charge", True, "cannot_decode")
-            assert "the compensation of step 'charge'" in str(one.detail)
+            (entry,) = await parked(store)
+            assert (entry.step, entry.undo, entry.why) == ("charge", True, "cannot_decode")
+            assert "the compensation of step 'charge'" in str(entry.detail)
             assert new.calls == ["ship 314159", "ship 314159"]
         async with sagas.open(location, [mended.saga]) as store:
             end = await store.wait("k")
@@ -242,7 +248,7 @@ def waits(hint: Any, calls: list[str]) -> sagas.Saga:
         return datetime.timedelta(seconds=0.01)
 
     pause.__annotations__["task"] = sagas.Task[hint]
-    first = saga.step(name="first")(lambda task: None)
+    first = saga.approval(name="first")(lambda task: None)
     saga.wait(name="pause", until=soon, needs=[first])(pause)
     return saga
 
@@ -250,11 +256,13 @@ def waits(hint: Any, calls: list[str]) -> sagas.Saga:
 def test_a_wait_that_is_over_is_over(location: str) -> None:
     """A wait whose function cannot read its input is not waited for again by the next program."""
     calls: list[str] = []
-    strict, mended = waits(Wants, calls), waits(Mended, calls)
+    old, strict, mended = (waits(hint, calls) for hint in (Old, Wants, Mended))
 
     async def main() -> None:
+        async with sagas.open(location, [old]) as store:
+            await store.start(old, "k", {"amount": 1})
         async with sagas.open(location, [strict]) as store:
-            await store.start(strict, "k", {"amount": 1})
+            await store.complete("k", "first")
             await parked(store)
         async with sagas.open(location, [mended]) as store:
             assert (await store.wait("k")).ok
@@ -286,12 +294,12 @@ def test_another_node_has_it(url: str) -> None:
 
 def test_two_nodes_that_cannot_read_a_value(url: str) -> None:
     """Each leaves it for the other, and one has it in the end: the readable sagas continue."""
-    one, two = Shop(Wants), Shop(Wants)
+    first, second = Shop(Wants), Shop(Wants)
 
     async def main() -> None:
         await opened_at(url, Shop(Old), "k", "fresh")
-        async with sagas.open(url, [one.saga], node="one") as here, sagas.open(
-            url, [two.saga], node="two"
+        async with sagas.open(url, [first.saga], node="one") as here, sagas.open(
+            url, [second.saga], node="two"
         ):
             await asyncio.wait_for(here.complete("k", "ok"), 60)
             entries: list[sagas.Attention] = []
@@ -314,7 +322,7 @@ def test_a_worker_of_celery_that_cannot_read_its_order() -> None:
     def reads(task: sagas.Task[Wants]) -> None:
         assert task.input
 
-    hint = decoders.hints(reads)[0]
+    hint = decoders.input_decoder(reads)
     about = TaskSnapshot(
         "shop", "k", "ship", False, 1, "log-0", '{"amount":314159}', {}, None, hint
     )
@@ -348,7 +356,7 @@ def test_a_worker_of_celery_that_reads_the_result_of_a_child() -> None:
 
 
 def steps(*names: str, calls: list[str], version: int = 1) -> sagas.Saga:
-    """Return a saga: an approval, and then steps in a row, each of which notes that it was called,
+    """Return a saga: an approval, and then steps in a row, and each notes that it was called,
     and by which version.
     """
     saga = sagas.Saga("steps", version=version)
@@ -366,7 +374,9 @@ async def left_open(location: str, saga: sagas.Saga) -> None:
     """Leave a saga that waits for an approval, as a program does."""
     async with sagas.open(location, [saga]) as store:
         await store.start(saga, "old")
-        await until(lambda: any(one.waits == "approval" for one in store.active_attempts("old")))
+        await until(
+            lambda: any(attempt.waits == "approval" for attempt in store.active_attempts("old"))
+        )
 
 
 def test_a_step_that_was_added(location: str) -> None:
@@ -386,7 +396,7 @@ def test_a_step_that_was_added(location: str) -> None:
             }
             run = await store.start(after, "new")
             await until(
-                lambda: any(one.waits == "approval" for one in store.active_attempts("new"))
+                lambda: any(attempt.waits == "approval" for attempt in store.active_attempts("new"))
             )
             await run.complete("ok")
             assert list((await run.wait(timeout=60)).states) == ["ok", "a", "b"]
@@ -424,16 +434,16 @@ def test_both_versions(location: str) -> None:
     one.
     """
     calls: list[str] = []
-    one, two = steps("a", calls=calls), steps("b", calls=calls, version=2)
+    first, second = steps("a", calls=calls), steps("b", calls=calls, version=2)
 
     async def main() -> None:
-        await left_open(location, one)
-        async with sagas.open(location, [one, two]) as store:
+        await left_open(location, first)
+        async with sagas.open(location, [first, second]) as store:
             await store.complete("old", "ok")
             assert (await store.wait("old", timeout=60)).ok
-            run = await store.start(two, "new")
+            run = await store.start(second, "new")
             await until(
-                lambda: any(one.waits == "approval" for one in store.active_attempts("new"))
+                lambda: any(attempt.waits == "approval" for attempt in store.active_attempts("new"))
             )
             await run.complete("ok")
             assert (await run.wait(timeout=60)).ok

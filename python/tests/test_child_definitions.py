@@ -30,7 +30,7 @@ class World:
         self.done = list[str]()
 
     def child(self, *steps: str, version: int = 1, **costs: int) -> sagas.Saga:
-        """Return a child with steps in this order, each of which needs the one before; `x-` has no
+        """Return a child with steps in this order, and each needs the one before; `x-` has no
         compensation.
         """
         saga, before = sagas.Saga("child", version=version), list[Any]()
@@ -69,7 +69,9 @@ class World:
         async with sagas.open(location, known) as store:
             await store.start(known[0], key)
             await until(
-                lambda: [one for one in store.active_attempts(key) if one.waits == "approval"]
+                lambda: [
+                    attempt for attempt in store.active_attempts(key) if attempt.waits == "approval"
+                ]
             )
 
     async def failed(self, store: sagas.Store, key: str = "t") -> dict[str, str]:
@@ -144,7 +146,7 @@ def test_the_program_changes_while_a_child_is_undone(location: str) -> None:
 
     def undo(task: Task) -> None:
         if task.step == "x" and broken[0]:
-            raise ValueError("not yet")
+            raise sagas.Retry("not yet")
         world.done.append(f"undo {task.step} {' '.join(task.results)}".strip())
 
     world.undo = undo  # type: ignore[method-assign]
@@ -158,7 +160,9 @@ def test_the_program_changes_while_a_child_is_undone(location: str) -> None:
             await store.fail("t", "sign", "no")
             await until(
                 lambda: [
-                    one for one in store.active_attempts("t/:stay:undo") if one.waits == "exhausted"
+                    attempt
+                    for attempt in store.active_attempts("t/:stay:undo")
+                    if attempt.waits == "exhausted"
                 ]
             )
         if not location.startswith("postgresql"):
@@ -184,13 +188,15 @@ def test_functions_that_undo_a_child(tmp_path: pathlib.Path) -> None:
     async def main() -> None:
         for number, options in enumerate(({"undo": sagas.NEVER}, {}, {"undo": 3})):
             world, at = World(), f"{location}.{number}"
-            own, now = world.parent(world.child("x"), **options), new.parent(
+            own_sagas, now = world.parent(world.child("x"), **options), new.parent(
                 new.child("x2"), **options
             )
             if not options:
-                for one in own, now:
-                    one[0].steps[0].compensation(lambda task: world.done.append(task.result["key"]))
-            await world.started(at, own)
+                for pair in own_sagas, now:
+                    pair[0].steps[0].compensation(
+                        lambda task: world.done.append(task.result["key"])
+                    )
+            await world.started(at, own_sagas)
             if number < 2:
                 async with sagas.open(at, now) as store:
                     states = await new.failed(store)
@@ -203,7 +209,7 @@ def test_functions_that_undo_a_child(tmp_path: pathlib.Path) -> None:
                     await sagas.open(at, now).__aenter__()
                 second = new.child("x2", version=2)
                 # the parent starts version 2 from now on
-                async with sagas.open(at, [*new.parent(second), own[1]]) as store:
+                async with sagas.open(at, [*new.parent(second), own_sagas[1]]) as store:
                     assert (await new.failed(store))["stay"] == "undone"
                 assert world.done == ["x", "undo x"]
 
@@ -254,7 +260,7 @@ def test_a_child_of_a_child(location: str, capsys: pytest.CaptureFixture[str]) -
                 await sagas.open(location, new).__aenter__()
         async with sagas.open(location, more) as store:
             assert await world.failed(store) == UNDONE
-            assert sum(one.undoable for one in await store.definitions()) == 0
+            assert sum(definition.undoable for definition in await store.definitions()) == 0
 
     run(main())
     assert world.done == ["t/:stay/:below", "undo t/:stay/:below"]
@@ -287,18 +293,18 @@ def test_a_node_that_cannot_undo_a_child_leaves_it(url: str) -> None:
 
     async def main() -> None:
         known, events = parent(new), list[sagas.Event]()
-        async with sagas.open(url, known, node="new", on_event=events.append) as one:
-            started = await one.start(known[0], "t")
-            (listed,) = await one.list()
-            async with sagas.open(url, parent(old), node="old") as two:
-                assert await two._starter.start_child(
+        async with sagas.open(url, known, node="new", on_event=events.append) as first:
+            started = await first.start(known[0], "t")
+            (listed,) = await first.list()
+            async with sagas.open(url, parent(old), node="old") as second:
+                assert await second._starter.start_child(
                     old, "t/:stay", None, StartOptions(parent=listed.id)
                 )
-                await two.wait("t/:stay", 60)
+                await second.wait("t/:stay", 60)
             gate.set()
-            await until(lambda: [a for a in one.active_attempts("t") if a.step == "end"])
-            await one.fail("t", "end", "no")
-            (need,) = await until(one.attention)
+            await until(lambda: [a for a in first.active_attempts("t") if a.step == "end"])
+            await first.fail("t", "end", "no")
+            (need,) = await until(first.attention)
             assert (need.why, need.step, need.undo) == ("cannot_decode", "stay", True)
             assert (
                 need.detail
@@ -307,7 +313,7 @@ def test_a_node_that_cannot_undo_a_child_leaves_it(url: str) -> None:
             )
             async with sagas.open(url, parent(old), node="old"):
                 assert (await started.wait(60)).states["stay"] == "undone"
-        assert [one.name for one in events if one.name == "step_cannot_decode"]
+        assert [event.name for event in events if event.name == "step_cannot_decode"]
 
     run(main())
     assert world.done == ["x", "undo x"]
@@ -334,27 +340,29 @@ def test_a_compensation_is_in_the_definition(location: str) -> None:
     shaped = sagas.Saga("shaped")
     shaped.step(name="x", for_each="items", undo=0)(lambda task: None)
     without = shaped.toml({"items": [1, 2]})
-    shaped.steps[0].compensation(lambda task: None)
+    shaped.steps[0].compensation(tries=1)(lambda task: None)
     text = shaped.toml({"items": [1, 2]})
     assert [step.is_compensated for step in definition_text.listed_steps(text)] == [
         True,
         True,
     ] and text.replace("# compensated\n", "") == without
     saga, plain = sagas.Saga("plain"), sagas.Saga("plain")
-    for one in saga, plain:
-        one.approval(
+    for each in saga, plain:
+        approved = each.approval(
             lambda task: None,
             name="a",
-            needs=[one.step(name="x", keep=9, undo=0)(lambda task: None)],
+            needs=[each.step(name="x", keep=9, undo=0)(lambda task: None)],
         )
-        one.step(name="end", needs=["a"])(lambda task: None)
-    saga.steps[0].compensation(lambda task: None)
+        each.step(name="end", needs=[approved])(lambda task: None)
+    saga.steps[0].compensation(tries=1)(lambda task: None)
 
     async def main() -> None:
         async with sagas.open(location, [saga]) as store:
             await store.start(saga, "t")
             await until(
-                lambda: [one for one in store.active_attempts("t") if one.waits == "approval"]
+                lambda: [
+                    attempt for attempt in store.active_attempts("t") if attempt.waits == "approval"
+                ]
             )
         if not location.startswith("postgresql"):
             with pytest.raises(
@@ -416,7 +424,7 @@ def test_definitions_that_undo_children() -> None:
 def test_a_child_without_compensations(caplog: pytest.LogCaptureFixture) -> None:
     """A number as `undo` is then probably a mistake."""
     child = World().child("x")
-    child.step(name="held", needs=["x"])(lambda task: None)
+    child.step(name="held", needs=child.steps)(lambda task: None)
     (warning,) = World().parent(child, undo=1, keep=9)[0].warnings()
     assert (
         "undo=1, but nothing of its child saga 'child' can be undone, because 'held' cannot be"
@@ -470,17 +478,17 @@ def test_workers_undo_a_child(
 
     async def main() -> None:
         async with contextlib.AsyncExitStack() as stack:
-            one = await stack.enter_async_context(opened(location, "one", codec=codec))
+            first = await stack.enter_async_context(opened(location, "one", codec=codec))
             other = (
                 await stack.enter_async_context(opened(location, "other", codec=codec))
                 if location.startswith("postgresql")
-                else one
+                else first
             )
-            started = await one.start(one.sagas[0], "t")
+            started = await first.start(first.sagas[0], "t")
             (task,) = await other.workers.claim([("leaf", "room", "run")], wait=60, lease=60)
             await other.workers.report(task.attempt_id, task.lease, result="R-7")
-            await until(lambda: [a for a in one.active_attempts("t") if a.waits == "approval"])
-            await one.fail("t", "sign", "no")
+            await until(lambda: [a for a in first.active_attempts("t") if a.waits == "approval"])
+            await first.fail("t", "sign", "no")
             assert not await other.workers.claim([("leaf-undo", "room", "run")], wait=0, lease=60)
             ready = await until(other.workers.queues)
             assert [(q.saga, q.step, q.undo, q.ready) for q in ready] == [("leaf", "room", True, 1)]
@@ -515,7 +523,7 @@ def test_workers_undo_a_child(
             assert leased.original_idempotency_key == task.task.idempotency_key
             assert leased.idempotency_key == task.task.idempotency_key.replace("-run", "-undo")
             # as a `Worker` gets it
-            received = worker.task_of(json_views.task(undo, one.now()), Context())
+            received = worker.task_of(json_views.task(undo, first._now()), Context())
             assert worker.step_name(received) == "leaf/room/undo" and (
                 received.result,
                 received.key,
@@ -529,7 +537,7 @@ def test_workers_undo_a_child(
             )
             await other.workers.report(undo.attempt_id, undo.lease, result=None)
             assert (await started.wait(60)).states == UNDONE
-            assert (await one.wait("t/:stay:undo", 60)).ok
+            assert (await first.wait("t/:stay:undo", 60)).ok
 
     run(main())
 
@@ -580,11 +588,17 @@ def test_children_of_an_earlier_release(tmp_path: pathlib.Path, is_aborted: bool
             for key in ("u/:stay", "t/:trip/:stay"):
                 await until(lambda: store.active_attempts(key))
                 await until(
-                    lambda: [one for one in store.active_attempts(key) if one.waits == "approval"]
+                    lambda: [
+                        attempt
+                        for attempt in store.active_attempts(key)
+                        if attempt.waits == "approval"
+                    ]
                 )
             await store.complete("u/:stay", sign.name)
             await until(
-                lambda: [one for one in store.active_attempts("u") if one.waits == "approval"]
+                lambda: [
+                    attempt for attempt in store.active_attempts("u") if attempt.waits == "approval"
+                ]
             )
             await store.fail("u", end.name, "no")
             await until(lambda: store.active_attempts("u/:stay:undo"))
@@ -600,7 +614,9 @@ def test_children_of_an_earlier_release(tmp_path: pathlib.Path, is_aborted: bool
                 await store.complete("t/trip/stay", sign.name)
                 await until(
                     lambda: [
-                        one for one in store.active_attempts("t/trip") if one.waits == "approval"
+                        attempt
+                        for attempt in store.active_attempts("t/trip")
+                        if attempt.waits == "approval"
                     ]
                 )
                 await store.complete("t/trip", end.name)
@@ -609,7 +625,7 @@ def test_children_of_an_earlier_release(tmp_path: pathlib.Path, is_aborted: bool
                 await store.workers.report(undo.attempt_id, undo.lease)
             assert (await store.wait("t", 60)).ok is not is_aborted
             assert (await store.wait("u", 60)).states["stay"] == "undone"
-            keys = {one.key for one in await store.list()}
+            keys = {summary.key for summary in await store.list()}
             assert (
                 keys == {"t", "t/trip", "t/trip/stay", "u", "u/stay", "u/stay:undo"}
                 and calls == ["room"] * 2
@@ -633,7 +649,7 @@ def test_children_of_items(location: str) -> None:
 
     @top.step(needs=[trips])
     def end(task: Task) -> None:
-        assert [one["results"] for one in task.result_of(trips[group.steps[0]])] == [
+        assert [step["results"] for step in task.result_of(trips[group.steps[0]])] == [
             {"x": 5},
             {"x": 7},
         ]
@@ -679,7 +695,7 @@ def test_the_second_child_is_undone(location: str) -> None:
     def known(*steps: str) -> list[sagas.Saga]:
         child, do = world.child(*steps), world.do
 
-        @child.step(name="must", needs=[steps[-1]], skip=sagas.NEVER, undo=0)
+        @child.step(name="must", needs=[child.steps[-1]], skip=sagas.NEVER, undo=0)
         def must(task: Task) -> None:
             if task.key == "t/:stay":
                 raise sagas.Fail("not yet")
@@ -699,11 +715,17 @@ def test_the_second_child_is_undone(location: str) -> None:
             ) == 1
             await store.resolve("t/:stay", "seen to")
             await until(
-                lambda: [one for one in store.active_attempts("t") if one.waits == "exhausted"]
+                lambda: [
+                    attempt
+                    for attempt in store.active_attempts("t")
+                    if attempt.waits == "exhausted"
+                ]
             )
             await store.retry("t", "stay")
             await until(
-                lambda: [one for one in store.active_attempts("t") if one.waits == "approval"]
+                lambda: [
+                    attempt for attempt in store.active_attempts("t") if attempt.waits == "approval"
+                ]
             )
         if not location.startswith("postgresql"):
             with pytest.raises(sagas.MissingStep, match="step 'x' has no compensation"):
@@ -712,4 +734,4 @@ def test_the_second_child_is_undone(location: str) -> None:
             assert await world.failed(store) == UNDONE
 
     run(main())
-    assert [one for one in world.done if one.startswith("undo")] == ["undo x of t/:stay/2"]
+    assert [call for call in world.done if call.startswith("undo")] == ["undo x of t/:stay/2"]

@@ -142,7 +142,7 @@ def test_a_completed_child_is_undone(location: str, capsys: pytest.CaptureFixtur
             assert len(held) == count
         views = [store.saga(key) for key in ("t", "t/:stay")]
     answers = [json_views.saga(view) for view in views]
-    assert [(one["step"], one["definition"]) for one in answers[0]["children"]] == [
+    assert [(child["step"], child["definition"]) for child in answers[0]["children"]] == [
         ("stay", "hotel"),
         ("stay:undo", "hotel-undo"),
     ]
@@ -152,7 +152,7 @@ def test_a_completed_child_is_undone(location: str, capsys: pytest.CaptureFixtur
         and answers[1]["children"] == []
     )
     seen = views_module.seen_by(views[0], Scope(frozenset({"hotel"})))
-    assert [one.key for one in seen.children] == ["t/:stay", "t/:stay:undo"]
+    assert [child.key for child in seen.children] == ["t/:stay", "t/:stay:undo"]
     assert (
         views_module.seen_by(views[0], NOTHING).children == []
         and views_module.seen_by(views[1], NOTHING).parent is None
@@ -199,7 +199,7 @@ class Slow:
 
         self.top.child(self.child, name="stay", input=lambda task: "x", **costs)
 
-        self.top.step(external=True, name="beside")
+        self.top.step(external=True, name="parallel", tries=1)
         self.all = [self.top, self.child, self.sub]
 
     async def started(self, store: sagas.Store, **options: Any) -> sagas.Run:
@@ -208,13 +208,17 @@ class Slow:
 
         async def asks() -> bool:
             return bool(
-                [one for one in store.active_attempts("t/:stay") if one.waits == "approval"]
+                [
+                    attempt
+                    for attempt in store.active_attempts("t/:stay")
+                    if attempt.waits == "approval"
+                ]
             )
 
         await until(asks)
         assert await store.waits_for("t") == [
             "stay waits for the end of its child saga",
-            "beside waits for an external worker",
+            "parallel waits for an external worker",
         ]
         return run
 
@@ -232,12 +236,12 @@ def test_an_abort_goes_down(location: str, capsys: pytest.CaptureFixture[str]) -
             }
             assert "the end of its child saga" in waits["t"] and "an approval" in waits["t/:stay"]
             below = await store.list(labels={"customer": "7"})
-            assert {one.key for one in below} == {"t", "t/:stay", "t/:stay/:below"}
-            assert len({one.deadline for one in below}) == 1
+            assert {child.key for child in below} == {"t", "t/:stay", "t/:stay/:below"}
+            assert len({child.deadline for child in below}) == 1
             await store.abort("t")
-            await store.fail("t", "beside", "not needed")
+            await store.fail("t", "parallel", "not needed")
             end = await top.wait(60)
-            assert end.aborted and end.states == {"stay": "failed", "beside": "failed"}
+            assert end.aborted and end.states == {"stay": "failed", "parallel": "failed"}
             child = await store.wait("t/:stay", 60)
             assert child.aborted and child.states == {"below": "undone", "sign": "waiting"}
 
@@ -253,11 +257,11 @@ def test_a_plan_that_drops_the_child(location: str, stays: bool) -> None:
     async def main() -> None:
         async with sagas.open(location, world.all) as store:
             top = await world.started(store)
-            await store.fail("t", "beside", "sold out")
+            await store.fail("t", "parallel", "sold out")
             if stays:
                 await store.complete("t/:stay", "sign")
             end = await top.wait(60)
-            assert end.states == {"stay": "committed" if stays else "failed", "beside": "failed"}
+            assert end.states == {"stay": "committed" if stays else "failed", "parallel": "failed"}
             assert (await store.wait("t/:stay", 60)).aborted != stays
 
     run(main())
@@ -286,7 +290,11 @@ def test_another_child_after_a_failed_one(location: str) -> None:
                 ).phase == "stuck"
                 await store.resolve(key, "seen to", by="ann")
                 await until(
-                    lambda: [one for one in store.active_attempts("t") if one.waits == "exhausted"]
+                    lambda: [
+                        attempt
+                        for attempt in store.active_attempts("t")
+                        if attempt.waits == "exhausted"
+                    ]
                 )
                 await store.retry("t", "failing")
             end = await started.wait(60)
@@ -335,6 +343,8 @@ def test_keys_and_inputs_that_cannot_be(location: str) -> None:
 
     @world.trip.child(world.hotel, keep=0)
     def bad(task: Task) -> Any:
+        if task.input["days"] == 4:
+            raise sagas.Fail("no nights")
         return {2: object(), 3: {"nights": 1}}[task.input["days"]]
 
     async def main() -> None:
@@ -355,7 +365,7 @@ def test_keys_and_inputs_that_cannot_be(location: str) -> None:
         assert "key 't/:stay' belongs to saga" in ends[0].errors["stay"]
         assert [end.errors["bad"].partition(":")[0] for end in ends[1:]] == [
             "NotSerializable",
-            "KeyError",
+            "sagas.Fail",
         ]
 
     run(main())
@@ -378,8 +388,8 @@ def test_in_a_simulation() -> None:
     ]
     room = undone.children["test/:stay"].calls[0].attempt_id
     assert undone.children["test/:stay:undo"].calls[-1].attempt_id != room.replace("run", "undo")
-    failed = sagas.testing.run(world.trip, {"days": 4}, fail={"stay/breakfast": 1})
-    assert failed.states["stay"] == "failed" and "the test says so" in failed.errors["stay"]
+    failed = sagas.testing.run(world.trip, {"days": 4}, fail={"stay/breakfast": sagas.Fail})
+    assert failed.states["stay"] == "failed" and "breakfast: sagas.Fail" in failed.errors["stay"]
     (room_step, breakfast) = world.hotel.steps
     left = sagas.testing.run(
         world.trip,
@@ -396,12 +406,12 @@ def test_in_a_simulation() -> None:
     with pytest.raises(KeyError, match="saga 'hotel' has no step 'rom'"):
         sagas.testing.run(world.trip, {"days": 4}, fail={"stay/rom": 1})
     slow = Slow()
-    trial = sagas.testing.run(slow.top, key="t", answers={"stay/sign": "by Ann", "beside": None})
+    trial = sagas.testing.run(slow.top, key="t", answers={"stay/sign": "by Ann", "parallel": None})
     assert trial.ok and trial.results["stay"]["results"]["sign"] == "by Ann"
     trial = sagas.testing.run(
-        slow.top, key="t", answers={"stay/sign": "by Ann"}, fail={"beside": sagas.Fail("no")}
+        slow.top, key="t", answers={"stay/sign": "by Ann"}, fail={"parallel": sagas.Fail("no")}
     )
-    assert trial.states == {"stay": "undone", "beside": "failed"} and slow.done == [
+    assert trial.states == {"stay": "undone", "parallel": "failed"} and slow.done == [
         "undeep t/:stay/:below"
     ]
 
@@ -469,7 +479,11 @@ def test_kills_at_any_event(location: str, tmp_path: pathlib.Path, way: str) -> 
         run = await store.start(slow.top, "t")
         asks = asyncio.ensure_future(
             until(
-                lambda: [one for one in store.active_attempts("t/:stay") if one.waits == "approval"]
+                lambda: [
+                    attempt
+                    for attempt in store.active_attempts("t/:stay")
+                    if attempt.waits == "approval"
+                ]
             )
         )
         await asyncio.wait(
@@ -480,7 +494,7 @@ def test_kills_at_any_event(location: str, tmp_path: pathlib.Path, way: str) -> 
         if not ending.done():
             await store.abort("t")
             try:
-                await store.fail("t", "beside", "no")
+                await store.fail("t", "parallel", "no")
             except sagas.StepNotWaiting:
                 pass
         assert (await ending).aborted
@@ -490,7 +504,7 @@ def test_kills_at_any_event(location: str, tmp_path: pathlib.Path, way: str) -> 
     async def look() -> None:
         async with open_store(lambda event: None) as store:
             assert await store.count(phase="open") == 0
-            keys = [one.key for one in await store.list()]
+            keys = [summary.key for summary in await store.list()]
             below = (
                 ["t/:stay", "t/:stay:undo"]
                 if way == "undone"
@@ -516,23 +530,23 @@ def test_a_child_of_another_node(url: str) -> None:
     top.child(child, needs=[first], input=lambda task: "another input")
 
     async def main() -> None:
-        async with sagas.open(url, [top, child], node="one") as one, sagas.open(
+        async with sagas.open(url, [top, child], node="one") as first, sagas.open(
             url, [top, child], node="two"
-        ) as two:
-            started = await one.start(top, "t")
-            (listed,) = await one.list()
-            assert await two._starter.start_child(
+        ) as second:
+            started = await first.start(top, "t")
+            (listed,) = await first.list()
+            assert await second._starter.start_child(
                 child, "t/:child", "x", StartOptions(parent=listed.id)
             )
             gate.set()
-            await until(lambda: [a for a in one.active_attempts("t") if a.waits == "child"])
+            await until(lambda: [a for a in first.active_attempts("t") if a.waits == "child"])
             await until(
-                lambda: [a for a in two.active_attempts("t/:child") if a.waits == "approval"]
+                lambda: [a for a in second.active_attempts("t/:child") if a.waits == "approval"]
             )
-            await one.abort("t")
+            await first.abort("t")
             end = await started.wait(60)
             assert end.aborted and end.states["child"] == "failed"
-            assert (await one.wait("t/:child", 60)).aborted and await one.count() == 2
+            assert (await first.wait("t/:child", 60)).aborted and await first.count() == 2
 
     run(main())
 
@@ -561,7 +575,7 @@ def test_children_stay_with_their_parents(location: str, monkeypatch: pytest.Mon
             await closed(store, 2)
         assert retention.prune(location, -3600.0).sagas == 0
         async with sagas.open(location, world.all) as store:
-            await store.complete("t", "beside")
+            await store.complete("t", "parallel")
             assert (await store.wait("t", 60)).ok
             await closed(store, 3)
         assert retention.prune(location, -3600.0).sagas == 3

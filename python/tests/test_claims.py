@@ -53,11 +53,11 @@ class Table:
         self.then: Callable[[], object] = lambda: None
         self.grouped: Batcher[str, str] = Batcher(self.ask, 4, self.drop, self.group)
 
-    def drop(self, what: str, answer: str) -> None:
-        self.dropped.append((what, answer))
+    def drop(self, request: str, answer: str) -> None:
+        self.dropped.append((request, answer))
 
-    def group(self, what: str) -> str | None:
-        return what[0] if what[0].isupper() else None
+    def group(self, request: str) -> str | None:
+        return request[0] if request[0].isupper() else None
 
     async def ask(self, some: Sequence[str]) -> list[str]:
         self.requests.append([*some])
@@ -65,7 +65,7 @@ class Table:
         self.then()
         if self.fault:
             raise self.fault
-        return [what * 2 for what in some]
+        return [request * 2 for request in some]
 
 
 def test_a_batch_has_one_group_at_most() -> None:
@@ -79,8 +79,8 @@ def test_a_batch_has_one_group_at_most() -> None:
         first = asyncio.create_task(table.grouped.ask("A0"))
         await asyncio.sleep(0.01)
         rest = [
-            asyncio.create_task(table.grouped.ask(what))
-            for what in ("A1", "B1", "x", "A2", "B2", "y", "z")
+            asyncio.create_task(table.grouped.ask(request))
+            for request in ("A1", "B1", "x", "A2", "B2", "y", "z")
         ]
         await asyncio.sleep(0.01)
         assert table.requests == [["A0"]]
@@ -114,14 +114,14 @@ def test_callers_that_are_cancelled() -> None:
 
     async def main() -> None:
         table = Table()
-        some = [asyncio.create_task(table.grouped.ask(what)) for what in ("x", "y", "z")]
+        some = [asyncio.create_task(table.grouped.ask(request)) for request in ("x", "y", "z")]
         await asyncio.sleep(0.01)
         some[0].cancel()
         table.then = lambda: asyncio.get_running_loop().call_soon(some[1].cancel)
         table.may.set()
-        for one in some[:2]:
+        for item in some[:2]:
             with pytest.raises(asyncio.CancelledError):
-                await one
+                await item
         assert await some[2] == "zz"
         assert table.dropped == [("x", "xx"), ("y", "yy")]
 
@@ -133,7 +133,9 @@ def test_a_cancelled_request_is_not_asked() -> None:
 
     async def main() -> None:
         table = Table()
-        some = [asyncio.create_task(table.grouped.ask(what)) for what in ("A0", "B1", "B2", "C3")]
+        some = [
+            asyncio.create_task(table.grouped.ask(request)) for request in ("A0", "B1", "B2", "C3")
+        ]
         await asyncio.sleep(0.01)
         some[1].cancel()
         some[3].cancel()
@@ -146,7 +148,7 @@ def test_a_cancelled_request_is_not_asked() -> None:
     run(main())
 
 
-def test_a_claim_that_is_cancelled_is_given_back(location: str) -> None:
+def test_a_claim_that_is_cancelled_is_returned(location: str) -> None:
     """Wherever it was, the task can be claimed at once, despite its long lease."""
     saga = far()
 
@@ -209,7 +211,7 @@ def test_an_invalid_claim_fails_no_other(location: str) -> None:
                 await store.start(saga, f"k{number}")
             task, torn = await store.workers.claim(WORD, limit=2, wait=30, lease=600)
             unknown = {"unknown": "no such file: /in/\udcff.pdf"}
-            one, none, other, kept, reported = await asyncio.gather(
+            claimed, none, other, kept, reported = await asyncio.gather(
                 store.workers.claim(WORD, wait=30, lease=600),
                 store.workers.claim(WORD, limit=-1, lease=600),
                 store.workers.claim(WORD, wait=30, lease=600, worker="w\ud800"),
@@ -217,14 +219,14 @@ def test_an_invalid_claim_fails_no_other(location: str) -> None:
                 store.workers.report(torn.attempt_id, torn.lease, **unknown),
             )
             assert kept and reported and not none
-            assert len({task.attempt_id, one[0].attempt_id, other[0].attempt_id}) == 3
+            assert len({task.attempt_id, claimed[0].attempt_id, other[0].attempt_id}) == 3
             assert not await store.workers.report(torn.attempt_id, torn.lease, **unknown)
 
     run(main())
 
 
 @pytest.mark.parametrize("fault", [StoreUnavailable("away"), ValueError("odd"), None])
-def test_tasks_that_cannot_be_read_are_given_back(
+def test_tasks_that_cannot_be_read_are_returned(
     location: str, fault: Exception | None, monkeypatch: pytest.MonkeyPatch
 ) -> None:
     """This holds also if their claim is cancelled in the meantime.
@@ -289,18 +291,20 @@ def test_a_reported_task_is_not_claimed(location: str) -> None:
     run(main())
 
 
-ONE = 'format = 2\nname = "one"\n[[step]]\nname = "a"\nundo = "never"\n'
+ONE_STEP = 'format = 2\nname = "one"\n[[step]]\nname = "a"\nundo = "never"\n'
 
 
 def test_a_client_that_goes_with_its_report_keeps_no_lease(
     tmp_path: pathlib.Path, location: str
 ) -> None:
     """A task that was claimed for it can be claimed at once."""
-    with served(tmp_path, {"one.toml": ONE}, store=location) as service, service.client() as client:
+    with served(
+        tmp_path, {"one.toml": ONE_STEP}, store=location
+    ) as service, service.client() as client:
         for number in range(40):
             start(client, "one", f"k{number}")
         host, port = service.address.split(":")
-        for task in take(client, "one/a", most=20):
+        for task in take(client, "one/a", limit=20):
             body = json.dumps(
                 {"lease": task["lease"], "next": {"steps": ["one/a"], "lease": 600}}
             ).encode()
@@ -311,7 +315,7 @@ def test_a_client_that_goes_with_its_report_keeps_no_lease(
             with socket.create_connection((host, int(port))) as link:
                 link.sendall(head.encode() + body)
         claimed: list[object] = []
-        while some := take(client, "one/a", most=100, wait=2):
+        while some := take(client, "one/a", limit=100, wait=2):
             claimed += some
         assert len(claimed) == 20
 
@@ -321,10 +325,10 @@ class Claims:
 
     def __init__(self, *outcomes: list[str] | BaseException) -> None:
         self.outcomes, self.given_back, self.is_stopping = [*outcomes], list[str](), False
-        self.store = types.SimpleNamespace(workers=self, now=lambda: 0.0)
+        self.store = types.SimpleNamespace(workers=self, _now=lambda: 0.0)
         self.claims = WaitingClaims()
         self.tokens, self.stopping = None, asyncio.get_running_loop().create_future()
-        self.places = ConcurrencyLimits(ConcurrencySettings())
+        self.concurrency = ConcurrencyLimits(ConcurrencySettings())
         self.gone: asyncio.Future[None] = asyncio.get_running_loop().create_future()
 
     def saw(self, *_: object) -> None:
@@ -361,15 +365,15 @@ def test_a_claim_without_a_response_is_released(
     monkeypatch: pytest.MonkeyPatch,
 ) -> None:
     """It is released, whether the report or the later claim raises."""
-    monkeypatch.setattr(tasks_module.json_views, "task", lambda one, now: one)
+    monkeypatch.setattr(tasks_module.json_views, "task", lambda leased, now: leased)
 
     async def main() -> None:
         service = Claims(["t1"], second)
         followed = asyncio.get_running_loop().create_future()
         scope = {GONE: service.gone, FOLLOWED: followed, SERVICE: service}
         request: Any = types.SimpleNamespace(scope=scope)
-        who: Any = types.SimpleNamespace(name="w", digest="w")
-        call: Any = types.SimpleNamespace(service=service, principal=who, request=request)
+        principal: Any = types.SimpleNamespace(name="w", digest="w")
+        call: Any = types.SimpleNamespace(service=service, principal=principal, request=request)
         body = {"steps": ["far/a"], "limit": 3, "wait": 0.0, "lease": 9.0, "worker": ""}
         reply: Any = None
         with contextlib.suppress(Problem, ValueError, asyncio.CancelledError):

@@ -141,7 +141,7 @@ def test_nothing_of_a_value_is_stored(location: str, capsys: pytest.CaptureFixtu
                 await store.complete("well", "check", {"card": "another"})
             hour = datetime.timedelta(hours=1)
             await store.schedule("n", kind, {"number": SECRET}, every=hour)
-            assert [one.input for one in await store.schedules()] == [{"number": SECRET}]
+            assert [schedule.input for schedule in await store.schedules()] == [{"number": SECRET}]
         async with sagas.open(location, [kind], codec=Encryption(a=OLD, b=NEW)) as store:
             assert (await store.wait("well")).results["send"] == [SECRET]
 
@@ -172,11 +172,11 @@ def test_a_value_that_looks_encoded_is_data(
     """This holds for each way in; also once the store has another codec, which could read it."""
     made = sagas.Saga("made")
     a = made.step(lambda task: task.input, name="a", undo=0)
-    made.step(external=True, name="b", needs=[a], undo=0)
-    early = made.approval(lambda task: None, name="early", needs=["b"])
+    b = made.step(external=True, name="b", needs=[a], undo=0)
+    early = made.approval(lambda task: None, name="early", needs=[b])
     late = made.approval(lambda task: None, name="late", needs=[early])
     made.step(
-        lambda task: [task.result_of(one) for one in "a b early late".split()],
+        lambda task: [task.result_of(step) for step in "a b early late".split()],
         needs=[late],
         name="all",
     )
@@ -190,7 +190,7 @@ def test_a_value_that_looks_encoded_is_data(
                 assert (await store.start(made, key := f"k{number}", value)).new
                 assert not (await store.start(made, key, value)).new
                 await store.schedule("n", made, value, every=hour)
-                assert [one.input for one in await store.schedules()] == [value]
+                assert [schedule.input for schedule in await store.schedules()] == [value]
                 await store.complete(key, "early", value)
                 (task,) = await until(
                     lambda: store.workers.claim([("made", "b", "run")], holder="w")
@@ -210,7 +210,9 @@ def test_a_value_that_looks_encoded_is_data(
                 await store.complete(f"k{number}", "late", value)
                 end = await store.wait(f"k{number}")
                 assert end.results["all"] == [value] * 4 and not await store.attention()
-                values = [one.value for one in await store.log(end.key) if one.event == "commit"]
+                values = [
+                    event.value for event in await store.log(end.key) if event.event == "commit"
+                ]
                 assert values[:4] == [value] * 4
 
     run(main())
@@ -273,8 +275,8 @@ def test_a_forgotten_codec(location: str, capsys: pytest.CaptureFixture[str]) ->
         async with sagas.open(location, [made]) as store:
             assert (await store.wait("gone")).phase == "recovered"
             await store.complete("k", "ok")
-            (one,) = await until(store.attention)
-            assert one.why is sagas.AttentionReason.CANNOT_DECODE and one.step == "mail"
+            (entry,) = await until(store.attention)
+            assert entry.why is sagas.AttentionReason.CANNOT_DECODE and entry.step == "mail"
             with pytest.raises(sagas.CannotDecode, match="no codec"):
                 await store.start(made, "k", SECRET)
         assert calls == []
@@ -321,7 +323,7 @@ def test_nodes_and_clients_agree(url: str, caplog: pytest.LogCaptureFixture) -> 
             with contextlib.closing(admin.connect(url, "rw")) as link:
                 link.changed(codec_note.NOTE)
             await until(lambda: "This node does nothing more" in caplog.text)
-            await until(lambda: not store.holds())
+            await until(lambda: not store._holds())
 
     run(main())
     assert holds_secret(url) == []
@@ -339,8 +341,8 @@ def test_a_missing_encryption_key(location: str, caplog: pytest.LogCaptureFixtur
             with pytest.raises(sagas.CannotDecode, match="the codec could not decode it: KeyError"):
                 await store.start(kind, "k", Card(SECRET))
             await store.complete("k", "check", {"card": SECRET})
-            (one,) = await until(store.attention)
-            assert one.why is sagas.AttentionReason.CANNOT_DECODE and one.step == "send"
+            (entry,) = await until(store.attention)
+            assert entry.why is sagas.AttentionReason.CANNOT_DECODE and entry.step == "send"
         async with sagas.open(location, [kind], codec=Encryption(a=OLD, b=NEW)) as store:
             assert (await store.wait("k", 60)).ok
 
@@ -500,7 +502,7 @@ def test_a_result_of_a_transaction_is_encoded_once(url: str, tmp_path: pathlib.P
 
     @kind.step(transaction=True)
     async def book(task: Task) -> None:
-        raise AssertionError("it is called again")
+        raise sagas.Fail("it is called again")
 
     async def main() -> None:
         async with sagas.open(url, [kind], node="killed", codec=Encryption(a=OLD)) as store:
@@ -540,10 +542,10 @@ def test_a_killed_programs_values_are_read(location: str, tmp_path: pathlib.Path
         async with sagas.open(location, [shop()], codec=Encryption(a=OLD), lease=2.0) as store:
             listed = await store.list(limit=200)
             assert len(listed) >= 30
-            for one in listed:
-                await store.complete(one.key, "check", {"card": SECRET})
-            for one in listed:
-                assert (await store.wait(one.key)).results["send"] == [SECRET]
+            for summary in listed:
+                await store.complete(summary.key, "check", {"card": SECRET})
+            for summary in listed:
+                assert (await store.wait(summary.key)).results["send"] == [SECRET]
 
     run(main())
     assert holds_secret(location) == []

@@ -6,6 +6,7 @@ import asyncio
 import contextlib
 import datetime
 import functools
+import getpass
 import io
 import json
 import logging
@@ -78,8 +79,8 @@ def shop() -> sagas.Saga:
     )
     def charge(task: Task) -> str:
         if task.input == "fails":
-            raise ValueError("the card is refused")
-        if task.input == "nobody knows":
+            raise sagas.Retry("the card is refused")
+        if task.input == "outcome unknown":
             raise ConnectionError("no answer")
         return "charged"
 
@@ -121,8 +122,8 @@ def held(path: str) -> list[tuple[Any, ...]]:
 async def filled(path: str, store: sagas.Store, sagas_: list[sagas.Saga]) -> None:
     """Start one saga for each result, and wait until each has it."""
     shop, signed = sagas_
-    for key, given in (("good", None), ("bad", "fails"), ("odd", "nobody knows")):
-        await store.start(shop, key=key, input=given)
+    for key, value in (("good", None), ("bad", "fails"), ("odd", "outcome unknown")):
+        await store.start(shop, key=key, input=value)
     for key in ("letter-1", "letter-2"):
         await store.start(signed, key=key)
     for key in ("good", "bad"):
@@ -158,10 +159,10 @@ def shell(path: str, capsys: pytest.CaptureFixture[str]) -> Shell:
 def test_list(shell: Shell) -> None:
     """It lists sagas in order of their starts, by phase, by name, and page by page."""
     text = shell("list")
-    assert text.splitlines()[0].split() == ["KEY", "SAGA", "PHASE", "STARTED", "ENDED"]
-    assert [line.split()[:3] for line in text.splitlines()[1:3]] == [
-        ["good", "shop", "completed"],
-        ["bad", "shop", "stuck"],
+    assert text.splitlines()[0].split() == ["KEY", "SAGA", "VERSION", "PHASE", "STARTED", "ENDED"]
+    assert [line.split()[:4] for line in text.splitlines()[1:3]] == [
+        ["good", "shop", "1", "completed"],
+        ["bad", "shop", "1", "stuck"],
     ]
     assert [row["key"] for row in shell.json("list")] == [
         "good",
@@ -225,7 +226,7 @@ def test_log_and_plan(shell: Shell) -> None:
     with its certificate.
     """
     events = shell.json("log", "bad")
-    assert [(one["event"], one["step"]) for one in events[:3]] == [
+    assert [(event["event"], event["step"]) for event in events[:3]] == [
         ("open", None),
         ("start_run", "reserve"),
         ("commit", "reserve"),
@@ -255,19 +256,20 @@ def test_counts_stuck_and_waiting(shell: Shell) -> None:
         "undo_failed": 0,
         "attention_required": 3,
         "unused_report": 0,
+        "on_end": 0,
         "damaged": 0,
     }
     assert "3 wait for an operator" in shell("stats")
-    assert [(one["key"], one["blocking_steps"]) for one in shell.json("stuck")] == [
+    assert [(row["key"], row["blocking_steps"]) for row in shell.json("stuck")] == [
         ("bad", ["charge"])
     ]
-    assert {(one["key"], one["step"], one["why"]) for one in shell.json("pending")} == {
+    assert {(row["key"], row["step"], row["why"]) for row in shell.json("pending")} == {
         ("odd", "charge", "unknown"),
         ("letter-1", "sign", "approval"),
         ("letter-2", "sign", "approval"),
     }
-    assert "an operator: unknown outcome (2 times)" in shell("pending")
-    assert [one["count"] for one in shell.json("pending") if one["key"] == "odd"] == [2]
+    assert "an operator: unknown outcome (1 time)" in shell("pending")
+    assert [row["count"] for row in shell.json("pending") if row["key"] == "odd"] == [1]
 
 
 def test_audit_and_export(
@@ -399,9 +401,9 @@ def test_texts_that_the_output_has_no_characters_for(
     def give(task: Task) -> str:
         return odd
 
-    @give.compensation
+    @give.compensation(tries=1)
     def take(task: Task) -> None:
-        raise ValueError(odd)
+        raise sagas.Retry(odd)
 
     @saga.step(needs=[give], skip=sagas.NEVER)
     def fail(task: Task) -> None:
@@ -459,7 +461,7 @@ def test_no_text_adds_a_line_or_moves_a_cursor(
 
     @far.step(tries=1, on_exhausted="ask")
     def pay(task: Task) -> None:
-        raise ValueError(odd)
+        raise sagas.Retry(odd)
 
     must = simple(lambda task: odd if task.input is None else failed(), skip=sagas.NEVER)
 
@@ -552,14 +554,16 @@ def test_a_compensation_that_failed_is_seen(
             assert lines in str(end)
             assert re.search(r"take  undo failed +5 +never  stands", str(await store.plan("bad")))
             await (await store.start(row, "undone")).wait()
-            listed = [(one.key, one.phase, one.undo_failed) for one in await store.list()]
+            listed = [
+                (summary.key, summary.phase, summary.undo_failed) for summary in await store.list()
+            ]
             assert listed == [("bad", "recovered", True), ("undone", "recovered", False)]
-            assert [one.key for one in await store.list(phase="undo_failed")] == ["bad"]
+            assert [summary.key for summary in await store.list(phase="undo_failed")] == ["bad"]
 
     run(main())
     shell = Shell(location, capsys)
     assert [
-        (one["key"], one["undo_failed"]) for one in shell.json("list", "--phase", "undo_failed")
+        (row["key"], row["undo_failed"]) for row in shell.json("list", "--phase", "undo_failed")
     ] == [("bad", True)]
     assert "recovered, undo failed" in shell("list")
     counts = shell.json("stats")
@@ -595,9 +599,18 @@ def test_the_log_names_operators_and_their_reasons(
                 await store.start(kind, key)
             await until(lambda: len(held(location)) == 3)
             await store.complete("agreed", "sign", {"long": why}, by="ann", note="known customer")
-            await asyncio.to_thread(shell, "fail", "not", "sign", why)
+            await asyncio.to_thread(shell, "fail", "not", "sign", why, "--by", "bob")
             await asyncio.to_thread(
-                shell, "complete", "twice", "write", "--undo", "--note", "no letter", status=1
+                shell,
+                "complete",
+                "twice",
+                "write",
+                "--undo",
+                "--note",
+                "no letter",
+                "--by",
+                "bob",
+                status=1,
             )
             for key in ("agreed", "not"):
                 await store.wait(key)
@@ -607,21 +620,21 @@ def test_the_log_names_operators_and_their_reasons(
     for key, line in (
         ("agreed", "complete by ann: known customer"),
         ("agreed", f'{{"long": "{why}"}}'),
-        ("not", f"fail: {why}"),
+        ("not", f"fail by bob: {why}"),
         (
             "twice",
             (
-                r"complete (undo): no letter (refused: saga 'twice', step 'write': it has not"
-                r" started. Report it after it starts)"
+                r"complete (undo) by bob: no letter (refused: saga 'twice', step 'write': it has"
+                r" not started. Report it after it starts)"
             ),
         ),
-        ("twice", "complete: as agreed (no answer yet)"),
+        ("twice", f"complete by {getpass.getuser()}: as agreed (no answer yet)"),
     ):
         assert f"  {line}\n" in shell("log", key)
     monkeypatch.setattr("sys.stdout", screen := Screen())
     assert store_command.main([location, "log", "not"]) == 0
     assert (
-        re.search(r"Z  note +sign +fail: the customer who .*\.\.\.\n", screen.getvalue())
+        re.search(r"Z  note +sign +fail by bob: the customer who .*\.\.\.\n", screen.getvalue())
         and why not in screen.getvalue()
     )
 
@@ -674,7 +687,7 @@ def test_invalid_arguments_of_lists(location: str, capsys: pytest.CaptureFixture
     for _ in range(2):
         assert store_command.main([location, "list", "--json", *arguments]) == 0
         printed = capsys.readouterr()
-        keys += [one["key"] for one in json.loads(printed.out)]
+        keys += [row["key"] for row in json.loads(printed.out)]
         line = printed.err.removeprefix("there may be more: continue with ")
         arguments = [*shlex.split(line), "--limit", "1"]
     assert (
@@ -741,11 +754,11 @@ def test_commands_while_the_program_runs(location: str, capsys: pytest.CaptureFi
             end = await store.wait("letter-1")
             assert end.aborted and end.states["write"] == "undone"
             assert "phase    recovered, aborted" in await concurrently("show", "letter-1")
-            with contextlib.closing(StoreReader(store.reader())) as looks:
+            with contextlib.closing(StoreReader(store._reader())) as looks:
                 assert [
-                    (note.what, note.told, note.answer)
+                    (note.what, note.arguments, note.answer)
                     for note in looks.ask(one_saga.notes("letter-1"))
-                ] == [("abort", {"note": "written twice"}, True)]
+                ] == [("abort", {"by": getpass.getuser(), "note": "written twice"}, True)]
             # it is over, and needs no operator
             assert await concurrently("abort", "letter-1", status=1) == ""
             assert "succeeded" in await concurrently(
@@ -966,7 +979,7 @@ def test_an_audit_during_writes(location: str) -> None:
     def differences() -> list[audits.ShardAudit]:
         with Snapshot(location) as store:
             judged = [audits.audit_shard(store, log) for log, _, _ in store.rows(audits.SHARDS)]
-        return [one for one in judged if not one.is_good]
+        return [verdict for verdict in judged if not verdict.is_good]
 
     async def main() -> None:
         async with sagas.open(location, [kind]) as store:

@@ -116,8 +116,8 @@ def test_a_damaged_shard_is_set_aside(
             assert (await store.wait("new")).ok
             await until(lambda: len(tries) > 2)
             entries: list[sagas.Attention] = await until(store.attention)
-            assert {one.key for one in entries} >= {"k1"} and all(
-                one.why == "damaged" and why in str(one.detail) for one in entries
+            assert {entry.key for entry in entries} >= {"k1"} and all(
+                entry.why == "damaged" and why in str(entry.detail) for entry in entries
             )
             await until(lambda: names.count("shard_damaged"))
             assert names.count("shard_damaged") == 1
@@ -226,7 +226,7 @@ def test_a_damaged_shard_is_deleted(
     assert "2 in damaged shards" in out.out and (
         location == owner or "because their data is damaged" in out.out
     )
-    (folder,) = (one for one in (tmp_path / "out").iterdir() if one.is_dir())
+    (folder,) = (path for path in (tmp_path / "out").iterdir() if path.is_dir())
     assert [
         json.loads(line)["key"] for line in (folder / "sagas.jsonl").read_text().splitlines()
     ] == ["k0", "k1"]
@@ -256,7 +256,7 @@ def test_a_service_shows_damaged_shards(location: str, tmp_path: pathlib.Path) -
         with service.client() as client:
             assert start(client, "order", "new").status_code == 201
             page = when_listed(client)
-            assert [one["key"] for one in page["entries"]] == ["k0", "k1"]
+            assert [entry["key"] for entry in page["entries"]] == ["k0", "k1"]
             (first, _) = page["entries"]
             assert (
                 first["calls"] == []
@@ -270,7 +270,8 @@ def test_a_service_shows_damaged_shards(location: str, tmp_path: pathlib.Path) -
                 and "With what is selected" not in inbox
             )
             assert client.get("/ui/sagas/k0").status_code == 200
-            assert 'sagas_attention_required{reason="damaged"} 2.0' in client.get("/metrics").text
+            figure = 'sagas_attention_required{reason="damaged",saga="order"} 2.0'
+            assert figure in client.get("/metrics").text
         assert (
             service.log_text().count('"name":"shard_damaged"')
             + service.log_text().count('"name": "shard_damaged"')

@@ -18,7 +18,7 @@ from test_schedules import Clock
 
 import sagas
 import sagas.testing
-from sagas.core.saga_instance import SagaInstance
+from sagas.core.attempt.instance import SagaInstance
 from sagas.runtime import instances
 
 SOON = datetime.timedelta(seconds=0.3)
@@ -48,7 +48,7 @@ def slow(**options: Any) -> sagas.Saga:
 def at(location: str, kind: sagas.Saga, events: list[str]) -> Any:
     """Open a store, and collect its events."""
     return sagas.open(
-        location, [kind], node="one", lease=2, on_event=lambda one: events.append(one.name)
+        location, [kind], node="one", lease=2, on_event=lambda event: events.append(event.name)
     )
 
 
@@ -64,11 +64,13 @@ def test_a_saga_that_is_over_is_not_kept_for_its_deadline(
 
     def count() -> int:
         gc.collect()
-        return len([one for one in gc.get_objects() if isinstance(one, SagaInstance)])
+        return len([item for item in gc.get_objects() if isinstance(item, SagaInstance)])
 
     async def main() -> None:
         before = count()  # of other tests
-        async with sagas.open(tmp_path / "store.db", [kind], clock=clock) as store:
+        async with sagas.open(
+            tmp_path / "store.db", [kind], settings=sagas.Settings(clock=clock)
+        ) as store:
             for number in range(20):
                 run = await store.start(kind, f"k{number}")
                 if number % 4:
@@ -136,7 +138,7 @@ def test_the_command_shows_it(location: str, capsys: pytest.CaptureFixture[str])
         async with at(location, kind, []) as store:
             await store.start(kind, "k", deadline=3600)
             await store.start(kind, "none", deadline=None)
-            late = {one.key: one.deadline for one in await store.list()}
+            late = {summary.key: summary.deadline for summary in await store.list()}
             assert late["none"] is None and late["k"]
             return late["k"]
 
@@ -146,7 +148,7 @@ def test_the_command_shows_it(location: str, capsys: pytest.CaptureFixture[str])
         "show", "none"
     )
     assert shell.json("show", "k")["deadline"] == when
-    assert [one["deadline"] for one in shell.json("list")] == [when, None]
+    assert [row["deadline"] for row in shell.json("list")] == [when, None]
 
 
 def test_from_a_client(url: str) -> None:
@@ -171,13 +173,13 @@ def test_of_another_node(url: str) -> None:
     kind, events = slow(), list[str]()
 
     async def main() -> None:
-        one = sagas.open(url, [kind], node="one", lease=1)
-        async with one as store:
+        first = sagas.open(url, [kind], node="one", lease=1)
+        async with first as store:
             await store.start(kind, "k", deadline=1.5)
-        two = sagas.open(
-            url, [kind], node="two", lease=1, on_event=lambda one: events.append(one.name)
+        second = sagas.open(
+            url, [kind], node="two", lease=1, on_event=lambda event: events.append(event.name)
         )
-        async with two as store:
+        async with second as store:
             assert (await store.wait("k", 60)).aborted
 
     run(main())
@@ -227,7 +229,7 @@ def test_nothing_starts_of_a_late_start(location: str) -> None:
 
     async def main() -> None:
         past = datetime.datetime.now(UTC) - datetime.timedelta(days=30)
-        heard = lambda one: events.append((one.key, one.name))
+        heard = lambda event: events.append((event.key, event.name))
         async with sagas.open(location, [kind, each], codec=Codec(), on_event=heard) as store:
             starts = [
                 store.start(kind, f"late{n}", labels={"n": str(n)}, deadline=past) for n in range(3)
@@ -250,7 +252,7 @@ def test_nothing_starts_of_a_late_start(location: str) -> None:
             assert sorted(calls) == sorted((step, None) for step in "abc" for _ in range(2))
             again = await store.start(kind, "late0", deadline=3600)
             assert not again.new and (await again.wait(60)).aborted and len(calls) == 6
-            assert [one.event for one in await store.log("late1")] == [
+            assert [event.event for event in await store.log("late1")] == [
                 "open",
                 "abort",
                 "start_plan",
@@ -294,9 +296,14 @@ def test_nothing_starts_after_the_deadline_of_a_recovered_saga(location: str) ->
     kind, calls = chain(clock)
 
     async def second() -> None:
-        heard = lambda one: events.append(one.name)
+        heard = lambda event: events.append(event.name)
         async with sagas.open(
-            location, [kind], node="two", lease=1, clock=clock, on_event=heard
+            location,
+            [kind],
+            node="two",
+            lease=1,
+            settings=sagas.Settings(clock=clock),
+            on_event=heard,
         ) as store:
             end = await until(lambda: store.get("k")) and await store.wait("k", 60)
             assert end.aborted and end.states == {"a": "undone", "b": "waiting", "c": "waiting"}
@@ -316,7 +323,7 @@ def test_no_step_starts_after_a_deadline(location: str) -> None:
     kind, calls = chain(clock, late="b")
 
     async def main() -> None:
-        async with sagas.open(location, [kind], clock=clock) as store:
+        async with sagas.open(location, [kind], settings=sagas.Settings(clock=clock)) as store:
             end = await (await store.start(kind, "k", deadline=60)).wait(60)
             assert end.aborted and end.states == {"a": "undone", "b": "undone", "c": "waiting"}
             assert calls == [("a", None), ("b", None)]

@@ -42,33 +42,33 @@ def nothing(task: Task) -> None:
 def quick() -> sagas.Saga:
     """Return another saga of the same node."""
     saga = sagas.Saga("quick")
-    saga.step(name="a", when=lambda given: True)(nothing)
+    saga.step(name="a", when=lambda input: True)(nothing)
     return saga
 
 
 def shop(gate: Gate) -> list[sagas.Saga]:
     """Return a saga for each function that a definition can have."""
 
-    def one(name: str, fair_by: Any = None, **options: Any) -> sagas.Saga:
+    def saga_of(name: str, fair_by: Any = None, **options: Any) -> sagas.Saga:
         saga = sagas.Saga(name, fair_by=fair_by)
         saga.step(name="a", undo=0, **options)(nothing)
         return saga
 
     waits, parent, outer = sagas.Saga("until"), sagas.Saga("child"), sagas.Saga("include")
     waits.wait(name="a", until=gate.holding(NOW))(nothing)
-    kid = one("kid")
+    kid = saga_of("kid")
     parent.child(kid, name="a", input=gate.holding({}))
-    outer.include(one("inner"), name="i", input=gate.holding({}))
+    outer.include(saga_of("inner"), name="i", input=gate.holding({}))
     return [
         kid,
         waits,
         parent,
         outer,
-        one("when", when=gate.holding(True)),
-        one("for_each", for_each=gate.holding([1])),
-        one("cost", keep=gate.holding(3)),
-        one("key", concurrency=1, concurrency_by=gate.holding("k")),
-        one("fair", fair_by=gate.holding("k")),
+        saga_of("when", when=gate.holding(True)),
+        saga_of("for_each", for_each=gate.holding([1])),
+        saga_of("cost", keep=gate.holding(3)),
+        saga_of("key", concurrency=1, concurrency_by=gate.holding("k")),
+        saga_of("fair", fair_by=gate.holding("k")),
     ]
 
 

@@ -21,7 +21,7 @@ from sagas.definition import serialization
 from sagas.definition.serialization import MAX_LEVELS, is_deeper
 
 LEVELS = (MAX_LEVELS + 1, 300, 967, 970, 2000, 100_000)
-"""Depths above the limit: also those at which a parser of Python gives up, and those just below."""
+"""Depths above the limit: also those at which a parser of Python fails, and those just below."""
 
 
 def nested(levels: int) -> str:
@@ -121,8 +121,8 @@ def test_by_a_client(url: str) -> None:
 
 @pytest.fixture(scope="module")
 def service(tmp_path_factory: pytest.TempPathFactory) -> Iterator[Served]:
-    with served(tmp_path_factory.mktemp("deep"), DEFINITIONS) as one:
-        yield one
+    with served(tmp_path_factory.mktemp("deep"), DEFINITIONS) as service:
+        yield service
 
 
 def post(service: Served, path: str, text: str) -> tuple[int, str, str]:
@@ -244,15 +244,15 @@ def test_stored_deep_values(location: str, tmp_path: pathlib.Path, levels: int) 
     ) as service, service.client() as client:
         done: set[str] = set()
         while len(done) < 2:
-            for task in take(client, "far/a", wait=10, most=100):
+            for task in take(client, "far/a", wait=10, limit=100):
                 done.add(task["key"])
                 assert report(client, task).status_code == 200
         assert done == {"x", "y"}
         answer = client.get("/v1/attention?kind=cannot_decode").json()["entries"]
         while not answer:
             answer = client.get("/v1/attention?kind=cannot_decode").json()["entries"]
-        assert [(one["key"], one["step"]) for one in answer] == [("deep", "a")]
-        assert take(client, "far/a", wait=0, most=100) == []
+        assert [(row["key"], row["step"]) for row in answer] == [("deep", "a")]
+        assert take(client, "far/a", wait=0, limit=100) == []
         assert client.post("/v1/sagas/deep/steps/a/complete", json={"result": 1}).status_code == 200
     with served(tmp_path, files, "--log", "json", store=location) as service:
         for path in ("wait", "log", "timeline", "picture.svg"):  # an answer may be as deep
@@ -265,18 +265,18 @@ def test_a_claim_at_another_node(url: str, tmp_path: pathlib.Path) -> None:
     files = {"far.toml": far().toml()}
     for name in ("one", "two"):
         (tmp_path / name).mkdir()
-    with served(tmp_path / "one", files, "--node", "one", store=url) as one:
+    with served(tmp_path / "one", files, "--node", "one", store=url) as service:
         with served(tmp_path / "two", files, "--node", "two", store=url) as two:
-            with one.client() as here, two.client() as there:
+            with service.client() as here, two.client() as there:
                 for key in ("deep", "x"):
                     assert start(here, "far", key).status_code == 201
                 put(url, "deep", nested(967))
-                (task,) = take(there, "far/a", most=100)
+                (task,) = take(there, "far/a", limit=100)
                 assert task["key"] == "x"
                 while not (entries := here.get("/v1/attention").json()["entries"]):
                     assert there.get("/health/live").status_code == 200
                 assert [(entry["key"], entry["kind"]) for entry in entries] == [
                     ("deep", "cannot_decode")
                 ]
-                assert take(there, "far/a", wait=0, most=100) == []
+                assert take(there, "far/a", wait=0, limit=100) == []
                 assert report(there, task).status_code == 200

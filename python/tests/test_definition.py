@@ -19,6 +19,7 @@ from driving import program
 
 import sagas
 import sagas.testing
+from sagas.definition.step import StepName
 
 HERE = pathlib.Path(__file__).resolve().parent
 
@@ -39,7 +40,7 @@ def trip() -> sagas.Saga:
     def cancel_car(task: Task) -> None:
         ...
 
-    @trip.step(needs=["car", flight])
+    @trip.step(needs=[car, flight])
     def tour(task: Task) -> None:
         ...
 
@@ -56,7 +57,7 @@ def test_toml(tmp_path: pathlib.Path) -> None:
         "format": 2,
         "name": "trip",
         "step": [
-            {"name": "flight", "undo": "never"},
+            {"name": "flight", "undo": "never", "tries": 2},
             {
                 "name": "car",
                 "needs": ["flight"],
@@ -67,7 +68,7 @@ def test_toml(tmp_path: pathlib.Path) -> None:
                 "tries": 3,
                 "undo_tries": 2,
             },
-            {"name": "tour", "needs": ["car", "flight"], "undo": "never"},
+            {"name": "tour", "needs": ["car", "flight"], "undo": "never", "tries": 2},
         ],
     }
     assert trip().steps[0].run.timeout == 30
@@ -93,6 +94,73 @@ def test_the_public_names_of_the_package() -> None:
     assert all(hasattr(sagas, name) for name in shown)
 
 
+SLOW, FAST = sagas.Backoff(initial=5), sagas.Backoff(initial=2)
+DEFAULTED: list[tuple[str, dict[str, Any], dict[str, Any]]] = [
+    ("a", {"tries": 4, "backoff": SLOW, "timeout": 7.0, "on_exhausted": "ask"}, {"max_unknown": 3}),
+    ("a-undo", {"tries": 4, "backoff": SLOW, "timeout": 7.0, "on_exhausted": "ask"}, {}),
+    ("b", {"tries": 2, "backoff": FAST, "timeout": None, "on_exhausted": "fail"}, {}),
+    ("b-undo", {"tries": 4, "backoff": FAST, "timeout": 7.0, "on_exhausted": "retry"}, {}),
+    ("elsewhere", {"tries": 4, "backoff": SLOW, "timeout": None, "max_unknown": 3}, {}),
+    ("elsewhere-undo", {"tries": 4, "backoff": SLOW, "timeout": None, "max_unknown": 3}, {}),
+    ("later", {"tries": 4, "backoff": SLOW, "timeout": 7.0}, {}),
+    ("review", {"tries": 4, "backoff": SLOW, "timeout": 7.0}, {}),
+    ("inner", {"tries": 10, "backoff": sagas.Backoff(), "timeout": None}, {"max_unknown": 10}),
+]
+
+
+@pytest.mark.parametrize("name, options, more", DEFAULTED, ids=[row[0] for row in DEFAULTED])
+def test_a_step_takes_the_defaults_of_its_saga(
+    name: str, options: dict[str, Any], more: dict[str, Any]
+) -> None:
+    """An option of its own wins. A saga that is included has its own defaults."""
+    inner = sagas.Saga("inner")
+    inner.step(name="inner")(lambda task: None)
+    saga = sagas.Saga(
+        "outer",
+        tries=4,
+        backoff=SLOW,
+        timeout=datetime.timedelta(seconds=7),
+        max_unknown=3,
+        on_exhausted="ask",
+    )
+    saga.step(name="a")(lambda task: None).compensation(lambda task: None)
+    b = saga.step(name="b", tries=2, backoff=FAST, timeout=None, on_exhausted="fail")
+    b(lambda task: None).compensation(on_exhausted="retry")(lambda task: None)
+    saga.step(external=True, name="elsewhere").compensation(external=True)
+    saga.wait(until=datetime.timedelta(1), name="later")(lambda task: None)
+    saga.approval(name="review", timeout=99)(lambda task: None)
+    saga.include(inner)
+    step = next(step for step in saga.all_steps if step.name == name.removesuffix("-undo"))
+    manner = step.manner("undo" if name.endswith("-undo") else "run")
+    expected = options | more
+    assert {word: getattr(manner, word) for word in expected} == expected
+
+
+def test_a_failed_compensation_asks_also_if_the_steps_of_its_saga_fail() -> None:
+    saga = sagas.Saga("outer", on_exhausted="fail")
+    step = saga.step(name="a")(lambda task: None)
+    step.compensation(lambda task: None)
+    assert (step.run.on_exhausted, step.undo.on_exhausted) == ("fail", "ask")
+
+
+@pytest.mark.parametrize(
+    "options, error, message",
+    [
+        ({"tries": 0}, sagas.DefinitionError, r"saga 'a': tries=0: must be an integer from 1"),
+        ({"timeout": -1}, sagas.DefinitionError, r"saga 'a': timeout=-1: must be seconds"),
+        ({"on_exhausted": "no"}, sagas.DefinitionError, "saga 'a': on_exhausted='no': must be one"),
+        ({"queue": 3}, sagas.DefinitionError, "saga 'a': queue=3: must be a sagas.celery.Queue"),
+        ({"trys": 3}, TypeError, "argument 'trys'; did you mean 'tries'?"),
+        ({"keep": 3}, TypeError, "argument 'keep'"),
+    ],
+)
+def test_a_wrong_default_of_a_saga(
+    options: dict[str, Any], error: type[Exception], message: str
+) -> None:
+    with pytest.raises(error, match=message):
+        sagas.Saga("a", **options)
+
+
 def test_draw() -> None:
     """The picture, as text for Graphviz."""
     assert trip().draw().startswith('digraph "trip"')
@@ -100,10 +168,12 @@ def test_draw() -> None:
 
 def test_version() -> None:
     """Another version is another text, and the same definition otherwise."""
-    one, two = sagas.Saga("a"), sagas.Saga("a", version=2)
-    for saga in (one, two):
+    first, second = sagas.Saga("a"), sagas.Saga("a", version=2)
+    for saga in (first, second):
         saga.step(name="s")(lambda task: None)
-    assert one.toml() != two.toml() and tomllib.loads(one.toml()) == tomllib.loads(two.toml())
+    assert first.toml() != second.toml() and tomllib.loads(first.toml()) == tomllib.loads(
+        second.toml()
+    )
 
 
 # -- faults
@@ -132,7 +202,13 @@ def a_generator(saga: sagas.Saga) -> None:
 
 
 def a_need_that_is_not_there(saga: sagas.Saga) -> None:
-    @saga.step(needs=["b"])
+    @saga.step(needs=[StepName("b")])
+    def a(task: Task) -> None:
+        ...
+
+
+def a_need_that_is_a_text(saga: sagas.Saga) -> None:
+    @saga.step(needs=["b"])  # type: ignore[list-item]
     def a(task: Task) -> None:
         ...
 
@@ -142,17 +218,17 @@ def a_need_twice(saga: sagas.Saga) -> None:
     def a(task: Task) -> None:
         ...
 
-    @saga.step(needs=[a, "a"])
+    @saga.step(needs=[a, a])
     def b(task: Task) -> None:
         ...
 
 
 def a_circle(saga: sagas.Saga) -> None:
-    @saga.step(needs=["b"])
+    @saga.step(needs=[StepName("b")])
     def a(task: Task) -> None:
         ...
 
-    @saga.step(needs=["a"])
+    @saga.step(needs=[a])
     def b(task: Task) -> None:
         ...
 
@@ -199,18 +275,18 @@ def a_price_that_is_no_number(saga: sagas.Saga) -> None:
         ...
 
 
-def ten_tries(saga: sagas.Saga) -> None:
-    @saga.step(tries=10)
+def too_many_tries(saga: sagas.Saga) -> None:
+    @saga.step(tries=1001)
     def a(task: Task) -> None:
         ...
 
 
-def ten_tries_of_a_compensation(saga: sagas.Saga) -> None:
+def too_many_tries_of_a_compensation(saga: sagas.Saga) -> None:
     @saga.step
     def a(task: Task) -> None:
         ...
 
-    @a.compensation(tries=10)
+    @a.compensation(tries=1001)
     def b(task: Task) -> None:
         ...
 
@@ -284,7 +360,7 @@ def a_need_that_is_misspelt(saga: sagas.Saga) -> None:
     def flight(task: Task) -> None:
         ...
 
-    @saga.step(needs=["fligth"])
+    @saga.step(needs=[StepName("fligth")])
     def a(task: Task) -> None:
         ...
 
@@ -299,9 +375,9 @@ def a_need_that_is_no_step(saga: sagas.Saga) -> None:
 
 
 def a_step_on_a_circle(saga: sagas.Saga) -> None:
-    saga.step(name="z", needs=["a"])(lambda task: None)
-    saga.step(name="a", needs=["b"])(lambda task: None)
-    saga.step(name="b", needs=["a"])(lambda task: None)
+    saga.step(name="z", needs=[StepName("a")])(lambda task: None)
+    saga.step(name="a", needs=[StepName("b")])(lambda task: None)
+    saga.step(name="b", needs=[StepName("a")])(lambda task: None)
 
 
 def an_approval_within_a_text(saga: sagas.Saga) -> None:
@@ -347,7 +423,7 @@ def a_rate_in_a_text(saga: sagas.Saga) -> None:
 
 
 def one_exception_by_itself(saga: sagas.Saga) -> None:
-    @saga.step(unknown=TimeoutError)  # type: ignore[call-overload, misc]
+    @saga.step(no_effect=TimeoutError)  # type: ignore[call-overload, misc]
     def a(task: Task) -> None:
         ...
 
@@ -368,13 +444,14 @@ FAULTY: list[tuple[Callable[[sagas.Saga], None], str]] = [
     (no_argument, "one argument"),
     (a_generator, "a generator, which would not run. Return the result"),
     (a_need_that_is_not_there, "needs unknown step 'b'"),
+    (a_need_that_is_a_text, "which is a text. Pass the step itself: needs=[b]"),
     (a_need_twice, "twice"),
     (a_circle, "a needs b needs a"),
     (
         undo_without_a_compensation,
         (
-            "undo=3, but it has no compensation. Declare @a.compensation, or set undo=0 if there is"
-            " nothing to undo"
+            "undo=3, but it has no compensation. Declare @a.compensation, or set undo=sagas.NOTHING"
+            " if there is nothing to undo"
         ),
     ),
     (never_with_a_compensation, "never called. Remove one"),
@@ -387,8 +464,8 @@ FAULTY: list[tuple[Callable[[sagas.Saga], None], str]] = [
     ),
     (a_price_below_0, "an integer from 0"),
     (a_price_that_is_no_number, "an integer from 0"),
-    (ten_tries, "1 to 9"),
-    (ten_tries_of_a_compensation, "1 to 9"),
+    (too_many_tries, "1 to 1,000"),
+    (too_many_tries_of_a_compensation, "1 to 1,000"),
     (a_step_of_another_saga, "of saga 'other'"),
     (a_name_with_capitals, "1 to 32"),
     (a_time_of_0, "a timedelta, > 0"),
@@ -414,7 +491,7 @@ FAULTY: list[tuple[Callable[[sagas.Saga], None], str]] = [
     ),
     (a_pause_that_is_less_than_the_first, "Set maximum=1 or more"),
     (a_rate_in_a_text, "seconds or a timedelta"),
-    (one_exception_by_itself, "unknown=(TimeoutError,)"),
+    (one_exception_by_itself, "no_effect=(ConnectionRefusedError,)"),
     (no_name, "Set name="),
 ]
 
@@ -441,11 +518,11 @@ def test_a_saga_without_steps_and_two_of_a_name(tmp_path: pathlib.Path) -> None:
         sagas.Saga("Empty")
     with pytest.raises(sagas.DefinitionError, match="another saga"):
         sagas.open(tmp_path / "store.db", [trip(), trip()])
-    for what in (trip(), [trip().steps[0]], 17):
+    for argument in (trip(), [trip().steps[0]], 17):
         with pytest.raises(
             sagas.DefinitionError, match="expected a (list of sagas|sagas.Saga), got"
         ):
-            sagas.open(tmp_path / "store.db", what)  # type: ignore[arg-type]
+            sagas.open(tmp_path / "store.db", argument)  # type: ignore[arg-type]
 
 
 def test_a_compensation_that_is_never_called(
@@ -482,7 +559,7 @@ def test_a_compensation_that_is_never_called(
     ]
 
 
-def chained(receipt: Any = ..., behind: bool = True) -> tuple[sagas.Saga, list[str]]:
+def chained(receipt: Any = ..., has_follower: bool = True) -> tuple[sagas.Saga, list[str]]:
     """Return a charge, a receipt for it whose `undo` is set or not, and a later step that fails;
     and the undone steps.
     """
@@ -496,16 +573,16 @@ def chained(receipt: Any = ..., behind: bool = True) -> tuple[sagas.Saga, list[s
     def send(task: Task) -> None:
         raise sagas.Fail("no such address")
 
-    if behind:
+    if has_follower:
         saga.step(name="send", needs=[receipt_step])(send)
     return saga, undone
 
 
 def test_nothing_to_undo(location: str) -> None:
-    """A step without a compensation keeps the steps that it needs from being undone; with `undo=0`
-    it is undone by doing nothing.
+    """A step without a compensation keeps the steps that it needs from being undone; with
+    `undo=NOTHING` it is undone by doing nothing.
     """
-    kept, gone = chained()[0], chained(0)
+    kept, gone = chained()[0], chained(sagas.NOTHING)
     gone[0].name = "gone"
 
     async def main() -> tuple[sagas.SagaResult, sagas.SagaResult, str, list[str | None]]:
@@ -515,14 +592,14 @@ def test_nothing_to_undo(location: str) -> None:
             assert plans[0] and plans[1]
             return *ends, str(plans[0]), [choice.needed_by for choice in plans[1].choices]
 
-    one, other, warning, needed = run(main())
+    first, other, warning, needed = run(main())
     assert warning.splitlines()[2:] == [
         "  charge   committed             0             0  stands: receipt needs it",
         "  receipt  committed             0         never  stands",
         "  send     failed            never             0  is left out",
     ]
     assert needed == [None, None, None]
-    assert one.states == {"charge": "committed", "receipt": "committed", "send": "failed"}
+    assert first.states == {"charge": "committed", "receipt": "committed", "send": "failed"}
     assert other.states == {"charge": "undone", "receipt": "undone", "send": "failed"} and gone[
         1
     ] == ["charge"]
@@ -534,25 +611,27 @@ def test_a_compensation_with_undo_0() -> None:
     saga.steps[1].compensation(lambda task: undone.append(task.step))
     assert sagas.testing.run(saga).states["charge"] == "undone" and undone == ["receipt", "charge"]
     plain = chained(0)[0].toml()
-    assert tomllib.loads(saga.toml()) == tomllib.loads(plain)
+    assert tomllib.loads(saga.toml().replace("undo_tries = 2\n", "")) == tomllib.loads(
+        plain.replace("undo_tries = 2\n", "")
+    )
     # so that a program without it is noticed
-    assert saga.toml().replace('"receipt"\n# compensated\n', '"receipt"\n') == plain
+    assert '"receipt"\n# compensated\n' in saga.toml() and '"receipt"\n# comp' not in plain
 
 
 def test_steps_that_keep_others_from_being_undone() -> None:
     """A step without a compensation follows one with a compensation, and does not say what it
-    means. There is no warning if no later or parallel step may fail.
+    means. It causes no warning if no later or parallel step may fail.
     """
     saga = chained()[0]
     (warning,) = saga.warnings()
     assert (
         warning
         == f"{saga.steps[1].where}: saga 'order', step 'receipt' has no compensation, so 'charge',"
-        " which it needs, can never be undone after it commits. Set undo=0 if there is nothing"
-        " to undo, or undo=NEVER to confirm"
+        " which it needs, can never be undone after it commits. Set undo=sagas.NOTHING if there"
+        " is nothing to undo, or undo=sagas.NEVER to confirm"
     )
     assert warning.startswith(f"{__file__}:")
-    for quiet in (chained(0), chained(sagas.NEVER), chained(behind=False)):
+    for quiet in (chained(sagas.NOTHING), chained(sagas.NEVER), chained(has_follower=False)):
         assert quiet[0].warnings() == []
 
 
@@ -563,23 +642,25 @@ def test_a_keeping_step_is_reported_once() -> None:
     saga = chained()[0]
     hire = saga.step(name="hire")(lambda task: None)
     hire.compensation(lambda task: None)
-    saga.step(name="mail", needs=["send", hire])(lambda task: None)
+    saga.step(name="mail", needs=[saga.parts_by_name["send"], hire])(lambda task: None)
     saga.step(name="beside")(lambda task: None)
     causes = [warning.split("step ", 1)[1].partition("; say")[0] for warning in saga.warnings()]
     assert causes == [
         (
             "'receipt' has no compensation, so 'charge', which it needs, can never be undone after"
-            " it commits. Set undo=0 if there is nothing to undo, or undo=NEVER to confirm"
+            " it commits. Set undo=sagas.NOTHING if there is nothing to undo, or undo=sagas.NEVER"
+            " to confirm"
         ),
         (
             "'mail' has no compensation, so 'hire', which it needs, can never be undone after it"
-            " commits. Set undo=0 if there is nothing to undo, or undo=NEVER to confirm"
+            " commits. Set undo=sagas.NOTHING if there is nothing to undo, or undo=sagas.NEVER to"
+            " confirm"
         ),
     ]
     saga = sagas.Saga("two")
     for name in ("a", "b"):
         saga.step(name=name)(lambda task: None).compensation(lambda task: None)
-    saga.step(name="c", needs=["a", "b"])(lambda task: None)
+    saga.step(name="c", needs=saga.steps[:])(lambda task: None)
     saga.step(name="d")(lambda task: None)
     (warning,) = saga.warnings()
     assert "'a' and 'b', which it needs, can never be undone" in warning
@@ -729,15 +810,15 @@ def test_dataclasses_cross_as_json(tmp_path: pathlib.Path) -> None:
         seen.append(task.result_of(book))
         raise sagas.Fail("no")
 
-    given = Booking("Lisbon", datetime.date(2031, 5, 1), [1, 2])
+    value = Booking("Lisbon", datetime.date(2031, 5, 1), [1, 2])
 
     async def main() -> None:
         async with sagas.open(tmp_path / "store.db", [saga]) as store:
-            await ended(store, saga, given=given)
+            await ended(store, saga, value=value)
 
     run(main())
-    booked = dataclasses.replace(given, seats=[1, 2, 9])
-    assert seen == [given, booked, booked]
+    booked = dataclasses.replace(value, seats=[1, 2, 9])
+    assert seen == [value, booked, booked]
 
 
 TYPED = """
@@ -754,20 +835,38 @@ TYPED = """
     def car(task: sagas.Task[dict[str, str]]) -> int:
         return len(task.result_of(flight))
 
-    @trip.step(needs=[car])
+    @trip.step(needs=[car], undo=sagas.NOTHING)
     def tour(task: sagas.Task[Any]) -> None:
         reveal_type(task.result_of(flight))
         reveal_type(task.result_of(car))
+        reveal_type(task.result_of(car, default=None))
+
+    @trip.step(tires=3)
+    def typo(task: sagas.Task[Any]) -> None: ...
+
+    trip.step(external=True, timeout=3)
+
+    @car.compensation(tries="3")
+    def cancel(task: sagas.Task[Any]) -> None: ...
+
+    @trip.wait(until=None)
+    def late(task: sagas.Task[Any]) -> None: ...
+
+    @trip.approval(keep=3)
+    def review(task: sagas.Task[Any]) -> None: ...
 """
+WRONG = ("step", "step", "compensation", "wait", "approval")
+"""The call with the wrong option, in each of the errors."""
 
 
 def test_types_are_seen(tmp_path: pathlib.Path) -> None:
-    """`task.result_of(flight)` has the return type of `flight`, and mypy finds no error in a
-    program.
+    """`task.result_of(flight)` has the return type of `flight`, and mypy finds each wrong option
+    in a program, and no other error.
     """
     path = tmp_path / "typed.py"
     path.write_text(textwrap.dedent(TYPED))
-    arguments = ["mypy", "--strict", "--cache-dir", types_in(tmp_path), str(path)]
+    feature = "--enable-incomplete-feature=Unpack"
+    arguments = ["mypy", "--strict", feature, "--cache-dir", types_in(tmp_path), str(path)]
     try:
         done = subprocess.run(
             arguments,
@@ -781,7 +880,9 @@ def test_types_are_seen(tmp_path: pathlib.Path) -> None:
             [sys.executable, "-m", *arguments], capture_output=True, text=True, check=False
         )
     lines = [line for line in done.stdout.splitlines() if line.startswith(str(path))]
-    assert ['"builtins.str"', '"builtins.int"'] == [
+    assert ['"builtins.str"', '"builtins.int"', '"Union[builtins.int, None]"'] == [
         line.split("Revealed type is ")[1] for line in lines if "Revealed" in line
     ], done.stdout
-    assert len(lines) == 2, done.stdout
+    errors = [line for line in lines if ": error: " in line and "[misc]" not in line]
+    assert len(errors) == len(WRONG), done.stdout
+    assert all(f'"{call}" of "' in error for call, error in zip(WRONG, errors)), done.stdout

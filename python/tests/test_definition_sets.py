@@ -192,7 +192,9 @@ def environment() -> dict[str, str]:
     return {**os.environ, "PYTHONPATH": path, "SAGAS_PROGRAM": program()}
 
 
-def test_a_killed_programs_sagas_of_all_sets_go_on(location: str, tmp_path: pathlib.Path) -> None:
+def test_a_killed_programs_sagas_of_all_sets_continue(
+    location: str, tmp_path: pathlib.Path
+) -> None:
     """Each acknowledged saga exists, under its definition, and is done once."""
     (file := tmp_path / "driver.py").write_text(textwrap.dedent(DRIVER.format(path=location)))
     began = []

@@ -12,6 +12,7 @@ from cases import ended, run
 
 import sagas
 from sagas.cli import store_command
+from sagas.definition.step import StepName
 
 
 def release(*steps: str, keep: int = 0) -> sagas.Saga:
@@ -65,8 +66,8 @@ def test_a_step_is_added(url: str, capsys: pytest.CaptureFixture[str], plain: bo
             text = await asyncio.to_thread(nodes, url, capsys)
             assert "a node with this definition: old has another one" in text
             text = await asyncio.to_thread(nodes, url, capsys, "--json")
-            (one,) = json.loads(text)["starts_without_node"]
-            assert (one["saga"], one["starts"], one["nodes"]) == ("pair (version 1)", 1, ["old"])
+            (row,) = json.loads(text)["starts_without_node"]
+            assert (row["saga"], row["starts"], row["nodes"]) == ("pair (version 1)", 1, ["old"])
             async with sagas.open(url, [new], node="new"):
                 assert (await going.wait(60)).states == dict.fromkeys("abc", "committed")
 
@@ -107,7 +108,7 @@ def test_two_releases_side_by_side(url: str) -> None:
         async with sagas.open(url, [old], node="old"), sagas.open(url, [new], node="new"):
             async with sagas.Client(url) as client:
                 runs = [await client.start((old, new)[n % 2], f"k{n}", n) for n in range(20)]
-                ends = await asyncio.gather(*(one.wait(60) for one in runs))
+                ends = await asyncio.gather(*(run.wait(60) for run in runs))
                 assert [[*end.states] for end in ends] == [["a", "b"], ["a", "b", "c"]] * 10
 
     run(main())
@@ -116,7 +117,7 @@ def test_two_releases_side_by_side(url: str) -> None:
 def test_a_definition_with_a_fault_is_not_started(url: str) -> None:
     """A client gets the error at once: no node could have it."""
     kind: Any = release("a")
-    kind.step(name="b", needs=["nobody"])(lambda task: 1)
+    kind.step(name="b", needs=[StepName("nobody")])(lambda task: 1)
 
     async def main() -> None:
         async with sagas.open(url, [release("a")]), sagas.Client(url) as client:

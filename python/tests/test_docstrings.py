@@ -10,6 +10,7 @@ import inspect
 import operator
 import pathlib
 import re
+import typing
 from collections.abc import Iterator
 from typing import Any
 
@@ -17,8 +18,9 @@ import pytest
 
 import sagas
 from sagas.base import events
-from sagas.core import attempt_machine
+from sagas.core.attempt import machine as attempt_machine
 
+PLAIN = (BaseException, dict, str, tuple)
 REFERENCE = pathlib.Path(__file__).resolve().parents[2] / "docs" / "reference"
 
 
@@ -29,7 +31,7 @@ def names() -> Iterator[tuple[str, Any]]:
             thing, full = getattr(module, name), f"{module.__name__}.{name}".removeprefix("sagas.")
             if callable(thing) and thing is not sagas.Cost:
                 yield full, thing
-            if inspect.isclass(thing) and not issubclass(thing, (BaseException, str, tuple)):
+            if inspect.isclass(thing) and not issubclass(thing, PLAIN):
                 for part in dir(thing):
                     attribute = inspect.getattr_static(thing, part)
                     if part[0] != "_" and (
@@ -69,8 +71,10 @@ def declared(kind: type) -> set[str]:
 def test_says_what_it_takes_and_raises(name: str, thing: Any) -> None:
     doc = (thing.fget.__doc__ if isinstance(thing, property) else thing.__doc__) or ""
     assert 0 < len(doc.partition("\n")[0]) <= 80, "the first line is one short sentence"
-    plain = inspect.isclass(thing) and issubclass(thing, (BaseException, str, tuple))
+    plain = inspect.isclass(thing) and issubclass(thing, PLAIN)
     wanted = declared(thing) if inspect.isclass(thing) and not plain else set()
+    if typing.is_typeddict(thing):
+        wanted |= set(thing.__annotations__)
     if not (plain or isinstance(thing, property) or "Made by" in doc):
         wanted |= set(inspect.signature(thing).parameters) - {"self"}
     assert {word for word in wanted if word[0] != "_"} <= described(thing)

@@ -73,7 +73,7 @@ def test_it_is_stored_and_used(location: str, capsys: pytest.CaptureFixture[str]
             await wrong("has no step 'vis'; did you mean 'visa'", "vis")
             both = (store.complete("k", "visa", n) for n in (1, 2, 1))
             outcomes = await asyncio.gather(*both, return_exceptions=True)
-            kinds = [type(one).__name__ for one in outcomes]
+            kinds = [type(outcome).__name__ for outcome in outcomes]
             assert kinds == ["NoneType", "ConflictingReport", "NoneType"]
             await trip.complete("visa", 1)
             await wrong("a report of it is stored", "visa", "secret")
@@ -124,8 +124,8 @@ def test_a_failure_ends_it(location: str) -> None:
 def test_an_unused_report_stays_known(location: str, capsys: pytest.CaptureFixture[str]) -> None:
     """A saga that is undone takes no report of another step.
 
-    The same report again is no error, and another one conflicts. This holds while it is undone and
-    once it is over, by Python and by the command.
+    The same report again is not an error, and another one conflicts. This holds while it is undone
+    and once it is over, by Python and by the command.
     """
     shell, gate, saga = Shell(location, capsys), asyncio.Event(), sagas.Saga("held")
 
@@ -228,8 +228,8 @@ def test_with_a_codec(location: str) -> None:
             if part == 1:
                 await until(lambda: store.active_attempts("k"))
                 await store.complete("k", "open")
-                (one,) = await until(lambda: store.attention())
-                assert (one.step, one.why) == ("visa", "cannot_decode")
+                (entry,) = await until(lambda: store.attention())
+                assert (entry.step, entry.why) == ("visa", "cannot_decode")
                 return
             await store.complete("k", "flight")
             assert (await store.wait("k", 60)).results["pack"] == ["secret", None]
@@ -246,7 +246,7 @@ def test_reports_during_the_start_of_their_step(location: str) -> None:
     async def main() -> None:
         async with sagas.open(location, [saga]) as store:
 
-            async def one(key: str, pause: int) -> None:
+            async def report_late(key: str, pause: int) -> None:
                 await store.complete(key, "open")
                 for _ in range(pause):
                     await asyncio.sleep(0)
@@ -255,7 +255,7 @@ def test_reports_during_the_start_of_their_step(location: str) -> None:
 
             keys = [f"k{n}" for n in range(40)]
             await asyncio.gather(*(store.start(saga, key) for key in keys))
-            await asyncio.gather(*(one(key, 3 * n) for n, key in enumerate(keys)))
+            await asyncio.gather(*(report_late(key, 3 * n) for n, key in enumerate(keys)))
             ends = await asyncio.gather(*(store.wait(key, 60) for key in keys))
             assert [end.results["pack"] for end in ends] == [[key, key] for key in keys]
 
@@ -273,14 +273,14 @@ def test_from_elsewhere(url: str) -> None:
             trip = await client.start(saga, "k")
             left = asyncio.create_task(trip.complete("visa", "early"))
             async with (
-                sagas.open(url, [saga], node="one") as one,
-                sagas.open(url, [saga], node="two") as two,
+                sagas.open(url, [saga], node="one") as first,
+                sagas.open(url, [saga], node="two") as second,
             ):
                 await left
                 with pytest.raises(sagas.StepNotWaiting, match="it has not started"):
                     await trip.complete("flight", early=False)
-                has = one if one.active_attempts("k") else two
-                other = two if has is one else one
+                has = first if first.active_attempts("k") else second
+                other = second if has is first else first
                 await other.complete("k", "flight", "LH1", by="ada")
                 await trip.complete("visa", "early")
                 with pytest.raises(sagas.ConflictingReport):
@@ -332,7 +332,11 @@ def test_an_early_report_is_committed_before_a_recovery(location: str, way: str)
     async def main() -> None:
         async with sagas.open(location, [saga], concurrency=1) as store:
             run = await store.start(saga, "k")
-            await until(lambda: [one for one in store.active_attempts("k") if one.step == "check"])
+            await until(
+                lambda: [
+                    attempt for attempt in store.active_attempts("k") if attempt.step == "check"
+                ]
+            )
             await store.complete("k", "ship", "boxed")
             await store.complete("k", "pay", {"euros": 40})
             if way == "abort":

@@ -58,7 +58,7 @@ def test_an_example_runs(name: str) -> None:
     assert done.returncode == 0, done.stderr
     lines = iter(done.stdout.splitlines())
     for wanted in SAYS[name]:
-        assert wanted in lines, f"{wanted!r} is missing, or stands elsewhere, in:\n{done.stdout}"
+        assert wanted in lines, f"{wanted!r} is missing, or is elsewhere, in:\n{done.stdout}"
 
 
 def test_each_example_is_tried() -> None:

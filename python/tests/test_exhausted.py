@@ -15,7 +15,7 @@ from collections.abc import Callable
 from typing import Any
 
 import pytest
-from cases import HOUR, PLACES, QUICK, Task, ended, pairs, run, until
+from cases import HOUR, STORE_KINDS, QUICK, Task, ended, pairs, run, until
 from serving import environment
 
 import sagas
@@ -45,7 +45,7 @@ class Notes:
         if len(self.lines) == self.strike:
             os.kill(os.getpid(), signal.SIGKILL)
         if self.broken.exists():
-            raise RuntimeError("the bank is closed")
+            raise sagas.Retry("the bank is closed")
 
     @property
     def lines(self) -> list[str]:
@@ -61,7 +61,7 @@ def order(notes: Notes, **options: Any) -> sagas.Saga:
     def charge(task: Task) -> int:
         return 40
 
-    @charge.compensation(backoff=QUICK, **options)
+    @charge.compensation(backoff=QUICK, **{"tries": 1} | options)
     def refund(task: Task) -> None:
         notes.called(task)
 
@@ -76,8 +76,8 @@ def alone(notes: Notes, **options: Any) -> sagas.Saga:
     """Return a saga of one step, which fails as long as it is broken."""
     saga = sagas.Saga("alone")
 
-    @saga.step(name="a", backoff=options.pop("backoff", QUICK), undo=0, **options)
-    def call(task: Task) -> str:
+    @saga.step(name="a", undo=0, **{"backoff": QUICK, "tries": 1} | options)
+    def call(task: Task) -> Any:
         notes.called(task)
         return "done"
 
@@ -102,7 +102,7 @@ def killed(location: str, kind: sagas.Saga, keys: list[str]) -> None:
 
 async def exhausted_attempts(store: sagas.Store) -> list[sagas.Attention]:
     """Return the attempts that need an operator."""
-    return [one for one in await store.attention() if one.why is ASKS]
+    return [entry for entry in await store.attention() if entry.why is ASKS]
 
 
 def opened(
@@ -116,7 +116,7 @@ def opened(
 
 @pytest.mark.parametrize(
     "location, answer, strike",
-    pairs(PLACES, ("retry", "complete", "fail"), (1, 0)),
+    pairs(STORE_KINDS, ("retry", "complete", "fail"), (1, 0)),
     indirect=["location"],
 )
 def test_a_refund_that_fails_asks(
@@ -133,18 +133,24 @@ def test_a_refund_that_fails_asks(
     notes.strike = 0
 
     async def first() -> None:
-        async with opened(location, kind, lambda one: events.append(one.name)) as store:
+        async with opened(location, kind, lambda event: events.append(event.name)) as store:
             await store.start(kind, "k")
-            (one,) = await until(lambda: exhausted_attempts(store))
-            entry = (one.key, one.saga, one.step, one.undo, one.detail)
-            assert entry == ("k", "order", "charge", True, "RuntimeError: the bank is closed")
+            (exhausted,) = await until(lambda: exhausted_attempts(store))
+            entry = (
+                exhausted.key,
+                exhausted.saga,
+                exhausted.step,
+                exhausted.undo,
+                exhausted.detail,
+            )
+            assert entry == ("k", "order", "charge", True, "sagas.Retry: the bank is closed")
             with pytest.raises(TimeoutError, match="retry, complete or fail with undo=True"):
                 await store.wait("k", 0.05)
 
     async def second() -> None:
         async with opened(location, kind) as store:
             count = len(notes.lines)
-            (one,) = await until(lambda: exhausted_attempts(store))
+            (entry,) = await until(lambda: exhausted_attempts(store))
             with pytest.raises(sagas.StepNotWaiting, match="'send' cannot be retried"):
                 await store.retry("k", "send")
             assert len(notes.lines) == count
@@ -210,7 +216,7 @@ def test_a_step_that_asks_is_not_failed_by_another(location: str, tmp_path: path
     asks = kind.step(notes.called, name="asks", tries=2, keep=9, on_exhausted="ask", backoff=QUICK)
     asks.compensation(lambda task: undone.append(task.result))
     repeats = {"on_exhausted": "retry", "backoff": HOUR, "undo": sagas.NEVER}
-    kind.step(notes.called, name="repeats", **repeats)  # type: ignore[call-overload]
+    kind.step(notes.called, name="repeats", tries=1, **repeats)  # type: ignore[call-overload]
     kind.step(name="other", external=True, undo=sagas.NEVER)
 
     async def main() -> None:
@@ -237,21 +243,22 @@ def test_a_limit_counts_the_steps_that_are_meant(location: str) -> None:
 
     def once(task: Task) -> None:
         if task.step not in opens:
-            raise RuntimeError("closed")
+            raise sagas.Retry("closed")
 
-    first = kind.step(once, name="a", on_exhausted="ask", backoff=QUICK)
-    kind.step(once, name="b", needs=[first], on_exhausted="ask", backoff=QUICK)
+    options: Any = {"on_exhausted": "ask", "backoff": QUICK, "tries": 1}
+    first = kind.step(once, name="a", **options)
+    kind.step(once, name="b", needs=[first], **options)
 
     async def main() -> None:
         async with opened(location, kind) as store:
             await store.start(kind, "older")
-            (one,) = await until(lambda: exhausted_attempts(store))
+            (entry,) = await until(lambda: exhausted_attempts(store))
             opens.add("a")
             run = await store.start(kind, "newer")
             await until(lambda: has_count(store, 2))
             opens.add("b")
             assert await store.retry_all(step="b", limit=1) == 1
-            assert (await run.wait()).ok and [one] == await exhausted_attempts(store)
+            assert (await run.wait()).ok and [entry] == await exhausted_attempts(store)
 
     async def has_count(store: sagas.Store, count: int) -> bool:
         return len(await exhausted_attempts(store)) == count
@@ -263,7 +270,7 @@ def test_how_often_it_failed(location: str, capsys: pytest.CaptureFixture[str]) 
     """Each failure is counted, and none of those before an operator's retry."""
     kind, pauses = sagas.Saga("often"), iter((0.01, 3600.0, 3600.0))
 
-    @kind.step(tries=2, max_attempts=9)
+    @kind.step(tries=2, on_exhausted="retry")
     def a(task: Task) -> None:
         raise sagas.RetryAfter(next(pauses))
 
@@ -281,9 +288,12 @@ def test_how_often_it_failed(location: str, capsys: pytest.CaptureFixture[str]) 
     run(main())
 
 
-@pytest.mark.parametrize("more", [{"max_attempts": 12}, {"on_exhausted": "retry"}])
+@pytest.mark.parametrize(
+    "more, attempts",
+    [({"tries": 12}, {1, 2}), ({"tries": 3, "on_exhausted": "retry"}, {1, 2, 3})],
+)
 def test_more_attempts_than_a_definition_has(
-    location: str, tmp_path: pathlib.Path, more: dict[str, Any]
+    location: str, tmp_path: pathlib.Path, more: dict[str, Any], attempts: set[int]
 ) -> None:
     """They are counted over a kill.
 
@@ -291,15 +301,15 @@ def test_more_attempts_than_a_definition_has(
     written.
     """
     notes = Notes(tmp_path)
-    notes.strike = 6
-    kind = alone(notes, tries=3, **more)
+    notes.strike = 11 if more["tries"] == 12 else 6
+    kind = alone(notes, **more)
     killed(location, kind, ["k"])
     notes.strike = 0
 
     async def main() -> None:
         async with opened(location, kind) as store:
             started = await store.start(kind, "k")
-            if "max_attempts" in more:
+            if more["tries"] == 12:
                 end = await started.wait(60)
                 assert end.states == {"a": "failed"} and len(notes.lines) in (12, 13, 14)
                 return
@@ -308,7 +318,7 @@ def test_more_attempts_than_a_definition_has(
             assert (await started.wait(60)).ok
 
     run(main())
-    assert {line.split()[1] for line in notes.lines} == {"1", "2", "3"}
+    assert {int(line.split()[1]) for line in notes.lines} == attempts
 
 
 def test_a_function_requests_the_time_of_its_retry(location: str, tmp_path: pathlib.Path) -> None:
@@ -318,7 +328,7 @@ def test_a_function_requests_the_time_of_its_retry(location: str, tmp_path: path
     pauses = [0.01, 0.02, 0.03]
     saga, seen = sagas.Saga("soon"), list[float]()
 
-    @saga.step(undo=0, backoff=HOUR, tries=2, max_attempts=4)
+    @saga.step(undo=0, backoff=HOUR, tries=2, on_exhausted="retry")
     def a(task: Task) -> int:
         seen.append(task.attempt)
         if len(seen) <= 3:
@@ -342,7 +352,7 @@ def test_a_function_requests_the_time_of_its_retry(location: str, tmp_path: path
 def test_work_of_a_worker(location: str) -> None:
     """An external worker's failure also needs an operator, and is offered again."""
     saga = sagas.Saga("far")
-    saga.step(name="a", external=True, undo=0, on_exhausted="ask")
+    saga.step(name="a", external=True, undo=0, on_exhausted="ask", tries=1)
     word = [("far", "a", "run")]
 
     async def main() -> None:
@@ -375,7 +385,7 @@ def test_from_elsewhere(url: str, tmp_path: pathlib.Path) -> None:
         async with opened(url, kind) as store, sagas.Client(url) as client:
             started = await store.start(kind, "k")
             await until(lambda: exhausted_attempts(store))
-            assert [one.why for one in await client.attention()] == [ASKS]
+            assert [entry.why for entry in await client.attention()] == [ASKS]
             with pytest.raises(sagas.StepNotWaiting, match="no step 'b'"):
                 await client.retry("k", "b")
             notes.broken.unlink()
@@ -494,7 +504,7 @@ def test_the_command_reports_all(
                 await asyncio.to_thread(run_command, *failed, "--yes", "--json")
             )
             entry = {"step": "a", "kind": "run", "asked": "fail", "answer": True}
-            assert sorted(failed_reports, key=lambda one: one["key"]) == [
+            assert sorted(failed_reports, key=lambda failed_report: failed_report["key"]) == [
                 {"key": key} | entry for key in ("y-0", "y-1")
             ]
             assert (
@@ -503,7 +513,10 @@ def test_the_command_reports_all(
             for number in range(2):
                 assert (await runs[f"x-{number}"].wait()).results == {"a": 7}
                 assert (await runs[f"y-{number}"].wait()).errors == {"a": "it is down"}
-            assert sorted({one.key for one in await exhausted_attempts(store)}) == ["z-0", "z-1"]
+            assert sorted({entry.key for entry in await exhausted_attempts(store)}) == [
+                "z-0",
+                "z-1",
+            ]
             rest = ["--all", "--yes", "--json", "--timeout", "60"]
             job = asyncio.create_task(asyncio.to_thread(run_command, "complete", *rest))
             await asyncio.sleep(0)
@@ -521,17 +534,17 @@ def test_the_command_reports_all(
             ]
             with subprocess.Popen(arguments, stdout=subprocess.PIPE, env=environment()) as late:
                 wait_for_commands(location, 4)
-                answers = [one["answer"] for one in json.loads(await job)]
+                answers = [row["answer"] for row in json.loads(await job)]
                 out = await asyncio.to_thread(late.communicate)
-            refused = [one["answer"] for one in json.loads(out[0])]
+            refused = [row["answer"] for row in json.loads(out[0])]
             assert answers == [True, True] and late.returncode == 1
-            assert all("it has succeeded. This is a different outcome" in one for one in refused)
+            assert all("it has succeeded. This is a different outcome" in text for text in refused)
 
     run(main())
 
 
 def test_in_a_simulation() -> None:
-    """A test gives the operator's answer; without one, the error says what to give."""
+    """A test sends the operator's answer; without one, the error says what to give."""
     saga = sagas.Saga("order")
 
     @saga.step(keep=sagas.NEVER)
@@ -542,11 +555,11 @@ def test_in_a_simulation() -> None:
     def refund(task: Task) -> None:
         ...
 
-    @saga.step(needs=[charge], max_attempts=12, tries=2)
+    @saga.step(needs=[charge], tries=12)
     def send(task: Task) -> None:
         ...
 
-    fails: dict[str, Any] = {"fail": {"send": 12}, "fail_undo": {"charge": 1}}
+    fails: dict[str, Any] = {"fail": {"send": 12}, "fail_undo": {"charge": 10}}
     with pytest.raises(LookupError, match="the compensation of step 'charge' has used up"):
         sagas.testing.run(saga, **fails)
     trial = sagas.testing.run(saga, **fails, answers={"charge": None})
@@ -562,12 +575,8 @@ def test_in_a_simulation() -> None:
             {"on_exhausted": "again"},
             "on_exhausted='again' of its function: must be one of fail, ask",
         ),
-        ({"max_attempts": 0}, "max_attempts=0 of its function: must be an integer >= tries="),
-        ({"max_attempts": 2, "tries": 3}, "max_attempts=2 .*: must be an integer >= tries=3"),
-        (
-            {"max_attempts": 20, "on_exhausted": "retry"},
-            "max_attempts=20 .* has no effect with on_exhausted='retry'",
-        ),
+        ({"tries": 0}, "tries=0 of its function: must be an integer from 1 to 1,000"),
+        ({"max_unknown": 0}, "max_unknown=0 .*: must be an integer >= 1, a timedelta, or None"),
     ],
 )
 def test_invalid_options_of_retries(

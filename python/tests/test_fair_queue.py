@@ -24,7 +24,7 @@ def done(queue: FairQueue[str], name: str, seconds: float, computed: float = 0.0
 
 
 def test_each_has_the_same_time() -> None:
-    """A maker with much work that takes long, and one with little: whoever has had least is next."""
+    """A maker has much work that takes long, and one has little: that with least time is next."""
     queue: FairQueue[str] = FairQueue(1, ComputingTime())
     for number in range(100):
         queue.put("evil", f"e{number}", 0.0)
@@ -32,10 +32,10 @@ def test_each_has_the_same_time() -> None:
     for number in range(20):
         queue.put("other", f"o{number}", 0.0)
     for _ in range(40):
-        found = queue.take(0.0)
-        assert found and queue.take(0.0) is None
-        order.append(found[0])
-        done(queue, found[0], 1.0 if found[0] == "evil" else 0.1)
+        item = queue.take(0.0)
+        assert item and queue.take(0.0) is None
+        order.append(item[0])
+        done(queue, item[0], 1.0 if item[0] == "evil" else 0.1)
     assert order.count("other") == 20 and order.index("other") <= 1
     assert "evil" in order[3:15]  # and it is not starved either
 
@@ -46,12 +46,12 @@ def test_who_takes_long_leaves_a_thread() -> None:
     for _ in range(10):
         queue.put("evil", "e", 0.0)
         queue.put("quick", "q", 0.0)
-    taken = [found[0] for _ in range(3) if (found := queue.take(0.0))]
+    taken = [item[0] for _ in range(3) if (item := queue.take(0.0))]
     for name in taken:
         done(queue, name, 1.0 if name == "evil" else LONG / 100)
-    while (found := queue.take(0.0)) and found[0] == "quick":
+    while (item := queue.take(0.0)) and item[0] == "quick":
         done(queue, "quick", LONG / 100)
-    assert found and found[0] == "evil"  # nobody else is left
+    assert item and item[0] == "evil"  # no other is left
     assert queue.take(0.0) and queue.take(0.0) is None
     queue.put("other", "o", 0.0)
     assert queue.take(0.0) == ("other", "o")
@@ -99,7 +99,7 @@ def test_who_computes_rests_while_others_are_active() -> None:
     assert queue.next_take(10.0) == 10.0 + MAX_REST
 
 
-def test_a_pool_goes_on_after_a_rest() -> None:
+def test_a_pool_continues_after_a_rest() -> None:
     """Without another request that would make it look."""
 
     async def main() -> None:
@@ -126,8 +126,7 @@ MAKERS = st.sampled_from("abcd")
 
 @given(st.lists(st.tuples(MAKERS, st.floats(0.0, 1.0)), max_size=60), st.integers(1, 3))
 def test_all_is_done_in_order(jobs: list[tuple[str, float]], threads: int) -> None:
-    """Whatever there is, all of it is taken once, that of each maker in its order, and never by more
-    threads than there are."""
+    """All work is taken once, that of each maker in its order, by no more threads than exist."""
     queue: FairQueue[tuple[int, float]] = FairQueue(threads, ComputingTime())
     now = 0.0
     for number, (name, seconds) in enumerate(jobs):
@@ -135,8 +134,8 @@ def test_all_is_done_in_order(jobs: list[tuple[str, float]], threads: int) -> No
     running: list[tuple[str, float]] = []
     order: dict[str, list[int]] = {}
     while True:
-        while found := queue.take(now):
-            name, (number, seconds) = found
+        while item := queue.take(now):
+            name, (number, seconds) = item
             order.setdefault(name, []).append(number)
             running.append((name, seconds))
         assert len(running) <= threads
@@ -179,8 +178,8 @@ def test_a_pool() -> None:
         may.set()
         assert await other == "o"
         assert len(order) <= 4
-        found = await asyncio.gather(*evil, raises, gone, return_exceptions=True)
-        assert isinstance(found[-2], ValueError) and isinstance(found[-1], asyncio.CancelledError)
+        item = await asyncio.gather(*evil, raises, gone, return_exceptions=True)
+        assert isinstance(item[-2], ValueError) and isinstance(item[-1], asyncio.CancelledError)
         assert "gone" not in order
         pool.close()
 

@@ -72,7 +72,7 @@ VALUES = ("7", "77", "7 ", "a", "A")
 
 
 def ask(task: Task) -> None:
-    raise ValueError(task.input["error"])
+    raise sagas.Retry(task.input["error"])
 
 
 async def ask_people(store: sagas.Store, count: int) -> None:
@@ -87,8 +87,8 @@ async def ask_people(store: sagas.Store, count: int) -> None:
 def definitions() -> dict[str, sagas.Saga]:
     """Return sagas: one fails permanently, one needs an operator, and one continues."""
     fails, asks, waits = sagas.Saga("fails"), sagas.Saga("asks"), sagas.Saga("waits")
-    fails.step(ask, name="a", undo=0)
-    asks.step(ask, name="a", undo=0, on_exhausted="ask")
+    fails.step(ask, name="a", undo=0, tries=1)
+    asks.step(ask, name="a", undo=0, on_exhausted="ask", tries=1)
     waits.approval(lambda task: None, name="a")
     return {saga.name: saga for saga in (fails, asks, waits)}
 
@@ -125,7 +125,7 @@ def test_filters_mean_the_same_over_both_databases(location: str) -> None:
                 labels = {"c": draw.choice(VALUES), "r": draw.choice("xy")}
                 name, error = draw.choice([*kinds]), draw.choice(ERRORS)
                 key = f"{ODD[number % len(ODD)]}~{number}"
-                rows[key] = {"saga": name, "labels": labels, "error": f"ValueError: {error}"}
+                rows[key] = {"saga": name, "labels": labels, "error": f"sagas.Retry: {error}"}
                 await store.start(kinds[name], key, {"error": error}, labels=labels)
             for key, row in rows.items():
                 if row["saga"] == "fails":
@@ -138,8 +138,8 @@ def test_filters_mean_the_same_over_both_databases(location: str) -> None:
             of = drawn(draw)
             wanted = sorted(key for key, row in rows.items() if is_selected(of, key, row))
             for few, in_order in ((False, False), (True, False), (False, True)):
-                where, parameters = of.where(of_few=few, in_order=in_order)
-                selected = link.ask(f"SELECT key FROM sagas s WHERE {where}", *parameters)
+                condition, parameters = of.condition(of_few=few, in_order=in_order)
+                selected = link.ask(f"SELECT key FROM sagas s WHERE {condition}", *parameters)
                 assert sorted(key for key, in selected) == wanted, (number, of)
 
 
@@ -149,11 +149,11 @@ def shop() -> tuple[sagas.Saga, list[bool]]:
 
     def work(task: Task) -> None:
         if not works:
-            raise ValueError("no stock")
+            raise sagas.Retry("no stock")
 
     inner, shop = sagas.Saga("inner"), sagas.Saga("shop")
-    inner.step(work, name="room", undo=0, on_exhausted="ask")
-    shop.step(work, name="ship", for_each="items", undo=0, on_exhausted="ask")
+    inner.step(work, name="room", undo=0, on_exhausted="ask", tries=1)
+    shop.step(work, name="ship", for_each="items", undo=0, on_exhausted="ask", tries=1)
     shop.include(inner, name="inc")
     return shop, works
 

@@ -31,7 +31,9 @@ def signed() -> sagas.Saga:
 
 def has_begun(store: sagas.Store, step: str) -> bool:
     waits = ("approval", "worker")
-    return any(one.step == step and one.waits in waits for one in store.active_attempts("k"))
+    return any(
+        attempt.step == step and attempt.waits in waits for attempt in store.active_attempts("k")
+    )
 
 
 async def waiting_for_report(store: sagas.Store, step: str) -> None:
@@ -39,39 +41,39 @@ async def waiting_for_report(store: sagas.Store, step: str) -> None:
     await until(lambda: has_begun(store, step))
 
 
-by_anybody = pytest.mark.parametrize(
-    ("location", "who"),
-    [("sqlite", "store"), *(("postgresql", who) for who in ("store", "node", "client"))],
+by_each_caller = pytest.mark.parametrize(
+    ("location", "caller"),
+    [("sqlite", "store"), *(("postgresql", caller) for caller in ("store", "node", "client"))],
     indirect=["location"],
 )
 """The caller: the program that has the saga, another one, or a client; a file is one program's."""
 
 
-async def teller(stack: AsyncExitStack, who: str, location: str, store: sagas.Store) -> Say:
-    if who == "store":
+async def teller(stack: AsyncExitStack, caller: str, location: str, store: sagas.Store) -> Say:
+    if caller == "store":
         return saying(store)
-    if who == "client":
+    if caller == "client":
         return saying(await stack.enter_async_context(sagas.Client(location)))
     node = sagas.open(location, [signed()], node="other")
     return saying(await stack.enter_async_context(node))
 
 
-def saying(who: sagas.Store | sagas.Client) -> Say:
+def saying(caller: sagas.Store | sagas.Client) -> Say:
     """Report by `complete`, or by `fail` if there is a reason."""
 
     async def say(
         key: str, step: str, *result: Any, error: str | None = None, early: bool = True
     ) -> None:
         if error is None:
-            await who.complete(key, step, *result, early=early)
+            await caller.complete(key, step, *result, early=early)
         else:
-            await who.fail(key, step, error, early=early)
+            await caller.fail(key, step, error, early=early)
 
     return say
 
 
-@by_anybody
-def test_the_same_again_is_one(location: str, who: str) -> None:
+@by_each_caller
+def test_the_same_again_is_one(location: str, caller: str) -> None:
     """Concurrently, while the saga continues, and when it is over; success or failure."""
     saga = signed()
 
@@ -87,7 +89,7 @@ def test_the_same_again_is_one(location: str, who: str) -> None:
             store = await stack.enter_async_context(sagas.open(location, [saga]))
             await store.start(saga, "k")
             await waiting_for_report(store, "print")
-            say = await teller(stack, who, location, store)
+            say = await teller(stack, caller, location, store)
             twice = await asyncio.gather(*(say("k", "print", {"page": 1}) for _ in range(3)))
             assert twice == [None] * 3
             await waiting_for_report(store, "sign")
@@ -111,8 +113,8 @@ def test_the_same_again_is_one(location: str, who: str) -> None:
     run(main())
 
 
-@by_anybody
-def test_two_answers_at_once(location: str, who: str) -> None:
+@by_each_caller
+def test_two_answers_at_once(location: str, caller: str) -> None:
     """One of them counts, and the other one gets that as its error."""
     saga = signed()
 
@@ -121,11 +123,14 @@ def test_two_answers_at_once(location: str, who: str) -> None:
             store = await stack.enter_async_context(sagas.open(location, [saga]))
             await store.start(saga, "k")
             await waiting_for_report(store, "print")
-            say = await teller(stack, who, location, store)
+            say = await teller(stack, caller, location, store)
             both = await asyncio.gather(
                 *(say("k", "print", n) for n in range(2)), return_exceptions=True
             )
-            assert sorted(type(one).__name__ for one in both) == ["ConflictingReport", "NoneType"]
+            assert sorted(type(outcome).__name__ for outcome in both) == [
+                "ConflictingReport",
+                "NoneType",
+            ]
 
     run(main())
 
@@ -175,15 +180,15 @@ async def busy(store: sagas.Store, saga: sagas.Saga) -> AsyncIterator[None]:
 
 
 @pytest.mark.parametrize(
-    "step, where, lost", pairs(("print", "sign"), ("store", "engine"), (False, True))
+    "step, reader, lost", pairs(("print", "sign"), ("store", "engine"), (False, True))
 )
 def test_the_second_of_two_is_answered_once_the_first_is_stored(
-    url: str, step: str, where: str, lost: bool
+    url: str, step: str, reader: str, lost: bool
 ) -> None:
     """It holds also if the shard moves before that, with the first one in progress to the store, or
     to the engine: then both are repeated at its new node.
     """
-    saga, places = signed(), {"print": 0, "sign": 1}
+    saga, numbers = signed(), {"print": 0, "sign": 1}
 
     async def main() -> None:
         async with sagas.open(url, [saga], lease=2) as store:
@@ -195,14 +200,14 @@ def test_the_second_of_two_is_answered_once_the_first_is_stored(
 
             async def say() -> bool:
                 await store.complete("k", step, "yes")
-                return is_kept(url, places[step])
+                return is_kept(url, numbers[step])
 
             async with AsyncExitStack() as stack:
-                if where == "engine":
+                if reader == "engine":
                     await stack.enter_async_context(busy(store, saga))
                 reached = stack.enter_context(held(url, lost=lost))
                 first = asyncio.create_task(say())
-                if where == "store":
+                if reader == "store":
                     await reached()
                 second = asyncio.create_task(say())
                 done, _ = await asyncio.wait([first, second], timeout=0.3)
@@ -214,9 +219,7 @@ def test_the_second_of_two_is_answered_once_the_first_is_stored(
 
 @pytest.mark.parametrize("same", [True, False], ids=["same", "other"])
 def test_a_report_waits_for_the_stored_outcome_of_the_function(url: str, same: bool) -> None:
-    """A report that comes while the step's function runs waits for it; the function gives the
-    outcome.
-    """
+    """A report that comes while the step's function runs waits for it, and the function decides."""
     saga, gate, calls = sagas.Saga("asks"), asyncio.Event(), list[str]()
 
     @saga.approval(name="sign")
@@ -250,11 +253,11 @@ def test_a_refusal_waits_until_its_reason_is_stored(url: str) -> None:
     """The step does not start any more, because another one failed."""
     saga, gate, calls = sagas.Saga("fails"), asyncio.Event(), list[str]()
 
-    @saga.step(skip=9)
+    @saga.step(skip=9, tries=1)
     async def first(task: Task) -> None:
         calls.append(task.attempt_id)
         await gate.wait()
-        raise sagas.Fail("for good")
+        raise sagas.Fail("permanently")
 
     saga.approval(name="sign", needs=[first])(lambda task: None)
 
@@ -279,12 +282,12 @@ def test_a_retry_follows_its_shard(url: str, on_its_way: str) -> None:
     """It was in progress to the store when the shard moved, or waited for the failure before it."""
     saga, calls, may_fail = sagas.Saga("retried"), list[str](), asyncio.Event()
 
-    @saga.step(on_exhausted="ask")
+    @saga.step(on_exhausted="ask", tries=1)
     async def call(task: Task) -> str:
         calls.append(task.attempt_id)
         if len(calls) == 1:
             await may_fail.wait()
-            raise ValueError("fails")
+            raise sagas.Retry("fails")
         return "done"
 
     async def main() -> None:
@@ -308,7 +311,9 @@ def test_a_retry_follows_its_shard(url: str, on_its_way: str) -> None:
             assert (await store.wait("k", 60)).results["call"] == "done"
 
     def has_waited(store: sagas.Store) -> bool:
-        return any(one.waits and one.waits != "worker" for one in store.active_attempts("k"))
+        return any(
+            attempt.waits and attempt.waits != "worker" for attempt in store.active_attempts("k")
+        )
 
     run(main())
 
@@ -320,17 +325,17 @@ def test_a_retry_is_called_whatever_is_stored_first(url: str, size: int) -> None
     """
     waiting_for_report, calls = list[str](), list[int]()
 
-    def tenant(given: dict[str, str]) -> str:
-        waiting_for_report.append(given["of"])
-        return given["of"]
+    def tenant(value: dict[str, str]) -> str:
+        waiting_for_report.append(value["of"])
+        return value["of"]
 
     saga = sagas.Saga("retried", fair_by=tenant)
 
-    @saga.step(on_exhausted="ask")
+    @saga.step(on_exhausted="ask", tries=1)
     async def call(task: Task) -> str:
         calls.append(task.attempt)
         if len(calls) == 1:
-            raise ValueError("fails")
+            raise sagas.Retry("fails")
         return "done"
 
     async def main() -> None:

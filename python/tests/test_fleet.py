@@ -24,7 +24,7 @@ from cases import QUICK, Task, ended, run, simple, until
 from driving import program
 
 import sagas
-from sagas.core.batch import Grant
+from sagas.core.shard.batch import Grant
 from sagas.definition.call_options import Bounds
 from sagas.runtime import fleet_limits
 from sagas.storage.postgresql.limit_slots import LimitSlots
@@ -36,7 +36,7 @@ class Count:
     """How many calls are inside at once, and in all."""
 
     def __init__(self) -> None:
-        self.now = self.most = 0
+        self.now = self.highest = 0
         self.least = 0  # a call inside stays until this many are at once
         self.by: Counter[str] = Counter()
         self.at: list[float] = []
@@ -46,8 +46,8 @@ class Count:
         self.at.append(time.monotonic())
         self.now += 1
         self.by[name] += 1
-        self.most = max(self.most, self.now)
-        while self.most < self.least:
+        self.highest = max(self.highest, self.now)
+        while self.highest < self.least:
             await asyncio.sleep(0.001)
         await asyncio.sleep(seconds)
         self.now -= 1
@@ -75,7 +75,7 @@ def test_no_more_than_its_limit_at_once(location: str) -> None:
             assert all(end.ok for end in ends)
 
     run(main())
-    assert count.most == 3 and sum(count.by.values()) == 40
+    assert count.highest == 3 and sum(count.by.values()) == 40
 
 
 def test_a_limit_holds_over_all_nodes(url: str) -> None:
@@ -101,7 +101,7 @@ def test_a_limit_holds_over_all_nodes(url: str) -> None:
             )
 
     run(main())
-    assert count.most == 4 and count.by == {f"n{number}": 20 for number in range(3)}
+    assert count.highest == 4 and count.by == {f"n{number}": 20 for number in range(3)}
 
 
 def test_a_step_at_its_fleet_limit_takes_no_slot(location: str) -> None:
@@ -122,7 +122,7 @@ def test_a_step_at_its_fleet_limit_takes_no_slot(location: str) -> None:
             await asyncio.gather(*(ended(store, quick, f"quick-{number}") for number in range(10)))
             assert await held[9].abort() and (await held[9].wait()).aborted  # it was never called
             gate.set()
-            assert all(end.ok for end in await asyncio.gather(*(one.wait() for one in held[:9])))
+            assert all(end.ok for end in await asyncio.gather(*(wait.wait() for wait in held[:9])))
 
     run(main())
 
@@ -182,7 +182,7 @@ def test_no_more_than_its_rate(location: str) -> None:
     async def step(task: Task) -> None:
         await count.inside("here")
         if task.attempt == 1:
-            raise ValueError("again")
+            raise sagas.Retry("again")
 
     kind = simple(step, rate_limit=(4, PERIOD), tries=2, backoff=QUICK)
 
@@ -209,20 +209,20 @@ def test_a_rate_holds_over_all_nodes(url: str) -> None:
     ]
 
     async def main() -> None:
-        async with sagas.open(url, [kinds[0]], node="one") as one, sagas.open(
+        async with sagas.open(url, [kinds[0]], node="one") as first, sagas.open(
             url, [kinds[1]], node="other"
         ) as other:
             await asyncio.gather(
                 *(
                     ended(node, kind, f"{at}-{number}")
-                    for at, (node, kind) in enumerate(zip((one, other), kinds))
+                    for at, (node, kind) in enumerate(zip((first, other), kinds))
                     for number in range(10)
                 )
             )
 
     began = time.monotonic()
     run(main())
-    assert sum(count.by.values()) == 20 and count.most <= 2
+    assert sum(count.by.values()) == 20 and count.highest <= 2
     # three of them by the server's clock, which may be adjusted a little in the meantime
     assert time.monotonic() - began >= 2.75 * PERIOD
 
@@ -277,7 +277,7 @@ def test_slots_are_not_lost_with_their_replies(url: str, monkeypatch: pytest.Mon
             await until(lambda: taken() == 0)
 
     run(main())
-    assert count.most <= 2
+    assert count.highest <= 2
 
 
 def test_a_lost_reply_is_resolved_by_its_own_gate(

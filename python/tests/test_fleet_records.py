@@ -79,15 +79,15 @@ def test_a_record_is_judged(
 ) -> None:
     """With and without it; and it has no key, no input and no result."""
     path = tmp_path / "node"
-    (one,) = judge(str(path), "--save", str(tmp_path / "saved"))
+    (shard,) = judge(str(path), "--save", str(tmp_path / "saved"))
     assert (
-        one["good"]
-        and one["answer"].startswith("yes sessions ")
-        and one["losses"] == one["ends_lost"] == []
+        shard["good"]
+        and shard["answer"].startswith("yes sessions ")
+        and shard["losses"] == shard["ends_lost"] == []
     )
     assert "told" in (tmp_path / "saved" / "0.record").read_text()
     (alone,) = judge()
-    assert alone["good"] and alone["events"] < one["events"]
+    assert alone["good"] and alone["events"] < shard["events"]
     assert (
         edges_of(path) == {"call", "wake"}
         and "secret" not in path.read_text()
@@ -116,8 +116,8 @@ def test_a_database_that_differs(
 ) -> None:
     """A commit is missing, is another one, or has another epoch; or takeovers, or the shard."""
     change(store, text)
-    (one,) = judge(str(tmp_path / "node"), status=1)
-    assert not one["good"] and one["answer"].startswith("no line ")
+    (shard,) = judge(str(tmp_path / "node"), status=1)
+    assert not shard["good"] and shard["answer"].startswith("no line ")
 
 
 @pytest.mark.parametrize(
@@ -150,13 +150,15 @@ def test_a_log_with_a_gap(
     """This holds without files, too: each commit has the number of events before it."""
     assert judge()[0]["gaps"] == []
     change(store, text)
-    (one,) = judge(status=1)
+    (shard,) = judge(status=1)
     assert (
-        not one["good"] and re.fullmatch(gap, one["gaps"][0]) and one["answer"].startswith("yes ")
+        not shard["good"]
+        and re.fullmatch(gap, shard["gaps"][0])
+        and shard["answer"].startswith("yes ")
     )
     assert store_command.main([store, "record"]) == 1
     shown = capsys.readouterr().out
-    assert "  NO    yes sessions " in shown and f"shard 0: gap: {one['gaps'][0]}" in shown
+    assert "  NO    yes sessions " in shown and f"shard 0: gap: {shard['gaps'][0]}" in shown
 
 
 def test_an_acknowledged_end_that_is_missing(
@@ -175,8 +177,8 @@ def test_an_acknowledged_end_that_is_missing(
     files = [str(tmp_path / "node"), str(tmp_path / "client")]
     assert judge(*files)[0]["good"] and fields_of(tmp_path / "client")[1][2:] == ["1", "client"]
     change(store, "UPDATE sagas SET phase = NULL WHERE key = 'secret-2'")
-    (one,) = judge(*files, status=1)
-    assert one["good"] and one["ends_lost"] == [1]
+    (shard,) = judge(*files, status=1)
+    assert shard["good"] and shard["ends_lost"] == [1]
     assert store_command.main([store, "record", *files]) == 1
     assert "shard 0: lost: the acknowledged ends of the sagas 1" in capsys.readouterr().out
 
@@ -259,7 +261,10 @@ def test_records_that_cannot_be(
     ("text", "edges_of"),
     [
         (None, "No such file or directory. Pass the file of a record"),
-        ("sagas-record 1 a\nwhat\n", "line 2: it is no event. Pass a file that a program wrote"),
+        (
+            "sagas-record 1 a\nwhat\n",
+            "line 2: it is not an event. Pass a file that a program wrote",
+        ),
         ("sagas-record 2 a\n", "line 1: its format is not 1"),
     ],
 )

@@ -24,8 +24,8 @@ def test_equal_steps_are_one_box() -> None:
     looks = ["x"] * 22
     looks[7] = "failed"
     boxes = folded(needs, looks)
-    assert [len(one.steps) for one in boxes] == [1, 19, 1, 1]
-    assert [one.needs for one in boxes] == [[], [0], [0], [1, 2]]
+    assert [len(box.steps) for box in boxes] == [1, 19, 1, 1]
+    assert [box.needs for box in boxes] == [[], [0], [0], [1, 2]]
 
 
 @settings(max_examples=200, deadline=None)
@@ -39,13 +39,13 @@ def test_none_is_lost(data: st.DataObject) -> None:
     ]
     looks = data.draw(st.lists(st.sampled_from("ab"), min_size=count, max_size=count))
     boxes = folded(needs, looks)
-    assert sorted(step for one in boxes for step in one.steps) == [*range(count)]
-    box_of = {step: number for number, one in enumerate(boxes) for step in one.steps}
-    for one in boxes:
-        assert len(one.steps) == 1 or len(one.steps) >= FEW
-        for step in one.steps:
-            assert {box_of[need] for need in needs[step]} == set(one.needs)
-            assert looks[step] == looks[one.steps[0]]
+    assert sorted(step for box in boxes for step in box.steps) == [*range(count)]
+    box_of = {step: number for number, box in enumerate(boxes) for step in box.steps}
+    for box in boxes:
+        assert len(box.steps) == 1 or len(box.steps) >= FEW
+        for step in box.steps:
+            assert {box_of[need] for need in needs[step]} == set(box.needs)
+            assert looks[step] == looks[box.steps[0]]
 
 
 def test_a_thousand_steps_are_drawn() -> None:
@@ -68,7 +68,7 @@ def test_a_thousand_steps_are_drawn() -> None:
 
 
 def test_failed_steps_come_first() -> None:
-    """It is first in its layer of the picture, in a table of which most rows are folded, and in a
+    """It is first in its layer of the picture, in a table whose rows mostly are folded, and in a
     timeline.
     """
     needs = [[], *([0] for _ in range(5)), [*range(1, 6)]]

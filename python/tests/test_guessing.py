@@ -18,8 +18,8 @@ import records
 from cases import Task, ended, run, simple, until
 
 import sagas
-from sagas.core import key_lookup
-from sagas.core.batch import Batch
+from sagas.api import store_access
+from sagas.core.shard.batch import Batch
 from sagas.storage.postgresql.commit_statement import Commit
 from sagas.storage.postgresql.storage import PostgreSQL
 from sagas.storage.postgresql.writer import Writer
@@ -118,13 +118,13 @@ def test_keys_that_are_there_among_new_ones(location: str, looks: list[str], old
             keys = [f"new-{number}" for number in range(30)] + [
                 f"old-{number}" for number in range(old)
             ]
-            given: list[Any] = [*range(30), *range(old)]
+            values: list[Any] = [*range(30), *range(old)]
             runs = await asyncio.gather(
-                *(store.start(kind, key, value) for key, value in zip(keys, given))
+                *(store.start(kind, key, value) for key, value in zip(keys, values))
             )
             assert [run.new for run in runs] == [True] * 30 + [False] * old
             gate.set()
-            assert [(await run.wait()).results["a"] for run in runs] == given
+            assert [(await run.wait()).results["a"] for run in runs] == values
             assert [(await run.wait()).results["a"] for run in waiting] == ["waits"] * 10
             assert all(verdict.startswith("yes") for verdict in (await store.audit()).values())
 
@@ -138,7 +138,7 @@ def test_a_key_that_is_over(
     """It is in the same log: its saga is returned, the next keys are looked for, and after enough
     new ones no more. It is the same after a restart.
     """
-    monkeypatch.setattr(key_lookup, "AGAIN", 3)
+    monkeypatch.setattr(store_access, "LOOKUPS_AFTER_TAKEN_KEY", 3)
     kind = step()
 
     async def main() -> None:
@@ -200,7 +200,7 @@ def test_offers_of_a_refused_commit(url: str, looks: list[str]) -> None:
             await first.start(kinds[0], "taken", 1)
             keys = ["a", "taken", "b", "c"]
             runs = await asyncio.gather(*(second.start(kinds[1], key, 1) for key in keys))
-            assert [one.new for one in runs] == [True, False, True, True]
+            assert [run.new for run in runs] == [True, False, True, True]
             await until(lambda: len(offered(url)) == 4)
             assert all(attempt.startswith(f"{saga}-") for attempt, saga in offered(url))
 

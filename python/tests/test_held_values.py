@@ -14,13 +14,13 @@ from cases import Task, run, until
 from test_codec import KNOWN
 
 import sagas
-from sagas.core.declared_values import OptionCalls
-from sagas.core.saga_instance import LARGE_VALUE
+from sagas.core.attempt.declared_values import OptionCalls
+from sagas.core.attempt.instance import LARGE_VALUE
 from sagas.core.states import AttemptState
 from sagas.definition.payloads import ABSENT
 
 BIG = "b" * (4 * LARGE_VALUE)
-GIVEN = {"who": "ann", "big": BIG, "parcels": {"x": BIG, "y": "small"}}
+INPUT = {"who": "ann", "big": BIG, "parcels": {"x": BIG, "y": "small"}}
 
 
 def kinds() -> list[sagas.Saga]:
@@ -28,12 +28,12 @@ def kinds() -> list[sagas.Saga]:
     inner, shaped = sagas.Saga("inner"), sagas.Saga("shaped")
     inner.step(lambda task: task.input, name="echo", undo=0)
 
-    made = sagas.Saga("made", fair_by=lambda given: given["who"])
+    made = sagas.Saga("made", fair_by=lambda input: input["who"])
     first = made.step(lambda task: [task.input["big"]], name="first", undo=1, keep=9)
 
     @first.compensation
     async def undo(task: Task) -> None:
-        assert task.result == [BIG] and task.input == GIVEN
+        assert task.result == [BIG] and task.input == INPUT
 
     ok = made.approval(lambda task: None, name="ok", needs=[first], skip=9)
     work = made.step(external=True, name="work", needs=[ok], undo=0)
@@ -43,7 +43,7 @@ def kinds() -> list[sagas.Saga]:
 
     @made.step(needs=[child], undo=0)
     async def last(task: Task) -> Any:
-        assert task.input == GIVEN and task.result_of(work) == {"big": BIG}
+        assert task.input == INPUT and task.result_of(work) == {"big": BIG}
         return [task.result_of(first), task.result_of(child)["results"]["echo"]]
 
     late = shaped.approval(lambda task: None, name="late")
@@ -77,7 +77,9 @@ def test_values_are_read_when_they_are_needed(
         return store
 
     async def waits(store: sagas.Store, key: str, why: str) -> None:
-        await until(lambda: [one for one in store.active_attempts(key) if one.waits == why])
+        await until(
+            lambda: [attempt for attempt in store.active_attempts(key) if attempt.waits == why]
+        )
 
     def nothing_held(store: sagas.Store) -> None:
         texts = held(store)
@@ -86,13 +88,13 @@ def test_values_are_read_when_they_are_needed(
     async def first() -> None:
         async with opened() as store:
             for saga, key in ((made, "k"), (made, "undone"), (shaped, "s")):
-                assert (await store.start(saga, key, GIVEN)).new
+                assert (await store.start(saga, key, INPUT)).new
                 await waits(store, key, "approval")
             nothing_held(store)
             for saga, key in ((made, "k"), (shaped, "s")):
-                assert not (await store.start(saga, key, GIVEN)).new
+                assert not (await store.start(saga, key, INPUT)).new
                 with pytest.raises(sagas.KeyConflict, match="another input"):
-                    await store.start(saga, key, GIVEN | {"big": "other"})
+                    await store.start(saga, key, INPUT | {"big": "other"})
             await store.fail("undone", "ok", "no")
             end = await store.wait("undone")
             assert end.states["first"] == "undone" and not await store.attention()
@@ -104,7 +106,7 @@ def test_values_are_read_when_they_are_needed(
             (task,) = await until(
                 lambda: store.workers.claim([("made", "work", "run")], holder="w")
             )
-            assert task.task.input == GIVEN and task.task.result_of("first") == [BIG]
+            assert task.task.input == INPUT and task.task.result_of("first") == [BIG]
             nothing_held(store)
             await store.workers.report(task.attempt_id, task.lease, {"big": BIG}, holder="w")
             await store.complete("s", "late")
@@ -148,7 +150,7 @@ def test_a_queue_holds_nothing(tmp_path: pathlib.Path) -> None:
 
 
 def test_one_claim_has_a_budget(url: str, monkeypatch: pytest.MonkeyPatch) -> None:
-    """Tasks beyond it are given back at once; one that is larger alone is handed out."""
+    """Tasks beyond it are returned at once; one that is larger alone is passed on."""
     from sagas.runtime import external_queue
 
     monkeypatch.setattr(external_queue, "BUDGET", 5 * len(BIG) // 2)
@@ -165,10 +167,10 @@ def test_one_claim_has_a_budget(url: str, monkeypatch: pytest.MonkeyPatch) -> No
             while len(seen) < 7:
                 options = {"limit": 10, "wait": 30.0, "holder": "w"}
                 tasks = await store.workers.claim([("made", "a", "run")], **options)
-                assert sum(len(one.task.input) for one in tasks) <= 5 * len(BIG) // 2 or (
+                assert sum(len(task.task.input) for task in tasks) <= 5 * len(BIG) // 2 or (
                     len(tasks) <= 2 and len(tasks[-1].task.input) == 4 * len(BIG)
                 )
-                seen |= {one.task.key for one in tasks}
+                seen |= {task.task.key for task in tasks}
             assert len(seen) == 7
 
     run(main())
@@ -202,10 +204,10 @@ def test_an_attempt_that_has_changed_does_not_continue(tmp_path: pathlib.Path) -
             executor, seen = coordinator.executor, list[Any]()
             guard, questions = attempt.pause_guard(), OptionCalls({})
             read = executor.values.then(attempt, seen.append)
-            asked = executor._answer_question(attempt, questions, guard, seen.append)
+            answering = executor._answer_question(attempt, questions, guard, seen.append)
             await running.wait()
             await read
-            await asked
+            await answering
             assert seen == []
             may_end.set()
             assert (await started.wait(60)).ok

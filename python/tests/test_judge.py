@@ -181,7 +181,7 @@ SPOILT: list[tuple[Callable[[Copy], None], str]] = [
 
 @pytest.fixture(scope="module")
 def good(tmp_path_factory: pytest.TempPathFactory) -> pathlib.Path:
-    """Return a store without strikes, and its witness's notes."""
+    """Return a store without faults, and its witness's notes."""
     folder = tmp_path_factory.mktemp("good")
     assert run_once(folder, COUNT) == 0
     return folder

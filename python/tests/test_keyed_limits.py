@@ -19,7 +19,7 @@ from typing import Any
 
 import psycopg
 import pytest
-from cases import PLACES, Task, pairs, run, until
+from cases import STORE_KINDS, Task, pairs, run, until
 from driving import program
 from test_codec import OLD, Encryption
 from witness import notes_of, witness_at
@@ -45,7 +45,7 @@ class Inside:
     def __init__(self, accounts: int) -> None:
         self.accounts, self.until = accounts, time.monotonic() + 60
         self.now: Counter[str] = Counter()
-        self.most: Counter[str] = Counter()
+        self.highest: Counter[str] = Counter()
         self.all = 0
         self.lock = threading.Lock()
 
@@ -57,7 +57,7 @@ class Inside:
     def call(self, account: str) -> Iterator[None]:
         with self.lock:
             self.now[account] += 1
-            self.most[account] = max(self.most[account], self.now[account])
+            self.highest[account] = max(self.highest[account], self.now[account])
             self.all = max(self.all, sum(self.now.values()))
         try:
             yield
@@ -90,7 +90,7 @@ def bank(inside: Inside, in_thread: bool, **limits: Any) -> sagas.Saga:
 
 @pytest.mark.parametrize(
     "location, limit, in_thread",
-    pairs(PLACES, ("concurrency", "fleet_concurrency"), (False, True)),
+    pairs(STORE_KINDS, ("concurrency", "fleet_concurrency"), (False, True)),
     indirect=["location"],
 )
 def test_a_limit_holds_for_each_key_by_itself(location: str, limit: str, in_thread: bool) -> None:
@@ -103,14 +103,14 @@ def test_a_limit_holds_for_each_key_by_itself(location: str, limit: str, in_thre
     async def main() -> None:
         async with sagas.open(location, [saga], concurrency=8) as store:
             runs = [await store.start(saga, f"k{n}", Order(f"a{n % 3}", n)) for n in range(12)]
-            for one in runs:
-                assert (await one.wait()).ok
+            for saga_run in runs:
+                assert (await saga_run.wait()).ok
             coordinator = store._coordinator
             assert not coordinator.slots._limits
             assert not any(gate.is_used() for gate in coordinator.executor.fleet._gates.values())
 
     run(main())
-    assert set(inside.most.values()) == {1} and inside.all == 3, inside.most
+    assert set(inside.highest.values()) == {1} and inside.all == 3, inside.highest
     if location.startswith("postgresql") and limit == "fleet_concurrency":
         with psycopg.connect(location) as link:
             assert link.execute("SELECT count(*) FROM sagas.limit_slots").fetchone() == (0,)
@@ -134,7 +134,7 @@ def test_rows_of_keys_are_those_of_calls(url: str) -> None:
     saga, plain = sagas.Saga("bank"), sagas.Saga("plain")
     plain.step(lambda task: None, name="a", fleet_concurrency=2)
 
-    @saga.step(fleet_concurrency=3, concurrency_by=lambda given: given)
+    @saga.step(fleet_concurrency=3, concurrency_by=lambda value: value)
     async def move(task: Task) -> None:
         inside[str(task.input)[:20]] += 1
         await opened.wait()
@@ -152,8 +152,8 @@ def test_rows_of_keys_are_those_of_calls(url: str) -> None:
             assert len(rows_of(url)) == 12 and set(names.values()) == {3}
             assert not any("DE89" in name or len(name) > 60 for name in names)
             opened.set()
-            for one in runs:
-                assert (await one.wait()).ok
+            for saga_run in runs:
+                assert (await saga_run.wait()).ok
             await until(lambda: rows_of(url) == [])
             with psycopg.connect(url) as link:
                 for slot, node in ((2, None), (3, "gone/1")):
@@ -192,28 +192,32 @@ def test_a_slot_of_a_dead_node_is_taken(url: str) -> None:
 def test_a_key_is_of_all_nodes(url: str) -> None:
     """Two nodes never call two steps of one account at the same time."""
     inside = Inside(2)
-    one, two = bank(inside, False, fleet_concurrency=1), bank(inside, False, fleet_concurrency=1)
+    first_bank, second_bank = bank(inside, False, fleet_concurrency=1), bank(
+        inside, False, fleet_concurrency=1
+    )
 
     async def main() -> None:
-        async with sagas.open(url, [one], node="one") as first, sagas.open(
-            url, [two], node="two"
+        async with sagas.open(url, [first_bank], node="one") as first, sagas.open(
+            url, [second_bank], node="two"
         ) as second:
-            runs = [await first.start(one, f"one-{n}", Order(f"a{n % 2}")) for n in range(6)]
-            runs += [await second.start(two, f"two-{n}", Order(f"a{n % 2}")) for n in range(6)]
+            runs = [await first.start(first_bank, f"one-{n}", Order(f"a{n % 2}")) for n in range(6)]
+            runs += [
+                await second.start(second_bank, f"two-{n}", Order(f"a{n % 2}")) for n in range(6)
+            ]
             for each in runs:
                 assert (await each.wait()).ok
 
     run(main())
-    assert set(inside.most.values()) == {1} and inside.all == 2
+    assert set(inside.highest.values()) == {1} and inside.all == 2
 
 
 def test_an_error_in_the_key_of_a_limit_fails_the_step(location: str) -> None:
     """Its function is not called; a key is JSON."""
 
-    def account(given: Any) -> Any:
-        if given == "odd":
+    def account(value: Any) -> Any:
+        if value == "odd":
             return object()
-        return given["account"]
+        return value["account"]
 
     saga = sagas.Saga("odd")
 
@@ -224,8 +228,8 @@ def test_an_error_in_the_key_of_a_limit_fails_the_step(location: str) -> None:
     async def main() -> None:
         async with sagas.open(location, [saga]) as store:
             errors = []
-            for number, given in enumerate([{}, "odd", {"account": None}]):
-                end = await (await store.start(saga, f"k{number}", given)).wait()
+            for number, value in enumerate([{}, "odd", {"account": None}]):
+                end = await (await store.start(saga, f"k{number}", value)).wait()
                 errors.append(end.errors.get("move", "done"))
             assert (
                 errors[0] == "KeyError: 'account'"
@@ -243,7 +247,7 @@ def test_invalid_limits_with_a_key_are_refused() -> None:
     async def move(task: Task) -> None:
         ...
 
-    def by(given: Any) -> Any:
+    def by(value: Any) -> Any:
         ...
 
     for options, text in [
@@ -266,7 +270,7 @@ def test_invalid_limits_with_a_key_are_refused() -> None:
 
 @pytest.mark.parametrize(
     "location, again, codec",
-    pairs(PLACES, (False, True), (None, Encryption(a=OLD))),
+    pairs(STORE_KINDS, (False, True), (None, Encryption(a=OLD))),
     indirect=["location"],
 )
 def test_a_small_tenant_does_not_wait_for_a_large_one(
@@ -278,7 +282,7 @@ def test_a_small_tenant_does_not_wait_for_a_large_one(
     """
     called: list[str] = []
     opened = asyncio.Event()
-    saga = sagas.Saga("shop", fair_by=lambda given: given["tenant"])
+    saga = sagas.Saga("shop", fair_by=lambda value: value["tenant"])
 
     @saga.step
     async def work(task: Task) -> None:
@@ -319,7 +323,7 @@ def test_the_tenant_of_a_saga_cannot_be_computed(
     tmp_path: pathlib.Path, caplog: pytest.LogCaptureFixture
 ) -> None:
     """Then the saga has no tenant; the log reports that without the input."""
-    saga = sagas.Saga("shop", fair_by=lambda given: given["tenant"])
+    saga = sagas.Saga("shop", fair_by=lambda value: value["tenant"])
 
     @saga.step
     async def work(task: Task) -> None:

@@ -9,9 +9,9 @@ import pytest
 from kills import KINDS, play
 
 AGAIN = 5
-"""Stores, until one of them is struck: a quick program may be done before its first strike."""
+"""Stores, until one of them gets a fault: a quick program may be done before its first strike."""
 ROUNDS = 3
-"""Stores of each kind. A store has up to twelve strikes, at different moments."""
+"""Stores of each kind. A store has up to twelve faults, at different moments."""
 
 
 @pytest.mark.parametrize("number", range(ROUNDS))
@@ -21,8 +21,8 @@ def test_nothing_is_lost_and_nothing_is_done_twice(kind: str, number: int) -> No
     database and logs agree in the end.
     """
     for again in range(AGAIN):
-        one = play(kind, 1000 * number + 100 * again + KINDS.index(kind), 40)
-        assert not one.problems, f"{one.folder}: {one.problems[:5]}"
-        if one.kills:
+        played = play(kind, 1000 * number + 100 * again + KINDS.index(kind), 40)
+        assert not played.problems, f"{played.folder}: {played.problems[:5]}"
+        if played.kills:
             break
-    assert sum(one.kills.values()) > 0
+    assert sum(played.kills.values()) > 0

@@ -69,14 +69,14 @@ def test_sagas_are_listed_by_their_labels(location: str) -> None:
             assert not (await store.start(kind, "b", labels={"customer": "8"})).new
         async with sagas.open(location, [kind]) as store:
             listed = await store.list(labels=CUSTOMER)
-            assert [(one.key, one.labels) for one in listed] == [
+            assert [(summary.key, summary.labels) for summary in listed] == [
                 ("a", CUSTOMER | {"region": "north"}),
                 ("b", CUSTOMER),
             ]
-            assert [one.key for one in await store.list(labels={"a b": "q\"'%;?"})] == ["c"]
-            assert [one.labels for one in await store.list(after=listed[-1].id, limit=5)][1:] == [
-                {}
-            ]
+            assert [summary.key for summary in await store.list(labels={"a b": "q\"'%;?"})] == ["c"]
+            assert [summary.labels for summary in await store.list(after=listed[-1].id, limit=5)][
+                1:
+            ] == [{}]
             assert await store.count(labels=CUSTOMER, phase="open", saga="signed") == 2
             for none in (CUSTOMER | {"region": "south"}, {"Customer": "7"}):
                 assert await store.count(labels=none) == 0
@@ -144,7 +144,7 @@ def test_all_sagas_of_a_filter_are_aborted_and_resolved(
     location: str, monkeypatch: pytest.MonkeyPatch
 ) -> None:
     """It takes several transactions; other sagas do not change, and the operator is recorded."""
-    monkeypatch.setattr(batches, "MOST", 4)
+    monkeypatch.setattr(batches, "MAX_SAGAS", 4)
     monkeypatch.setattr(operator_commands, "MAX_REQUESTS", 3)
 
     async def main() -> None:
@@ -161,7 +161,7 @@ def test_all_sagas_of_a_filter_are_aborted_and_resolved(
             assert not outcome.refused and not outcome.waiting
             for key in outcome.done:
                 assert (await store.wait(key)).aborted
-            assert [one.key for one in await store.list(phase="open")] == ["other"]
+            assert [summary.key for summary in await store.list(phase="open")] == ["other"]
             with pytest.raises(ValueError):
                 await store.resolve_all(" ")
             outcome = await store.resolve_all("called them", labels=CUSTOMER, by="ann")
@@ -177,9 +177,11 @@ def test_all_sagas_of_a_filter_are_aborted_and_resolved(
         (key, command, json.loads(value), answer)
         for key, command, value, answer in rows(location, query)
     ]
-    note = {"by": "ann", "note": "fraud"}
+    bulks = [value.pop("bulk") for _, _, value, _ in stored]
+    assert len({*bulks[:11]}) == 1 and len({*bulks[11:16]}) == 1 and len({*bulks}) == 2
+    note = {"by": "ann", "note": "fraud", "via": "program"}
     assert stored[:11] == [(f"k{number}", "abort", note, "true") for number in range(11)]
-    note = {"by": "ann", "note": "called them"}
+    note = {"by": "ann", "note": "called them", "via": "program"}
     assert stored[11:] == [(f"s{number}", "resolve", note, "true") for number in (1, 3, 5, 7, 9)]
 
 
@@ -248,7 +250,7 @@ def test_a_clients_start_has_its_labels(url: str) -> None:
             assert sorted((await client.abort_all(labels=CUSTOMER)).done) == ["a", "b"]
             async with sagas.open(url, [kind]) as store:
                 await until(lambda: rows(url, "SELECT 1 FROM sagas"))
-                assert [(one.key, one.labels) for one in await client.list()] == [
+                assert [(summary.key, summary.labels) for summary in await client.list()] == [
                     ("c", {"customer": "8"})
                 ]
                 assert await client.count(labels={"customer": "8"}) == 1
@@ -270,7 +272,7 @@ def test_without_async(location: str) -> None:
     """The same calls work in a thread."""
     with sagas.open_sync(location, [kind := signed()]) as store:
         store.start(kind, "a", labels=CUSTOMER)
-        assert [one.key for one in store.list(labels=CUSTOMER)] == ["a"] and store.count(
+        assert [summary.key for summary in store.list(labels=CUSTOMER)] == ["a"] and store.count(
             labels=CUSTOMER
         ) == 1
         assert (
@@ -282,8 +284,8 @@ def test_without_async(location: str) -> None:
 BATCH = """
     import sys, sagas.cli.store_command
     from sagas.storage import admin, batches
-    batches.MOST = 4
-    def notify(self, message):  # behind each transaction
+    batches.MAX_SAGAS = 4
+    def notify(self, message):  # after each transaction
         print("asked", flush=True)
         sys.stdin.readline()
     admin.FileSource.notify = admin.DatabaseSource.notify = notify

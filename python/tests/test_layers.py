@@ -109,7 +109,7 @@ def import_faults(module: str, tree: ast.AST) -> Iterator[str]:
             if RANK.get(other, len(RANK)) > RANK[package]:
                 yield f"imports {name}, of a higher layer"
             elif is_apart(package, other):
-                yield f"imports {name}, which stands apart"
+                yield f"imports {name}, which is apart"
         elif package == "core" and first in PURE:
             yield f"imports {first}"
         if first in DATABASES and not module.startswith(DATABASES[first]):
@@ -121,14 +121,14 @@ def attributes(node: ast.ClassDef) -> set[str]:
     functions set.
     """
     declared = {
-        one.target.id
-        for one in node.body
-        if isinstance(one, ast.AnnAssign) and isinstance(one.target, ast.Name)
+        statement.target.id
+        for statement in node.body
+        if isinstance(statement, ast.AnnAssign) and isinstance(statement.target, ast.Name)
     }
-    for one in ast.walk(node):
-        if isinstance(one, ast.Attribute) and isinstance(one.ctx, ast.Store):
-            if isinstance(one.value, ast.Name) and one.value.id == "self":
-                declared.add(one.attr)
+    for inner in ast.walk(node):
+        if isinstance(inner, ast.Attribute) and isinstance(inner.ctx, ast.Store):
+            if isinstance(inner.value, ast.Name) and inner.value.id == "self":
+                declared.add(inner.attr)
     return declared
 
 
@@ -161,3 +161,9 @@ def test_a_module_keeps_to_its_layer_and_size(module: str) -> None:
     if module.rpartition(".")[2] in ADVERBS:
         faults.add("is not named for a noun")
     assert faults == set(), "see the rules at the head of this file"
+
+
+def test_only_storage_reads_what_a_name_of_a_store_means() -> None:
+    """Other layers ask what a store supports: `supports_nodes`, `answers_at_once`."""
+    users = {module for module, path in MODULES.items() if "is_url(" in path.read_text()}
+    assert users and {module.partition(".")[0] for module in users} == {"storage"}

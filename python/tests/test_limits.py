@@ -53,8 +53,8 @@ def test_a_released_call_keeps_its_slot_until_it_ends(url: str, in_thread: bool)
             await until(lambda: not store.active_attempts("first"), 30)
             second = await store.start(kind, "second")
             await until(lambda: store.active_attempts("second"), 30)
-            (one,) = store.active_attempts("second")
-            assert one.waits == "concurrency" and begun == ["first"]
+            (attempt,) = store.active_attempts("second")
+            assert attempt.waits == "concurrency" and begun == ["first"]
             gate.set()
             opened.set()
             assert (await second.wait(30)).ok and begun == ["first", "second"]

@@ -18,7 +18,7 @@ import pytest
 from cases import ended, run, simple
 from serving import served, start
 from test_command import Shell
-from test_service_workers import ONE
+from test_service_workers import ONE_STEP
 
 import sagas
 from sagas.cli import store_command
@@ -43,10 +43,10 @@ def kinds() -> list[sagas.Saga]:
 
     stuck.step(name="a", undo=sagas.NEVER, skip=sagas.NEVER)(fails)
     many_stuck.step(name="a", for_each="items", undo=sagas.NEVER, skip=sagas.NEVER)(fails)
-    for one, options in ((kept, {}), (many_kept, {"for_each": "items"})):
-        first = one.step(name="a", undo=1, keep=9, **options)(lambda task: 1)
+    for kind, options in ((kept, {}), (many_kept, {"for_each": "items"})):
+        first = kind.step(name="a", undo=1, keep=9, **options)(lambda task: 1)
         first.compensation(on_exhausted="fail")(fails)
-        one.step(name="b", needs=[first], undo=0)(fails)
+        kind.step(name="b", needs=[first], undo=0)(fails)
     return [many, fixed, stuck, many_stuck, kept, many_kept]
 
 
@@ -88,11 +88,11 @@ def test_a_store_lists_by_the_start(location: str, capsys: pytest.CaptureFixture
                     if filter_options.get("phase") == "stuck"
                     else KEYS
                 )
-                assert [one.key for one in await store.list(**filter_options)] == wanted
+                assert [summary.key for summary in await store.list(**filter_options)] == wanted
                 for by_id in (True, False):
                     listed, page = list[str](), await store.list(**filter_options, limit=2)
                     while page:
-                        listed += [one.key for one in page]
+                        listed += [summary.key for summary in page]
                         last: Any = page[-1].id if by_id else page[-1]
                         page = await store.list(**filter_options, after=last, limit=2)
                     assert listed == wanted
@@ -103,7 +103,7 @@ def test_a_store_lists_by_the_start(location: str, capsys: pytest.CaptureFixture
     shell = Shell(location, capsys)
 
     def keys(*arguments: str) -> list[str]:
-        return [one["key"] for one in shell.json("list", *arguments)]
+        return [row["key"] for row in shell.json("list", *arguments)]
 
     assert keys() == KEYS and keys("--newest") == KEYS[::-1] and keys("--limit", "0") == KEYS
     assert keys("--after", "k3", "--limit", "2") == KEYS[4:6]
@@ -111,7 +111,7 @@ def test_a_store_lists_by_the_start(location: str, capsys: pytest.CaptureFixture
     assert keys("--saga", "many", "--newest", "--after", "k3") == [KEYS[2], KEYS[0]]
 
 
-def test_pages_go_on_when_their_last_saga_is_deleted(location: str) -> None:
+def test_pages_continue_when_their_last_saga_is_deleted(location: str) -> None:
     """Pages continue from the saga itself; the position of its id is unknown."""
 
     async def main() -> None:
@@ -122,7 +122,7 @@ def test_pages_go_on_when_their_last_saga_is_deleted(location: str) -> None:
                 link.changed("DELETE FROM sagas WHERE key = ?", page[-1].key)
             await store.start(some[0], "late", {"items": [1]})
             rest = await store.list(after=page[-1])
-            assert [one.key for one in (*page, *rest)] == [*KEYS, "late"]
+            assert [summary.key for summary in (*page, *rest)] == [*KEYS, "late"]
             for id in (page[-1].id, 1 << 70, -1):
                 with pytest.raises(ValueError, match=r"after=.*no saga.*list\(after=page\[-1\]\)"):
                     await store.list(after=id)
@@ -140,13 +140,13 @@ def test_two_nodes_and_a_client_list_alike(url: str) -> None:
 
     async def main() -> None:
         async with (
-            sagas.open(url, [kind], node="one") as one,
-            sagas.open(url, [kind], node="two") as two,
+            sagas.open(url, [kind], node="one") as first,
+            sagas.open(url, [kind], node="two") as second,
             sagas.Client(url) as client,
         ):
             for number, key in enumerate(KEYS):
-                await (one, two)[number % 2].start(kind, key)
-            for store in (one, two, client):
+                await (first, second)[number % 2].start(kind, key)
+            for store in (first, second, client):
                 assert [summary.key for summary in await store.list()] == KEYS
                 page = await store.list(limit=5)
                 rest = await store.list(after=page[-1], limit=5)
@@ -163,13 +163,12 @@ def test_attention_is_ordered_by_age(location: str) -> None:
         async with sagas.open(location, some := kinds()) as store:
             for number, key in enumerate(KEYS):
                 await ended(store, some[2 + number % 2], key, {"items": [1]})
-            assert [one.key for one in await store.stuck(limit=4)] == KEYS[:4]
-            assert [one.key for one in await store.attention(limit=4)] == KEYS[:4]
+            assert [entry.key for entry in await store.attention(limit=4)] == KEYS[:4]
             await store.resolve_all("done")
             for number, key in enumerate(KEYS):
                 await ended(store, some[4 + number % 2], f"u{key}", {"items": [1]})
             entries = await store.attention(limit=4)
-            assert [one.key for one in entries] == [f"u{key}" for key in KEYS[:4]]
+            assert [entry.key for entry in entries] == [f"u{key}" for key in KEYS[:4]]
 
     run(main())
 
@@ -193,7 +192,7 @@ def client(tmp_path_factory: pytest.TempPathFactory) -> Iterator[httpx.Client]:
     """Return a client of a service with sagas of two shards, alternately; some are stuck."""
     folder = tmp_path_factory.mktemp("order")
     (folder / "shop.py").write_text(SHOP)
-    with served(folder, {"one.toml": ONE}, "--app", "shop:store") as service:
+    with served(folder, {"one.toml": ONE_STEP}, "--app", "shop:store") as service:
         with service.client() as client:
             for number in range(COUNT):
                 start(client, ("many", "one")[number % 2], OPEN[number], {"items": [1]})
@@ -208,7 +207,7 @@ def pages(client: httpx.Client, path: str, name: str) -> list[str]:
     keys, after = list[str](), ""
     while True:
         page = client.get(f"{path}&limit=2{after}").json()
-        keys += [one["key"] for one in page[name]]
+        keys += [row["key"] for row in page[name]]
         if page["next"] is None:
             return keys
         after = f"&after={page['next']}"
@@ -225,7 +224,7 @@ def test_the_service_lists_the_newest_first(client: httpx.Client, query: str) ->
     start(client, "many", other := f"other-{len(query)}", {"items": [1]})
     path = f"/v1/sagas?search=saga-&phase=open&after={first['next']}"
     rest = client.get(path).json()
-    assert [one["key"] for one in (*first["sagas"], *rest["sagas"])] == OPEN[::-1]
+    assert [row["key"] for row in (*first["sagas"], *rest["sagas"])] == OPEN[::-1]
     client.post(f"/v1/sagas/{other}/abort", json={})
     assert client.get(f"/v1/sagas/{other}/wait").json()["phase"] == "recovered"
 
@@ -294,10 +293,10 @@ def test_an_older_store_gets_the_index(location: str, capsys: pytest.CaptureFixt
     """
     kind = simple(lambda task: 7)
 
-    async def once(where: str, key: str) -> None:
-        async with sagas.open(where, [kind]) as store:
+    async def once(location: str, key: str) -> None:
+        async with sagas.open(location, [kind]) as store:
             assert (await ended(store, kind, key)).ok
-            assert key in [one.key for one in await store.list()]
+            assert key in [summary.key for summary in await store.list()]
 
     run(once(location, "a"))
     assert has_index(location)
@@ -309,7 +308,7 @@ def test_an_older_store_gets_the_index(location: str, capsys: pytest.CaptureFixt
     else:
         with contextlib.closing(sqlite3.connect(location)) as db:
             db.execute("DROP INDEX sagas_started")
-    assert [one["key"] for one in Shell(location, capsys).json("list")] == ["a"]
+    assert [row["key"] for row in Shell(location, capsys).json("list")] == ["a"]
     assert not has_index(location)
     run(once(location, "b"))
     assert has_index(location) is not is_database
@@ -323,7 +322,7 @@ def test_an_older_store_gets_the_index(location: str, capsys: pytest.CaptureFixt
 
 
 def test_starts_round_trip(location: str) -> None:
-    """A start is read exactly as it was written: else pages would repeat sagas."""
+    """A start is read exactly as written: else pages would repeat sagas."""
     times = sorted(random.Random(7).uniform(1e9, 4e9) for _ in range(50))
 
     async def main() -> None:
@@ -337,7 +336,7 @@ def test_starts_round_trip(location: str) -> None:
             while page:
                 listed += page
                 page = await store.list(limit=1, after=page[-1])
-            assert [one.started for one in listed] == times
+            assert [summary.started for summary in listed] == times
 
     run(main())
 

@@ -52,7 +52,7 @@ FILTERS: dict[str, dict[str, Any]] = {
 
 
 def fill(location: str) -> None:
-    """Make sagas of some shards, of which some started at the same time."""
+    """Make sagas of some shards. Some started at the same time."""
     chance = random.Random(7)
     with contextlib.closing(admin.connect(location, "rw")) as link, link.transaction():
         true, false = (True, False) if location.startswith("postgresql:") else (1, 0)
@@ -82,25 +82,25 @@ def fill(location: str) -> None:
             )
 
 
-def of_pages(reader: StoreReader, of: Filter, newest: bool, most: int) -> list[Summary]:
+def of_pages(reader: StoreReader, of: Filter, newest: bool, limit: int) -> list[Summary]:
     """Return all pages, one after the other."""
     summaries: list[Summary] = []
     word, cursor = "before" if newest else "after", None
     while True:
         options: dict[str, Any] = {word: cursor}
-        page = reader.ask(pages.page(of=of, newest=newest, limit=most, **options))
+        page = reader.ask(pages.page(of=of, newest=newest, limit=limit, **options))
         summaries += page
-        if len(page) < most:
+        if len(page) < limit:
             return summaries
         cursor = filters.position_of(filters.cursor_of(pages.position_of(page[-1])))
 
 
-@pytest.mark.parametrize("few, near, most_near", [(1, 2, 7), (60, 1, 40), (0, 100, 20_000)])
+@pytest.mark.parametrize("few, near, max_near", [(1, 2, 7), (60, 1, 40), (0, 100, 20_000)])
 def test_pages_of_any_filter(
-    location: str, few: int, near: int, most_near: int, monkeypatch: pytest.MonkeyPatch
+    location: str, few: int, near: int, max_near: int, monkeypatch: pytest.MonkeyPatch
 ) -> None:
     """This holds whether the near ones are enough, or not, or all."""
-    for name, value in (("FEW", few), ("NEAR", near), ("MAX_NEAR", most_near)):
+    for name, value in (("FEW", few), ("NEAR", near), ("MAX_NEAR", max_near)):
         monkeypatch.setattr(pages, name, value)
 
     async def main() -> None:
@@ -112,24 +112,24 @@ def test_pages_of_any_filter(
     is_database = location.startswith("postgresql:")
     reader = StoreReader(DatabaseReader(location, "db") if is_database else FileReader(location))
     every = reader.ask(pages.page(limit=None))
-    assert len(every) == COUNT and len({one.started for one in every}) <= 100
-    assert every == sorted(every, key=lambda one: (one.started, one.id), reverse=True)
+    assert len(every) == COUNT and len({summary.started for summary in every}) <= 100
+    assert every == sorted(every, key=lambda summary: (summary.started, summary.id), reverse=True)
     for name, options in FILTERS.items():
         whole = reader.ask(pages.page(of=Filter(**options), limit=None))
-        ids = {one.id for one in whole}
+        ids = {summary.id for summary in whole}
         assert len(ids) == reader_count(location, Filter(**options)), name
-        wanted = [one for one in every if one.id in ids]
-        for most in (3, 50):
-            assert of_pages(reader, Filter(**options), True, most) == wanted, (name, most)
-            assert of_pages(reader, Filter(**options), False, most) == wanted[::-1], (name, most)
+        wanted = [summary for summary in every if summary.id in ids]
+        for limit in (3, 50):
+            assert of_pages(reader, Filter(**options), True, limit) == wanted, (name, limit)
+            assert of_pages(reader, Filter(**options), False, limit) == wanted[::-1], (name, limit)
     reader.close()
 
 
 def reader_count(location: str, of: Filter) -> int:
     """Return how many sagas of a filter there are."""
-    where, parameters = of.where()
+    condition, parameters = of.condition()
     with contextlib.closing(admin.connect(location)) as link:
-        return int(link.ask(f"SELECT count(*) FROM sagas s WHERE {where}", *parameters)[0][0])
+        return int(link.ask(f"SELECT count(*) FROM sagas s WHERE {condition}", *parameters)[0][0])
 
 
 def test_cursors_round_trip() -> None:

@@ -13,7 +13,7 @@ from cases import Task, run, until
 
 import sagas
 from sagas.base.errors import StoreUnavailable
-from sagas.core.batch import Batch, LoadedShard
+from sagas.core.shard.batch import Batch, LoadedShard
 from sagas.storage.postgresql import connections
 from sagas.storage.postgresql.shard_loader import ShardLoader
 from sagas.storage.postgresql.writer import Writer
@@ -45,7 +45,9 @@ def logs(url: str, monkeypatch: pytest.MonkeyPatch) -> list[int]:
         ...
 
     async def main() -> None:
-        async with sagas.open(url, [kind], clock=lambda: 1000.0, on_event=events.append) as store:
+        async with sagas.open(
+            url, [kind], settings=sagas.Settings(clock=lambda: 1000.0), on_event=events.append
+        ) as store:
             for number in range(LOGS * ROOM):
                 await store.start(kind, f"k{number}", {"n": number}, deadline=7200)
             await until(
@@ -77,7 +79,7 @@ def is_whole(loaded: LoadedShard | None, index: int, epoch: int) -> bool:
     numbers = [*range(index * ROOM, index * ROOM + ROOM)]
     open = [(key, json.loads(text), until) for _, key, _, text, until, *_ in loaded.open]
     assert open == [(f"k{number}", {"n": number}, 8200.0) for number in numbers]
-    assert all(type(until) is float for *_, until, _, _ in loaded.open)
+    assert all(type(until) is float for *_, until, _, _, _ in loaded.open)
     assert {(id, step, outcome, value) for id, step, _, _, outcome, value, _ in loaded.results} == {
         (id, 0, "commit", '"a \\"word\\""') for id in ids
     }
@@ -147,7 +149,7 @@ def test_a_commit_after_a_missing_chunk(
     def batch(loaded: LoadedShard, log: int) -> Batch:
         written = Batch(log, 5.5, loaded.events, loaded.epoch)
         written.text = "{}\n" if has_lines else ""
-        written.rare_rows.asked.append((("key", "abort", str(log), 1.0), "null"))
+        written.rare_rows.requested.append((("key", "abort", str(log), 1.0), "null"))
         return written
 
     async def main() -> None:
@@ -165,7 +167,7 @@ def test_a_commit_after_a_missing_chunk(
                 f" WHERE shard = {differs} AND {last}".encode()
             )
         lost = set[int]()
-        for group in [batches] if together else [[one] for one in batches]:
+        for group in [batches] if together else [[batch] for batch in batches]:
             written = asyncio.get_running_loop().create_future()
             writer.commit(group, lambda *result, written=written: written.set_result(result))
             _, fault, refused = await written
@@ -233,7 +235,7 @@ def test_locked_logs_delay_no_request(url: str, logs: list[int]) -> None:
                         " wait_event_type = 'Lock'"
                     ).fetchall()
                 )
-                # else it is after them, and the pool gives up
+                # else it is after them, and the pool stops
                 assert await loads._asker.ask("SELECT 1") == [(1,)]
                 assert not any(wait.done() for wait in waits)
                 stranger.rollback()

@@ -11,7 +11,7 @@ import records
 from cases import QUICK, Task, run, until
 
 import sagas
-from sagas.inspection import lists, pages, saga as one_saga, what_if
+from sagas.inspection import lists, pages, saga as one_saga, store_figures, what_if
 from sagas.inspection.question import StoreReader
 from sagas.server import json_views
 
@@ -43,11 +43,11 @@ def test_reads_and_the_record_of_operators(location: str) -> None:
 
     async def main() -> None:
         async with sagas.open(location, [kind]) as store:
-            looks = StoreReader(store.reader())
+            looks = StoreReader(store._reader())
             try:
                 for key in ("one", "two", "t_ree"):
                     await store.start(kind, key=key, input={"n": key})
-                await until(lambda: looks.ask(lists.attention_counts())["approval"] == 3)
+                await until(lambda: looks.ask(store_figures.attention_counts())["approval"] == 3)
                 assert looks.ask(lists.counts()) == {
                     "asking": {"open": 3, "completed": 0, "recovered": 0, "stuck": 0, "resolved": 0}
                 }
@@ -60,7 +60,7 @@ def test_reads_and_the_record_of_operators(location: str) -> None:
                 )
                 assert not await store.abort("two", by="bob")
                 noted: list[Any] = [
-                    (note.what, note.told["by"], note.told["note"], note.answer)
+                    (note.what, note.arguments["by"], note.arguments["note"], note.answer)
                     for key in ("one", "two")
                     for note in looks.ask(one_saga.notes(key))
                 ]
@@ -68,8 +68,8 @@ def test_reads_and_the_record_of_operators(location: str) -> None:
                     ("complete", "ann", "seen", True),
                     ("abort", "bob", "no more", True),
                 ]
-                assert [one.key for one in looks.ask(pages.page(phase="completed"))] == ["one"]
-                assert [one.key for one in looks.ask(pages.page(search="t_"))] == ["t_ree"]
+                assert [row.key for row in looks.ask(pages.page(phase="completed"))] == ["one"]
+                assert [row.key for row in looks.ask(pages.page(search="t_"))] == ["t_ree"]
                 assert looks.ask(lists.stuck()) == []
                 view = looks.ask(one_saga.view("two"))
                 assert (
@@ -108,7 +108,7 @@ def test_events_keep_the_order_of_their_log(location: str) -> None:
     async def a(task: Task) -> int:
         clock.by -= 1
         if task.attempt < 3:
-            raise ValueError(f"try {task.attempt}")
+            raise sagas.Retry(f"try {task.attempt}")
         return task.attempt
 
     @kind.approval(needs=[a])
@@ -120,11 +120,11 @@ def test_events_keep_the_order_of_their_log(location: str) -> None:
         clock.by -= 60
 
     async def main() -> None:
-        async with sagas.open(location, [kind], clock=clock) as store:
+        async with sagas.open(location, [kind], settings=sagas.Settings(clock=clock)) as store:
             run = await store.start(kind, "k")
-            looks = StoreReader(store.reader())
+            looks = StoreReader(store._reader())
             try:
-                await until(lambda: looks.ask(lists.attention_counts())["approval"])
+                await until(lambda: looks.ask(store_figures.attention_counts())["approval"])
                 clock.by += 30
                 await store.complete("k", "agreed", "yes", by="ann")
                 assert (await run.wait()).ok
@@ -134,19 +134,19 @@ def test_events_keep_the_order_of_their_log(location: str) -> None:
             assert view
             names = [step.name for step in kind.steps]
             (kept,) = records.read(location).logs.values()
-            steps = [names[one["step"]] if "step" in one else None for one in kept.events]
-            wanted = [*zip([one["event"] for one in kept.events], steps)]
+            steps = [names[event["step"]] if "step" in event else None for event in kept.events]
+            wanted = [*zip([event["event"] for event in kept.events], steps)]
             times = [event.at for event in view.events]
             assert times != sorted(times) and times[-1] < times[0]
-            assert [(one.event, one.step) for one in await store.log("k")] == wanted
-            ordered = [(one["event"], one["step"]) for one in json_views.log(view)]
+            assert [(event.event, event.step) for event in await store.log("k")] == wanted
+            ordered = [(event["event"], event["step"]) for event in json_views.log(view, clock())]
             note = ordered.index(("note", "agreed"))
             assert ordered[note - 1] == ("start_run", "agreed")
             assert ordered[note + 1] == ("commit", "agreed")
             assert ordered[:note] + ordered[note + 1 :] == wanted
             for events in (await store.log("k"), view.events):
                 errors = [event.value["error"] for event in events if event.event == "missed"]
-                assert errors == ["ValueError: try 1", "ValueError: try 2"]
+                assert errors == ["sagas.Retry: try 1", "sagas.Retry: try 2"]
 
     run(main())
 
@@ -159,7 +159,7 @@ class Counting:
 
     def rows(self, query: str, *parameters: Any) -> list[tuple[Any, ...]]:
         rows_read: list[tuple[Any, ...]] = self._reader.rows(query, *parameters)
-        self.read += sum(len(one) for row in rows_read for one in row if isinstance(one, str))
+        self.read += sum(len(cell) for row in rows_read for cell in row if isinstance(cell, str))
         return rows_read
 
     def close(self) -> None:
@@ -178,13 +178,17 @@ def test_one_saga_of_a_long_shard(location: str) -> None:
         async with sagas.open(location, [kind]) as store:
             for number in range(100):
                 assert (await (await store.start(kind, f"k{number}")).wait()).ok
-            counting = Counting(store.reader())
+            counting = Counting(store._reader())
             looks = StoreReader(counting)
             try:
                 view = looks.ask(one_saga.view("k50"))
             finally:
                 looks.close()
-            assert view and [one.event for one in view.events] == ["open", "start_run", "commit"]
+            assert view and [event.event for event in view.events] == [
+                "open",
+                "start_run",
+                "commit",
+            ]
             (kept,) = records.read(location).logs.values()
             whole = sum(len(text) for _, text in kept.chunks)
             assert counting.read < whole / 5
@@ -214,16 +218,20 @@ def test_what_if_a_step_has_failed_permanently(tmp_path: pathlib.Path) -> None:
 
     async def main() -> None:
         async with sagas.open(tmp_path / "store.db", [run_fails, undo_fails]) as store:
-            looks = StoreReader(store.reader())
+            looks = StoreReader(store._reader())
 
             def view(key: str) -> Any:
                 return looks.ask(one_saga.view(key))
 
             async def has(key: str, step: str, state: str) -> None:
-                await until(lambda: {one.name: one.state for one in view(key).steps}[step] == state)
+                await until(
+                    lambda: {step.name: step.state for step in view(key).steps}[step] == state
+                )
 
             async def missed(key: str, outcome: str) -> None:
-                await until(lambda: any(one.outcome == outcome for one in view(key).attempts))
+                await until(
+                    lambda: any(attempt.outcome == outcome for attempt in view(key).attempts)
+                )
 
             try:
                 for kind in (run_fails, undo_fails):

@@ -19,7 +19,16 @@ from typing import Any
 import psycopg
 import pytest
 import records
-from cases import QUICK, Task, ended, run, simple, surely_ended, until
+from cases import (
+    QUICK,
+    Task,
+    ended,
+    run,
+    simple,
+    surely_ended,
+    unknown_attempts,
+    until,
+)
 from driving import program
 from relay import relaying
 from server import Server
@@ -167,12 +176,14 @@ def test_a_caller_at_another_node_gets_the_end(url: str) -> None:
         ...
 
     async def main() -> None:
-        async with sagas.open(url, [kind, signed]) as one, sagas.open(url, [kind, signed]) as other:
-            await one.start(kind, "k")
+        async with sagas.open(url, [kind, signed]) as first, sagas.open(
+            url, [kind, signed]
+        ) as other:
+            await first.start(kind, "k")
             waiting = asyncio.create_task(other.wait("k"))
-            await one.start(kind, "gone")
+            await first.start(kind, "gone")
             assert await other.abort("gone") is True and await other.abort("gone") is False
-            await one.start(signed, "s")
+            await first.start(signed, "s")
             await until(lambda: records.read(url).sagas["s"])
             await other.complete("s", sign, {"by": "Ada"})
             assert (await other.wait("s")).results == {"sign": {"by": "Ada"}}
@@ -190,7 +201,7 @@ def test_a_caller_at_another_node_gets_the_end(url: str) -> None:
 # -- takeover
 
 
-def test_a_killed_nodes_sagas_go_on(tmp_path: pathlib.Path, url: str) -> None:
+def test_a_killed_nodes_sagas_continue(tmp_path: pathlib.Path, url: str) -> None:
     """After its lease another node calls its open steps again, with the same tokens."""
     calls: list[str] = []
     tokens: list[tuple[str, str]] = []
@@ -355,7 +366,9 @@ def test_a_log_that_another_node_wrote_in_the_meantime(
     kinds = [pair(gate, of) for gate, of in zip(gates, calls)]
 
     async def main() -> None:
-        async with sagas.open(url, [kinds[0]], node="same", lease=600, idle=0.01) as first:
+        async with sagas.open(
+            url, [kinds[0]], node="same", lease=600, settings=sagas.Settings(idle=0.01)
+        ) as first:
             await first.start(kinds[0], "k")
             await until(lambda: calls[0])
             assert first._coordinator
@@ -373,7 +386,7 @@ def test_a_log_that_another_node_wrote_in_the_meantime(
 
 
 def test_a_log_that_a_node_has_no_functions_for_is_left(url: str) -> None:
-    """It is listed by name, and driven by the node that has the functions, as in a
+    """It is listed by name, and executed by the node that has the functions, as in a
     rolling deploy.
     """
     gate = asyncio.Event()
@@ -394,9 +407,9 @@ def test_a_log_that_a_node_has_no_functions_for_is_left(url: str) -> None:
     run(main())
 
 
-def test_a_log_that_was_left_is_judged_again(url: str, caplog: pytest.LogCaptureFixture) -> None:
-    """Another node has ended the sagas whose functions this one lacks: once that node is gone, this
-    one drives the others.
+def test_a_log_is_taken_for_one_of_its_sagas(url: str, caplog: pytest.LogCaptureFixture) -> None:
+    """This node lacks the functions of another saga in it, which a later node ends. Once that node
+    is gone, this one drives the shard again.
     """
     gates, calls = {name: asyncio.Event() for name in ("goes", "stays")}, list[str]()
     goes, stays = (pair(gate, calls, name) for name, gate in gates.items())
@@ -408,7 +421,8 @@ def test_a_log_that_was_left_is_judged_again(url: str, caplog: pytest.LogCapture
             await until(lambda: len(calls) == 2)
         async with sagas.open(url, [stays], lease=2.0) as store:
             lease = store._coordinator.store.lease  # type: ignore[attr-defined]
-            assert len(lease.left) == len(records.read(url).logs) == 1
+            assert len(records.read(url).logs) == 1 and not lease.left
+            await until(lambda: calls.count("stays") == 2)
             async with sagas.open(url, [goes, stays], shutdown_timeout=0.0) as both:
                 gates["goes"].set()
                 assert (await both.wait("goes")).ok
@@ -417,14 +431,14 @@ def test_a_log_that_was_left_is_judged_again(url: str, caplog: pytest.LogCapture
             assert not lease.left
 
     run(main())
-    assert not [one for one in caplog.records if "no node executes" in one.getMessage()]
+    assert not [record for record in caplog.records if "no node executes" in record.getMessage()]
 
 
 def test_sagas_without_a_driving_node_are_reported(
     url: str, caplog: pytest.LogCaptureFixture
 ) -> None:
     """A node without the functions of open sagas reports once which they are and how many, as soon
-    as no node has driven them for a lease. To find that out it does not give up its own shards,
+    as no node has executed them for a lease. To find that out it does not give up its own shards,
     even if a table is locked. The report of a log that was left is dropped once it is closed.
     """
     gate, calls, events = asyncio.Event(), list[str](), list[sagas.Event]()
@@ -436,7 +450,9 @@ def test_sagas_without_a_driving_node_are_reported(
 
     def warnings() -> list[str]:
         return [
-            one.getMessage() for one in caplog.records if "no node executes" in one.getMessage()
+            record.getMessage()
+            for record in caplog.records
+            if "no node executes" in record.getMessage()
         ]
 
     async def main() -> None:
@@ -510,18 +526,18 @@ def test_nothing_is_kept_of_reports_that_another_node_waits_for(url: str) -> Non
             waiting = store._coordinator.external._reports
             await until(lambda: all_reported_unknown(store, 3))
             await until(lambda: len(waiting) == 3)
-            tokens = {held.attempt_id for held in await store.unknown()}
+            attempts = await unknown_attempts(store)
             async with sagas.open(url, [second], node="same", shutdown_timeout=0.0) as other:
                 await until(lambda: not store._coordinator.sagas.by_key)
                 await until(lambda: not waiting)
-                assert {held.attempt_id for held in await other.unknown()} == tokens
+                assert await unknown_attempts(other) == attempts
 
     run(main())
 
 
 async def all_reported_unknown(store: sagas.Store, count: int) -> bool:
     """Return whether `count` attempts are recorded as unknown."""
-    return len(await store.unknown()) == count
+    return len(await unknown_attempts(store)) == count
 
 
 def test_a_lost_connection_is_not_reported_as_a_dead_engine(postgresql: Server, url: str) -> None:
@@ -606,7 +622,7 @@ def test_a_large_commit_is_taken_apart_piece_by_piece(
     """A commit with more rows than PostgreSQL can unnest at once uses the other form of the
     statement, with the same result.
     """
-    monkeypatch.setattr(commit_statement, "MOST", 0)
+    monkeypatch.setattr(commit_statement, "MAX_PARSED", 0)
     kind = simple(lambda task: 1)
 
     async def main() -> None:
@@ -741,11 +757,13 @@ def test_new_sagas_go_to_a_log_of_the_nodes_own(url: str) -> None:
             return {str(owner) for (owner,) in link.execute(text, (list(keys),)).fetchall()}
 
     async def main() -> None:
-        async with sagas.open(url, [kind], node="one", lease=600) as one:
-            async with sagas.open(url, [kind], node="two", lease=600, shutdown_timeout=0.0) as two:
+        async with sagas.open(url, [kind], node="one", lease=600) as first:
+            async with sagas.open(
+                url, [kind], node="two", lease=600, shutdown_timeout=0.0
+            ) as second:
                 for number in range(3):
                     await asyncio.gather(
-                        one.start(kind, f"one {number}"), two.start(kind, f"two {number}")
+                        first.start(kind, f"one {number}"), second.start(kind, f"two {number}")
                     )
                 mine, others = [
                     owners(*(f"{name} {number}" for number in range(3))) for name in ("one", "two")
@@ -755,14 +773,14 @@ def test_new_sagas_go_to_a_log_of_the_nodes_own(url: str) -> None:
                     "two",
                 ]
             await until(lambda: owners("two 0") == mine)
-            await asyncio.gather(*(one.start(kind, f"later {number}") for number in range(3)))
+            await asyncio.gather(*(first.start(kind, f"later {number}") for number in range(3)))
             assert owners("later 0", "later 1", "later 2") == mine
             gate.set()
             assert all(
                 end.ok
                 for end in await asyncio.gather(
                     *(
-                        one.wait(f"{name} {number}")
+                        first.wait(f"{name} {number}")
                         for name in ("one", "two", "later")
                         for number in range(3)
                     )
@@ -904,7 +922,7 @@ def test_the_last_commit_before_a_takeover_counts(
 def test_a_start_that_comes_late(postgresql: Server, url: str, is_born: bool) -> None:
     """Its statement waits at the server while its connection is cut.
 
-    The caller gets an unknown outcome, and starts it again: the saga exists once, and is driven,
+    The caller gets an unknown outcome, and starts it again: the saga exists once, and is executed,
     whether the first statement is done later or not.
     """
     calls: list[str] = []
@@ -961,7 +979,7 @@ def test_a_start_that_comes_late(postgresql: Server, url: str, is_born: bool) ->
     assert sorted(set(calls)) == ["k0", "k1", "late"]
 
 
-def test_a_log_that_could_not_be_given_back(url: str, monkeypatch: pytest.MonkeyPatch) -> None:
+def test_a_log_that_could_not_be_returned(url: str, monkeypatch: pytest.MonkeyPatch) -> None:
     """A node lacks a function of a log that it just took, and the server does not answer as it
     releases it: it is released the next time.
     """
@@ -1007,17 +1025,17 @@ def test_notifications_of_events(url: str, monkeypatch: pytest.MonkeyPatch) -> N
     kind = pair(gate)
 
     async def main() -> None:
-        async with sagas.open(url, [kind]) as one, sagas.open(url, [kind]) as other, sagas.Client(
+        async with sagas.open(url, [kind]) as first, sagas.open(url, [kind]) as other, sagas.Client(
             url
         ) as client:
             async with asyncio.timeout(100):
-                await one.start(kind, "k")
+                await first.start(kind, "k")
                 waiting = [
                     asyncio.create_task(other.wait("k")),
                     asyncio.create_task(client.wait("k")),
                 ]
                 started = await client.start(kind, "of a client")
-                await one.start(kind, "gone")
+                await first.start(kind, "gone")
                 assert await other.abort("gone")
                 gate.set()
                 assert (
@@ -1077,10 +1095,10 @@ def test_an_end_is_noticed_without_a_notification(
     monkeypatch.setattr(notifications.Notifications, "of", of)
 
     async def main() -> None:
-        async with sagas.open(url, [kind], node="one") as one, sagas.open(
+        async with sagas.open(url, [kind], node="one") as first, sagas.open(
             url, [kind], node="other"
         ) as other:
-            await one.start(kind, "k")
+            await first.start(kind, "k")
             waiting = asyncio.create_task(other.wait("k"))
             await asyncio.sleep(1.0)
             # with one look per second, it would be a hundred
@@ -1117,7 +1135,7 @@ def test_the_server_is_stopped_and_started(postgresql: Server, tmp_path: pathlib
             await asyncio.to_thread(server.stop, "immediate")
             await asyncio.sleep(0.5)
             await asyncio.to_thread(server.start)
-            assert all(end.ok for end in await asyncio.gather(*(one.wait() for one in runs)))
+            assert all(end.ok for end in await asyncio.gather(*(run.wait() for run in runs)))
 
     with serving({"fsync": "on"}) as server:
         run(main(server))
@@ -1138,12 +1156,13 @@ def test_a_start_without_a_server_is_refused(url: str, monkeypatch: pytest.Monke
             )
             refused = [
                 number
-                for number, one in enumerate(results)
-                if isinstance(one, sagas.StoreUnavailable)
+                for number, result in enumerate(results)
+                if isinstance(result, sagas.StoreUnavailable)
             ]
             assert (
                 refused
-                and len(refused) + sum(isinstance(one, sagas.SagaResult) for one in results) == 200
+                and len(refused) + sum(isinstance(result, sagas.SagaResult) for result in results)
+                == 200
             )
             assert (await surely_ended(store, kind, f"k{refused[0]}")).ok
 
@@ -1177,9 +1196,9 @@ def test_a_look_for_a_key_ends_when_the_store_closes(
                 await asyncio.wait(requests, timeout=10)
                 silent.set()
                 await closing
-                assert {type(one.exception()) if one.done() else None for one in requests} == {
-                    sagas.Closed
-                }
+                assert {
+                    type(request.exception()) if request.done() else None for request in requests
+                } == {sagas.Closed}
 
     run(main())
 
@@ -1210,7 +1229,7 @@ def test_the_answer_to_a_withdrawal_is_lost(postgresql: Server, url: str) -> Non
     run(main())
 
 
-def test_a_node_is_gone_in_the_middle_of_a_claim(
+def test_a_node_is_gone_during_a_claim(
     postgresql: Server, url: str, monkeypatch: pytest.MonkeyPatch
 ) -> None:
     """The server does not notice it, as when a machine loses its power: others wait for its locks
@@ -1342,8 +1361,7 @@ READS: dict[str, Callable[[sagas.Store], Awaitable[Any]]] = {
     "log": lambda store: store.log("k"),
     "plan": lambda store: store.plan("k"),
     "draw": lambda store: store.draw("k"),
-    "stuck": lambda store: store.stuck(),
-    "unknown": lambda store: store.unknown(),
+    "attention": lambda store: store.attention(),
     "wait": lambda store: store.wait("other's"),
     "audit": lambda store: store.audit(),
     "log of a run": lambda store: sagas.Run(store, "k").log(),
@@ -1382,14 +1400,14 @@ def test_reads_do_not_block_the_loop(url: str, table: str) -> None:
                     await until(lambda: asyncio.to_thread(waits_in, url))
                     since = node._until
                     await until(lambda: node._until > since + lease + 0.5)
-                    assert store.holds() and not answers.done()
+                    assert store._holds() and not answers.done()
                 assert turns.longest < 1.0
                 stranger.rollback()
                 results = dict(zip(reads, await answers))
-        assert results["get"] and {one.key for one in results["list"]} == {"k", "other's"}
+        assert results["get"] and {summary.key for summary in results["list"]} == {"k", "other's"}
         assert results["log"] == results["log of a run"] and results["wait"].ok
         assert results["plan"] is results["plan of a run"] is None
-        assert results["stuck"] == results["unknown"] == []
+        assert results["attention"] == []
 
     run(main())
     assert "lease_expired" not in event_names and "commit_failed" not in event_names
@@ -1415,12 +1433,12 @@ def test_the_ends_of_many_sagas_at_once(postgresql: Server, url: str) -> None:
                 relay.before = relay.after = 0.0
                 row = await store._coordinator.store.find("k0")
                 assert row
-                with pytest.raises(sagas.NoSuchSaga, match="'k0' was deleted meanwhile"):
+                with pytest.raises(sagas.NoSuchSaga, match="'k0' was deleted while"):
                     await store._coordinator.store.known(row._replace(id=row.id + 990))
                 waits = [asyncio.ensure_future(store.wait(key)) for key in keys]
                 await asyncio.sleep(0)
             over = await asyncio.wait_for(asyncio.gather(*waits, return_exceptions=True), 60)
-            assert {type(one) for one in over} <= {
+            assert {type(error) for error in over} <= {
                 sagas.SagaResult,
                 sagas.Closed,
                 sagas.StoreUnavailable,
@@ -1469,7 +1487,7 @@ def test_an_audit_in_the_background_blocks_nothing(url: str) -> None:
 
 def test_clocks_a_minute_apart_that_jump(url: str) -> None:
     """Two nodes' clocks are two minutes apart and jump by a minute at each call: no live node's log
-    is taken, and a log that is handed over continues.
+    is taken, and a log that is passed on continues.
     """
     clocks = {"late": -60.0, "early": 60.0}
     calls: Counter[str] = Counter()
@@ -1485,7 +1503,7 @@ def test_clocks_a_minute_apart_that_jump(url: str) -> None:
             calls[task.attempt_id] += 1
             assert by.setdefault(task.key, name) == name
             if task.attempt < 3:
-                raise ValueError("again")
+                raise sagas.Retry("again")
             return name
 
         @kind.step(needs=[a])
@@ -1502,7 +1520,7 @@ def test_clocks_a_minute_apart_that_jump(url: str) -> None:
             url,
             [early],
             node="early",
-            clock=lambda: time.time() + clocks["early"],
+            settings=sagas.Settings(clock=lambda: time.time() + clocks["early"]),
             lease=1.5,
             concurrency=64,
         ) as other:
@@ -1510,7 +1528,7 @@ def test_clocks_a_minute_apart_that_jump(url: str) -> None:
                 url,
                 [late],
                 node="late",
-                clock=lambda: time.time() + clocks["late"],
+                settings=sagas.Settings(clock=lambda: time.time() + clocks["late"]),
                 lease=1.5,
                 concurrency=64,
                 shutdown_timeout=0.0,

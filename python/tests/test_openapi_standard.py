@@ -36,7 +36,7 @@ def prose(document: Any) -> Iterator[str]:
     """Return the errors by the rules that the specification has in prose."""
     components = document["components"]
     ids, templates = list[str](), list[str]()
-    tags = [one["name"] for one in document["tags"]]
+    tags = [tag["name"] for tag in document["tags"]]
     if len(tags) != len({*tags}):
         yield "tags: a name is there twice"
     if not re.fullmatch(r"3\.1\.\d+", document["openapi"]):
@@ -54,27 +54,27 @@ def prose(document: Any) -> Iterator[str]:
             for name in need:
                 if name not in components["securitySchemes"]:
                     yield f"{location}: unknown security scheme {name}"
-        some = [contract.resolved(one) for one in operation.get("parameters", ())]
-        names = [(one["name"], one["in"]) for one in some]
+        some = [contract.resolved(parameter) for parameter in operation.get("parameters", ())]
+        names = [(item["name"], item["in"]) for item in some]
         if len(names) != len({*names}):
             yield f"{location}: a parameter is there twice"
-        if {name for name, where in names if where == "path"} != {
-            *re.findall(r"{(\w+)}", location)
-        }:
+        if {name for name, part in names if part == "path"} != {*re.findall(r"{(\w+)}", location)}:
             yield f"{location}: its path has other parameters"
-        for one in some:
-            if one["in"] not in ("query", "header", "path", "cookie"):
-                yield f"{location}: {one['name']} is in {one['in']}"
-            if one["in"] == "path" and one.get("required") is not True:
-                yield f"{location}: {one['name']} must be required"
-            if one["in"] == "header" and one["name"].lower() in (
+        for item in some:
+            if item["in"] not in ("query", "header", "path", "cookie"):
+                yield f"{location}: {item['name']} is in {item['in']}"
+            if item["in"] == "path" and item.get("required") is not True:
+                yield f"{location}: {item['name']} must be required"
+            if item["in"] == "header" and item["name"].lower() in (
                 "accept",
                 "content-type",
                 "authorization",
             ):
-                yield f"{location}: {one['name']} is ignored as a parameter"
-            if ("schema" in one) is ("content" in one) or ("example" in one and "examples" in one):
-                yield f"{location}: {one['name']} has both, or neither, of what excludes each other"
+                yield f"{location}: {item['name']} is ignored as a parameter"
+            if ("schema" in item) is ("content" in item) or (
+                "example" in item and "examples" in item
+            ):
+                yield f"{location}: {item['name']} has both of an excluding pair, or neither"
         if not operation["responses"]:
             yield f"{location}: it has no response"
         for content in contents(operation):
@@ -149,15 +149,15 @@ WRONG: dict[str, tuple[str, Any, str]] = {
     "a parameter without a schema": (
         "paths/~/get/parameters",
         [{"name": "id", "in": "query"}],
-        "both, or neither",
+        "id has both of an excluding pair, or neither",
     ),
 }
 
 
-@pytest.mark.parametrize("what", WRONG)
-def test_rule_violations_are_found(what: str) -> None:
+@pytest.mark.parametrize("violation", WRONG)
+def test_rule_violations_are_found(violation: str) -> None:
     """Each rule finds a document that breaks it."""
-    location, value, text = WRONG[what]
+    location, value, text = WRONG[violation]
     document = copy.deepcopy(DOCUMENT)
     *parts, last = [part.replace("~", "/v1/sagas") for part in location.split("/")]
     inner = document
@@ -169,4 +169,4 @@ def test_rule_violations_are_found(what: str) -> None:
         inner[last] = value
     faults = structure(document)
     faults += [*prose(document)] if not faults else []
-    assert any(text in one for one in faults), faults[:3]
+    assert any(text in fault for fault in faults), faults[:3]

@@ -12,14 +12,33 @@ import pathlib
 import pickle
 import threading
 import time
+import xml.etree.ElementTree
 from typing import Any
 
 import pytest
 import records
-from cases import HOUR, PLACES, QUICK, Task, attempts_to_report, ended, pairs, run, simple, until
+from cases import (
+    HOUR,
+    STORE_KINDS,
+    QUICK,
+    Task,
+    attempts_to_report,
+    ended,
+    pairs,
+    run,
+    simple,
+    stuck_keys,
+    unknown_attempts,
+    until,
+)
 
 import sagas
 import sagas.testing
+from sagas.cli.snapshot import Snapshot
+from sagas.core import outcomes
+from sagas.core.states import OutcomeKind
+from sagas.definition.call_options import Manner
+from sagas.definition.task_data import TaskSnapshot
 
 
 def test_returns(location: str) -> None:
@@ -64,7 +83,7 @@ def test_a_forgotten_await(tmp_path: pathlib.Path, how: str, waits: bool) -> Non
             await asyncio.sleep(0)
         attempts.append(task.attempt)
         if task.input == "fails":
-            raise ValueError("no")
+            raise sagas.Retry("no")
         return {"id": 7}
 
     async def charge(task: Task) -> Any:
@@ -77,8 +96,8 @@ def test_a_forgotten_await(tmp_path: pathlib.Path, how: str, waits: bool) -> Non
     async def main() -> None:
         async with sagas.open(tmp_path / "store.db", [saga]) as store:
             ends = [
-                await ended(store, saga, f"{given}{number}", given)
-                for given in ("well", "task")
+                await ended(store, saga, f"{value}{number}", value)
+                for value in ("well", "task")
                 for number in range(3)
             ]
             assert all(
@@ -87,7 +106,7 @@ def test_a_forgotten_await(tmp_path: pathlib.Path, how: str, waits: bool) -> Non
             end = await ended(store, saga, "bad", "fails")
             assert (
                 end.states == {"a": "failed"}
-                and end.errors == {"a": "ValueError: no"}
+                and end.errors == {"a": "sagas.Retry: no"}
                 and attempts[6:] == [1, 2]
             )
 
@@ -104,13 +123,13 @@ def test_a_forgotten_await_has_its_time(tmp_path: pathlib.Path, plain: bool) -> 
     async def charge(task: Task) -> Any:
         return slow(task)
 
-    saga = simple((lambda task: slow(task)) if plain else charge, timeout=0.05, max_unknown=0)
+    saga = simple((lambda task: slow(task)) if plain else charge, timeout=0.05, max_unknown=1)
 
     async def main() -> None:
         async with sagas.open(tmp_path / "store.db", [saga]) as store:
             await store.start(saga, "k")
-            (held,) = await until(store.unknown)
-            assert held.error == "took longer than 0.05 s"
+            (held,) = await until(lambda: unknown_attempts(store))
+            assert "took longer than 0.05 s" in str(held)
             await store.complete("k", "a")
 
     run(main())
@@ -191,15 +210,15 @@ def test_a_set_crosses(location: str) -> None:
 
     async def main() -> sagas.SagaResult:
         async with sagas.open(location, [saga]) as store:
-            return await ended(store, saga, given={1: "a", 2: "b"})
+            return await ended(store, saga, value={1: "a", 2: "b"})
 
     end = run(main())
     assert end.result_of(send) is True and end.result_of("seats") == {1, 2}
 
 
 def test_a_result_that_is_not_of_its_type(location: str) -> None:
-    """An unstorable result, or an operator's, is returned as it is kept: a caller that waits, or
-    lists stuck sagas, gets it anyway.
+    """An unstorable result is returned as it is kept: a caller that waits, or lists stuck sagas,
+    gets it anyway. An operator's is refused.
     """
     saga = sagas.Saga("typed")
 
@@ -207,7 +226,7 @@ def test_a_result_that_is_not_of_its_type(location: str) -> None:
     def book(task: Task) -> Seat:
         return object()  # type: ignore[return-value]
 
-    @saga.step(needs=[book], max_unknown=0)
+    @saga.step(needs=[book], max_unknown=1)
     def pay(task: Task) -> Seat:
         raise sagas.Unknown("?")
 
@@ -222,11 +241,13 @@ def test_a_result_that_is_not_of_its_type(location: str) -> None:
         async with sagas.open(location, [saga, well]) as store:
             assert "unstorable" in (await ended(store, well, "w")).results["book"]
             going = await store.start(saga, "k")
-            await until(store.unknown)
-            await store.complete("k", pay, "by hand")
+            await until(lambda: unknown_attempts(store))
+            with pytest.raises(sagas.InvalidResult, match="result: Seat requires an object"):
+                await store.complete("k", pay, "by hand")
+            await store.complete("k", pay, {"row": 3})
             end = await going.wait()
-            assert "unstorable" in end.results["book"] and end.results["pay"] == "by hand"
-            assert [one.results for one in await store.stuck()] == [end.results]
+            assert "unstorable" in end.results["book"] and end.results["pay"] == Seat(3)
+            assert await stuck_keys(store) == ["k"]
         async with sagas.open(location, [saga, well]) as store:
             assert await store.wait("k") == end
 
@@ -242,7 +263,7 @@ def test_raises(location: str, caplog: pytest.LogCaptureFixture) -> None:
 
     def fails(task: Task) -> None:
         attempts.append(task.attempt)
-        raise ValueError("no")
+        raise sagas.Retry("no")
 
     async def main() -> sagas.SagaResult:
         saga = simple(fails, tries=3)
@@ -251,8 +272,8 @@ def test_raises(location: str, caplog: pytest.LogCaptureFixture) -> None:
 
     end = run(main())
     assert end.phase == "recovered" and end.states == {"a": "failed"} and attempts == [1, 2, 3]
-    assert end.errors == {"a": "ValueError: no"} and str(end).endswith(
-        "failed    a: ValueError: no"
+    assert end.errors == {"a": "sagas.Retry: no"} and str(end).endswith(
+        "failed    a: sagas.Retry: no"
     )
     assert run(main()) == end  # it is over: the reply is read from the store
     logged = [record for record in caplog.records if record.name == "sagas"]
@@ -270,7 +291,7 @@ def test_raises_fail(location: str, group: bool) -> None:
     async def fails(task: Task) -> None:
         attempts.append(task.attempt)
         async with asyncio.TaskGroup() if group else contextlib.nullcontext():
-            raise sagas.Fail("for good")
+            raise sagas.Fail("permanently")
 
     async def main() -> sagas.SagaResult:
         saga = simple(fails, tries=9, backoff=sagas.Backoff(initial=3600))
@@ -280,7 +301,7 @@ def test_raises_fail(location: str, group: bool) -> None:
     end = run(main())
     assert (
         end.states == {"a": "failed"}
-        and end.errors == {"a": "sagas.Fail: for good"}
+        and end.errors == {"a": "sagas.Fail: permanently"}
         and attempts == [1]
     )
     outcomes = [result.outcome for result in records.read(location).results.values()]
@@ -289,18 +310,18 @@ def test_raises_fail(location: str, group: bool) -> None:
 
 GROUP = ExceptionGroup(
     "unhandled errors in a TaskGroup",
-    [ValueError("no"), ExceptionGroup("within", [TimeoutError("?"), sagas.Fail("for good")])],
+    [ValueError("no"), ExceptionGroup("within", [TimeoutError("?"), sagas.Fail("permanently")])],
 )
 
 
 @pytest.mark.parametrize(
     "error",
-    [sagas.Unknown("?"), TimeoutError("?"), ConnectionResetError("?"), KeyError("?"), GROUP],
+    [sagas.Unknown("?"), TimeoutError("?"), KeyError("?"), SystemExit("?"), GROUP],
     ids=lambda error: type(error).__name__,
 )
-def test_raises_unknown(location: str, error: Exception) -> None:
+def test_raises_unknown(location: str, error: BaseException) -> None:
     """The outcome is unknown: the same attempt runs again, with the same token, and nothing is
-    reported; by default for timeouts and lost connections. The log has the number.
+    reported. The log has the number.
     """
     tokens: list[str] = []
     details: list[str] = []
@@ -312,8 +333,7 @@ def test_raises_unknown(location: str, error: Exception) -> None:
         return 1
 
     async def main() -> sagas.SagaResult:
-        options = {"unknown": (KeyError,)} if isinstance(error, KeyError) else {}
-        saga = simple(lost, **options)
+        saga = simple(lost)
         async with sagas.open(
             location,
             [saga],
@@ -328,41 +348,101 @@ def test_raises_unknown(location: str, error: Exception) -> None:
     assert len(records.read(location).results) == 1
 
 
-def test_a_failure_that_came_from_a_timeout(location: str) -> None:
-    """Clients raise it from their own exceptions: it is a failure, and the log says what to declare
-    for an unknown outcome.
-    """
-    details: list[str] = []
+class Refused(Exception):
+    """An exception of a client that could not connect."""
 
-    class Late(Exception):
-        """An exception of a client."""
 
-    def asks(task: Task) -> None:
-        try:
-            raise TimeoutError("the read timed out")
-        except TimeoutError as error:
-            if task.input == "while":
-                raise Late("no answer")
-            raise Late("no answer") from (error if task.input == "from" else None)
+BUGS = (
+    NameError("carier"),
+    UnboundLocalError("x"),
+    ModuleNotFoundError("no module"),
+    SyntaxError("not Python"),
+    sagas.ProgramError("no needs"),
+    sagas.WouldWaitForever("for itself"),
+)
+UNKNOWN, FAILED = OutcomeKind.UNKNOWN, OutcomeKind.FAILED
+PERMANENT, BUG = OutcomeKind.FAILED_PERMANENTLY, OutcomeKind.PROGRAM_ERROR
+
+
+@pytest.mark.parametrize(
+    ("error", "comes", "rolled_back"),
+    [
+        (sagas.Fail("no"), PERMANENT, PERMANENT),
+        (sagas.Retry("later"), FAILED, FAILED),
+        (sagas.RetryAfter(1), FAILED, FAILED),
+        (sagas.Unknown("?"), UNKNOWN, UNKNOWN),
+        (Refused("closed"), FAILED, FAILED),
+        (ConnectionRefusedError("?"), UNKNOWN, FAILED),
+        (TimeoutError("?"), UNKNOWN, FAILED),
+        (AttributeError("?"), UNKNOWN, FAILED),
+        (TypeError("?"), UNKNOWN, FAILED),
+        (xml.etree.ElementTree.ParseError("?"), UNKNOWN, FAILED),
+        (SystemExit(1), UNKNOWN, FAILED),
+        (asyncio.CancelledError(), UNKNOWN, FAILED),
+        *((bug, BUG, BUG) for bug in BUGS),
+        (GROUP, UNKNOWN, PERMANENT),
+        (BaseExceptionGroup("g", [sagas.Fail("no"), NameError("x"), OSError()]), BUG, BUG),
+        (ExceptionGroup("g", [sagas.Retry("no"), Refused("no")]), FAILED, FAILED),
+        (ExceptionGroup("g", [sagas.Retry("no"), sagas.Fail("no")]), PERMANENT, PERMANENT),
+        (ExceptionGroup("g", [Refused("no"), ValueError("?")]), UNKNOWN, FAILED),
+    ],
+    ids=lambda value: type(value).__name__ if isinstance(value, BaseException) else str(value),
+)
+def test_what_an_exception_means(
+    error: BaseException, comes: OutcomeKind, rolled_back: OutcomeKind
+) -> None:
+    """Each row of the table, with `no_effect=(Refused,)`, and in a transaction."""
+    assert outcomes.classify(error, (Refused,)) is comes
+    assert outcomes.classify(error, (Refused,), is_rolled_back=True) is rolled_back
+
+
+def test_raises_fail_while_the_saga_drains(location: str) -> None:
+    """For the engine the step did not run, and an operator sees what it raised nevertheless."""
+    saga, drains = sagas.Saga("two"), asyncio.Event()
+
+    @saga.step
+    async def first(task: Task) -> None:
+        raise sagas.Fail("sold out")
+
+    @saga.step
+    async def second(task: Task) -> None:
+        await task.cancelled
+        drains.set()
+        raise sagas.Fail("too late")
 
     async def main() -> None:
-        saga = simple(asks)
-        async with sagas.open(
-            location,
-            [saga],
-            on_event=lambda event: (
-                details.append(event.detail or "") if event.name == "step_failed" else None
-            ),
-        ) as store:
-            for given in ("from", "while", "from None"):
-                assert (await ended(store, saga, given, given)).states == {"a": "failed"}
+        async with sagas.open(location, [saga]) as store:
+            end = await ended(store, saga)
+            assert drains.is_set() and end.states == {"first": "failed", "second": "waiting"}
+            assert end.errors == {"first": "sagas.Fail: sold out", "second": "sagas.Fail: too late"}
+            assert "not run   second: sagas.Fail: too late" in str(end)
+        async with sagas.open(location, [saga]) as store:
+            assert (await store.wait("k")).errors == end.errors
+        with Snapshot(location) as snapshot:
+            assert [step.raised for step in snapshot.saga("k").steps] == [*end.errors.values()]
 
     run(main())
-    assert [text.count("its cause is TimeoutError") for text in details] == [
-        1,
-        1,
-        0,
-    ] and "unknown=(test_outcomes." in details[0]
+
+
+def test_a_bug_is_named_with_its_line() -> None:
+    """The frame is that of the user's code, also if this package or the import raised."""
+
+    def asks(task: Any) -> Any:
+        return task.context
+
+    def imports(task: Any) -> Any:
+        import there_is_no_such_module  # type: ignore[import-not-found]
+
+        return there_is_no_such_module
+
+    for function in (asks, imports):
+        try:
+            function(sagas.Task(TaskSnapshot("s", "k", "a", False, 1, "t-0", "1", {}, None)))
+        except Exception as error:
+            outcome = outcomes.raised(error, Manner(function))
+        line = function.__code__.co_firstlineno + 1
+        assert outcome.kind is BUG
+        assert outcome.value.endswith(f"({__file__}:{line} in {function.__name__})")
 
 
 def test_a_function_that_holds_the_loop(
@@ -435,13 +515,13 @@ def test_unknown_waits_for_its_back_off(location: str) -> None:
     saga = simple(lost, backoff=HOUR)
 
     async def first() -> None:
-        async with sagas.open(location, [saga], clock=clock) as store:
+        async with sagas.open(location, [saga], settings=sagas.Settings(clock=clock)) as store:
             await store.start(saga, key="k")
-            (held,) = await until(store.unknown)
-            assert held.until == clock() + 3600 and not held.asked
+            (held,) = await until(lambda: unknown_attempts(store))
+            assert held.until == clock() + 3600 and not held.asks
 
     async def second() -> None:
-        async with sagas.open(location, [saga], clock=clock) as store:
+        async with sagas.open(location, [saga], settings=sagas.Settings(clock=clock)) as store:
             assert (await store.wait("k")).ok
 
     run(first())
@@ -469,13 +549,15 @@ def test_takes_longer_than_its_time(location: str) -> None:
 
 
 @pytest.mark.parametrize(
-    "location, most, done",
-    pairs(PLACES, (2, datetime.timedelta(seconds=0.05)), (True, False)),
+    "location, max_unknown, done",
+    pairs(STORE_KINDS, (3, datetime.timedelta(seconds=0.05)), (True, False)),
     indirect=["location"],
 )
-def test_unknown_for_too_long_waits_for_a_person(location: str, most: Any, done: bool) -> None:
-    """`max_unknown` bounds it; then it is listed in `store.unknown()`, and an operator reports
-    success or failure, also after a restart.
+def test_unknown_for_too_long_waits_for_a_person(
+    location: str, max_unknown: Any, done: bool
+) -> None:
+    """`max_unknown` bounds it; then an operator is asked, and reports success or failure, also
+    after a restart.
     """
     calls: list[str] = []
 
@@ -483,7 +565,7 @@ def test_unknown_for_too_long_waits_for_a_person(location: str, most: Any, done:
         calls.append(task.attempt_id)
         raise ConnectionError("no answer")
 
-    saga = simple(lost, max_unknown=most)
+    saga = simple(lost, max_unknown=max_unknown)
 
     async def first() -> None:
         async with sagas.open(location, [saga]) as store:
@@ -493,20 +575,21 @@ def test_unknown_for_too_long_waits_for_a_person(location: str, most: Any, done:
     async def second() -> sagas.SagaResult:
         before = len(calls)
         async with sagas.open(location, [saga]) as store:
-            (held,) = await store.unknown()
-            assert (held.key, held.step, held.asked) == ("k", "a", True) and "no answer" in (
-                held.error or ""
-            )
+            (held,) = await unknown_attempts(store)
+            assert (held.key, held.step, held.asks) == ("k", "a", True)
+            assert "no answer" in str(held)
             if done:
                 await store.complete("k", "a", "it was done")
             else:
                 await store.fail("k", "a", "it was not")
             end = await store.wait("k")
-            assert await store.unknown() == [] and len(calls) == before
+            assert await unknown_attempts(store) == [] and len(calls) == before
             return end
 
     run(first())
-    assert len(set(calls)) == 1 and len(calls) >= 2
+    assert len(set(calls)) == 1 and (
+        len(calls) == max_unknown if max_unknown == 3 else len(calls) >= 2
+    )
     assert run(second()).states == {"a": "committed" if done else "failed"}
 
 
@@ -544,8 +627,10 @@ def test_plain_functions_run_in_threads(tmp_path: pathlib.Path) -> None:
     async def main() -> None:
         saga = simple(meet)
         async with sagas.open(tmp_path / "store.db", [saga]) as store:
-            one, two = await asyncio.gather(ended(store, saga, "one"), ended(store, saga, "two"))
-            assert one.results == two.results == {"a": True}
+            claimed, two = await asyncio.gather(
+                ended(store, saga, "one"), ended(store, saga, "two")
+            )
+            assert claimed.results == two.results == {"a": True}
 
     run(main())
 
@@ -566,12 +651,12 @@ def test_tokens(location: str) -> None:
     async def not_a(task: Task) -> None:
         tasks.append(task)
         if task.attempt == 1:
-            raise ValueError("again")
+            raise sagas.Retry("again")
 
     @saga.step(needs=[a], tries=2, backoff=QUICK)
     def b(task: Task) -> None:
         tasks.append(task)
-        raise ValueError("no")
+        raise sagas.Retry("no")
 
     async def main() -> sagas.SagaResult:
         async with sagas.open(location, [saga]) as store:

@@ -38,28 +38,28 @@ def build(drawn: list[StepDraw], failures: Failures) -> sagas.Saga:
 
     def act(task: Task) -> str:
         if task.attempt <= failures.get((task.step, "undo" if task.is_compensation else "run"), 0):
-            raise ValueError("it is told to fail")
+            raise sagas.Retry("it has to fail")
         assert not task.is_compensation or task.result == f"{task.step} is done"
         return f"{task.step} is done"
 
     async def act_in_loop(task: Task) -> str:
         return act(task)
 
-    for number, one in enumerate(drawn):
+    for number, drawn_step in enumerate(drawn):
         options: dict[str, Any] = {
-            "run": price(one.run),
-            "skip": price(one.skip),
-            "keep": price(one.keep),
-            "tries": one.tries,
+            "run": price(drawn_step.run),
+            "skip": price(drawn_step.skip),
+            "keep": price(drawn_step.keep),
+            "tries": drawn_step.tries,
         }
-        needs = [drawn[need].name for need in one.needs]
-        if one.undo != "never":
-            options["undo"] = price(one.undo)
-        step = saga.step(name=one.name, needs=needs, backoff=NO_WAIT, **options)(
+        needs = [saga.steps[need] for need in drawn_step.needs]
+        if drawn_step.undo != "never":
+            options["undo"] = price(drawn_step.undo)
+        step = saga.step(name=drawn_step.name, needs=needs, backoff=NO_WAIT, **options)(
             act if number % 2 else act_in_loop
         )
-        if one.undo != "never":
-            step.compensation(tries=one.undo_tries, backoff=NO_WAIT, on_exhausted="fail")(
+        if drawn_step.undo != "never":
+            step.compensation(tries=drawn_step.undo_tries, backoff=NO_WAIT, on_exhausted="fail")(
                 act_in_loop if number % 2 else act
             )
     return saga
@@ -82,8 +82,8 @@ def same_definition(drawn: list[StepDraw], saga: sagas.Saga) -> None:
     If nothing can be undone, the tries of compensations do not count.
     """
     wanted, written = Definition.read(toml("random", drawn)), Definition.read(saga.toml())
-    for one, other in zip(wanted.steps, written.steps):
-        assert (one.name, one.needs, one.run, one.undo, one.skip, one.keep, one.tries) == (
+    for step, other in zip(wanted.steps, written.steps):
+        assert (step.name, step.needs, step.run, step.undo, step.skip, step.keep, step.tries) == (
             other.name,
             other.needs,
             other.run,
@@ -107,7 +107,7 @@ def test_a_store_keeps_the_rules(data: st.DataObject) -> None:
     saga = build(drawn, many[0])
     same_definition(drawn, saga)
 
-    async def one(store: sagas.Store, number: int) -> sagas.SagaResult:
+    async def start_and_wait(store: sagas.Store, number: int) -> sagas.SagaResult:
         run = await store.start(saga, key=f"k{number}")
         if aborts[number]:
             await run.abort()
@@ -115,7 +115,7 @@ def test_a_store_keeps_the_rules(data: st.DataObject) -> None:
 
     async def main(path: pathlib.Path) -> list[sagas.SagaResult]:
         async with sagas.open(path, [saga], concurrency=together) as store:
-            return await asyncio.gather(*(one(store, number) for number in range(3)))
+            return await asyncio.gather(*(start_and_wait(store, number) for number in range(3)))
 
     with tempfile.TemporaryDirectory() as name:
         path = pathlib.Path(name) / "store.db"

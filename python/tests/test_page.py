@@ -177,8 +177,8 @@ def test_a_wheel_and_an_archive(
     archive = wheels.build_sdist(str(tmp_path))
     is_other = processor != platform.machine()
     settings = [f"--config-settings=processor={processor}"] if is_other else []
-    places = ["-w", str(tmp_path / "again"), str(tmp_path / archive)]
-    command = [sys.executable, "-m", "pip", "wheel", "--no-index", "-q", *settings, *places]
+    folders = ["-w", str(tmp_path / "again"), str(tmp_path / archive)]
+    command = [sys.executable, "-m", "pip", "wheel", "--no-index", "-q", *settings, *folders]
     subprocess.run(command, check=True, env=clean(), capture_output=True)
     assert (tmp_path / "again" / name).read_bytes() == (first / name).read_bytes()
     check_license(first / name)
@@ -188,10 +188,20 @@ def test_a_wheel_and_an_archive(
     with zipfile.ZipFile(first / name) as wheel:
         carried = [wheel.read(f"sagas/bin/{part}") for part in ("sagas", "libsagas.so")]
         metadata = wheel.read(f"{name.partition('-py3')[0]}.dist-info/WHEEL").decode().splitlines()
+        assert package_files() <= {*wheel.namelist()}
     tags = [line.removeprefix("Tag: py3-none-") for line in metadata if line.startswith("Tag: ")]
     assert [struct.unpack_from("<H", data, 18)[0] for data in carried] == [machine, machine]
     assert not asks_for_a_loader(carried[0])
     assert tags == [f"manylinux_2_17_{processor}", f"musllinux_1_1_{processor}"]
+
+
+def package_files() -> set[str]:
+    """Return the files of the package: its modules, pages and templates."""
+    source = PACKAGE / "src"
+    paths = [path for path in (source / "sagas").rglob("*") if path.is_file()]
+    return {
+        path.relative_to(source).as_posix() for path in paths if "__pycache__" not in path.parts
+    }
 
 
 def asks_for_a_loader(program: bytes) -> bool:
@@ -241,7 +251,7 @@ def test_a_machine_that_gets_no_engine(
     compiler: str,
     message: str,
 ) -> None:
-    """No wheel is left, and a sentence gives the reason and the remedy."""
+    """No wheel is left, and a sentence has the reason and the remedy."""
     name = elsewhere(monkeypatch, system, machine)
     monkeypatch.setenv("CC", compiler)
     with pytest.raises(SystemExit, match=message.format(name)):

@@ -23,12 +23,14 @@ import sagas
 SECONDS = 60
 """The limit in which all sagas of a store are over; they take about two seconds."""
 TOO_LONG = 0.05
+TRIES = 5
+"""More than a call has hazards, since each of them is another attempt in a transaction."""
 STEP_OPTIONS: dict[str, dict[str, Any]] = {
-    "tries": {"tries": 3},
+    "tries": {"tries": TRIES},
     "backoff": {"backoff": sagas.Backoff(initial=0.03, maximum=0.05)},
     "timeout": {"timeout": TOO_LONG},
-    "unknown": {"unknown": (LookupError,)},
-    "max_unknown": {"max_unknown": 0},
+    "no_effect": {"no_effect": (LookupError,)},
+    "max_unknown": {"max_unknown": 1},
     "unknown_time": {"max_unknown": datetime.timedelta(seconds=0.05)},
     "concurrency": {"concurrency": 1},
     "fleet_concurrency": {"fleet_concurrency": 2},
@@ -38,7 +40,14 @@ STEP_OPTIONS: dict[str, dict[str, Any]] = {
 KINDS = ("wait", "approval", "elsewhere")
 UNDO = ("tries", "timeout", "unknown", "most", "plain", "elsewhere", "inside")
 OPTIONS = (*STEP_OPTIONS, "plain", *KINDS, *(f"undo_{word}" for word in UNDO))
-STEP = ("unknown", "max_unknown", "unknown_time", "fleet_concurrency", "rate_limit", "transaction")
+STEP = (
+    "no_effect",
+    "max_unknown",
+    "unknown_time",
+    "fleet_concurrency",
+    "rate_limit",
+    "transaction",
+)
 """Options that need a function here."""
 REFUSED: dict[str, tuple[str, ...]] = {
     "wait": (*STEP, "approval", "elsewhere"),
@@ -47,25 +56,31 @@ REFUSED: dict[str, tuple[str, ...]] = {
     "max_unknown": ("unknown_time",),
     "undo_elsewhere": ("undo_timeout", "undo_unknown", "undo_most", "undo_plain", "undo_inside"),
 }
-LOST = dict.fromkeys(("unknown", "max_unknown", "unknown_time"), "lost")
+LOST = dict.fromkeys(("max_unknown", "unknown_time"), "lost")
 UNDO_LOST = dict.fromkeys(("undo_unknown", "undo_most"), "lost")
-HAZARDS = {"tries": "misses", "timeout": "late", **LOST}
+HAZARDS = {"tries": "misses", "no_effect": "refused", "timeout": "late", **LOST}
 UNDO_HAZARDS = {"undo_tries": "misses", "undo_timeout": "late", **UNDO_LOST}
 KEYS = ("well", "well-too", "well-as-well", "fails", "aborted")
 
 
 def fits(options: frozenset[str]) -> bool:
     """Return whether a step may have all of these."""
-    return not any(one in options and options & set(others) for one, others in REFUSED.items())
+    return not any(
+        option in options and options & set(others) for option, others in REFUSED.items()
+    )
 
 
 def drawn(inside: bool) -> list[frozenset[str]]:
     """Return each option alone, each pair, and some larger sets."""
-    known = [one for one in OPTIONS if inside or one not in ("transaction", "undo_inside")]
+    known = [option for option in OPTIONS if inside or option not in ("transaction", "undo_inside")]
     pairs = [frozenset(pair) for pair in itertools.combinations(known, 2)]
     draw = random.Random(58)
     larger = [frozenset(draw.sample(known, draw.randint(3, 6))) for _ in range(120)]
-    return [one for one in ([frozenset([one]) for one in known] + pairs + larger) if fits(one)]
+    return [
+        option
+        for option in ([frozenset([option]) for option in known] + pairs + larger)
+        if fits(option)
+    ]
 
 
 @dataclasses.dataclass
@@ -75,7 +90,7 @@ class Case:
     name: str
     options: frozenset[str]
     now: int = 0
-    most: int = 0
+    highest: int = 0
     calls: Counter[tuple[str, bool]] = dataclasses.field(default_factory=Counter)
 
     def hazard(self, task: Task) -> str | None:
@@ -89,16 +104,17 @@ class Case:
 
     def strike(self, hazard: str | None) -> None:
         if hazard == "misses":
-            raise ValueError("misses")
+            raise sagas.Retry("misses")
+        if hazard == "refused":
+            raise LookupError("refused")
         if hazard == "lost":
-            kind = LookupError if "unknown" in self.options else sagas.Unknown
-            raise kind("nobody knows")
+            raise (sagas.Unknown, ValueError)[len(self.calls) % 2]("outcome unknown")
 
     def enter(self, task: Task) -> int:
         """Count how many calls of the step run with this one; a compensation has no limit."""
         here = 0 if task.is_compensation else 1
         self.now += here
-        self.most = max(self.most, self.now)
+        self.highest = max(self.highest, self.now)
         return here
 
     async def act(self, task: Task) -> str:
@@ -152,9 +168,9 @@ class Case:
 
     def _compensate(self, first: sagas.Step[Any]) -> None:
         settings: dict[str, Any] = {"backoff": QUICK, "transaction": "undo_inside" in self.options}
-        settings |= {"tries": 3} if "undo_tries" in self.options else {}
+        settings |= {"tries": TRIES} if "undo_tries" in self.options else {}
         settings |= {"timeout": TOO_LONG} if "undo_timeout" in self.options else {}
-        settings |= {"max_unknown": 0} if "undo_most" in self.options else {}
+        settings |= {"max_unknown": 1} if "undo_most" in self.options else {}
         if "undo_elsewhere" in self.options:
             first.compensation(external=True, backoff=QUICK, tries=settings.get("tries", 1))
         elif "undo_plain" in self.options:
@@ -189,7 +205,7 @@ def has_connection(task: Task) -> bool:
     """Return whether it is called in a transaction. Half of them do nothing in it."""
     try:
         return not task.key.endswith("too") and task.connection is not None
-    except RuntimeError:
+    except sagas.ProgramError:
         return False
 
 
@@ -197,20 +213,20 @@ async def answer(store: sagas.Store, keys: list[str]) -> None:
     """Report each step that waits for an operator or a worker as done."""
     while True:
         for key in keys:
-            for one in store.active_attempts(key):
-                asks = one.waits == "unknown" and one.until is None
-                if asks or one.waits in ("approval", "worker"):
+            for attempt in store.active_attempts(key):
+                asks = attempt.waits == "unknown" and attempt.until is None
+                if asks or attempt.waits in ("approval", "worker"):
                     try:
-                        await store.complete(key, one.step, "a", undo=one.undo)
+                        await store.complete(key, attempt.step, "a", undo=attempt.undo)
                     except (sagas.StepNotWaiting, sagas.NoSuchSaga):
                         pass  # it is over by now
         await asyncio.sleep(0.01)
 
 
-def batches(cases: list[Case], most: int = 60) -> Iterator[list[Case]]:
+def batches(cases: list[Case], size: int = 60) -> Iterator[list[Case]]:
     """Return batches of as many as a store takes."""
-    for at in range(0, len(cases), most):
-        yield cases[at : at + most]
+    for at in range(0, len(cases), size):
+        yield cases[at : at + size]
 
 
 @pytest.mark.parametrize(
@@ -221,7 +237,7 @@ def test_options_in_pairs(location: str, concurrency: int, tmp_path: Any) -> Non
     inside = location.startswith("postgresql")
     cases = [Case(f"s{number}", options) for number, options in enumerate(drawn(inside))]
 
-    async def one(store: sagas.Store, case: Case, saga: sagas.Saga, key: str) -> None:
+    async def run_case(store: sagas.Store, case: Case, saga: sagas.Saga, key: str) -> None:
         run = await store.start(saga, key, "fails" if key.endswith("fails") else None)
         if key.endswith("aborted"):
             await run.abort()
@@ -234,15 +250,15 @@ def test_options_in_pairs(location: str, concurrency: int, tmp_path: Any) -> Non
             assert states == {"a": "undone", "z": "failed"}, (case.options, str(end))
 
     async def run_batch(number: int, some: list[Case]) -> None:
-        where = location if inside else str(tmp_path / f"store-{number}.db")
+        store_path = location if inside else str(tmp_path / f"store-{number}.db")
         kinds = {case.name: case.saga() for case in some}
         async with sagas.open(
-            where, kinds.values(), concurrency=concurrency, shutdown_timeout=1
+            store_path, kinds.values(), concurrency=concurrency, shutdown_timeout=1
         ) as store:
             keys = {f"{case.name}-{key}": case for case in some for key in KEYS}
             answering = asyncio.create_task(answer(store, list(keys)))
             jobs = {
-                key: asyncio.create_task(one(store, case, kinds[case.name], key))
+                key: asyncio.create_task(run_case(store, case, kinds[case.name], key))
                 for key, case in keys.items()
             }
             _, late = await asyncio.wait(jobs.values(), timeout=SECONDS)
@@ -261,5 +277,6 @@ def test_options_in_pairs(location: str, concurrency: int, tmp_path: Any) -> Non
     run(main())
     for case in cases:
         limits = {"concurrency": 1, "fleet_concurrency": 2}
-        most = min((limits[one] for one in case.options & limits.keys()), default=case.most)
-        assert case.most <= most, case.options
+        bounds = [limits[option] for option in case.options & limits.keys()]
+        limit = min(bounds, default=case.highest)
+        assert case.highest <= limit, case.options

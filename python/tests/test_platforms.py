@@ -129,18 +129,18 @@ def test_a_program_that_cannot_be_run(
     monkeypatch: pytest.MonkeyPatch,
     tmp_path: pathlib.Path,
 ) -> None:
-    """The store does not open: a specific error gives the reason and the remedy; a repeated call
+    """The store does not open: a specific error has the reason and the remedy; a repeated call
     does not help.
     """
     program_path = tmp_path / "sagas"
     make(program_path)
-    options = {"program": str(program_path)} if how == "word" else {}
+    settings = sagas.Settings(program=str(program_path) if how == "word" else None)
     if how == "variable":
         monkeypatch.setenv("SAGAS_PROGRAM", str(program_path))
     with pytest.raises(
         sagas.EngineNotRunnable, match="this machine .* cannot run it.*SAGAS_PROGRAM"
     ):
-        with sagas.open_sync(tmp_path / "orders.db", [order()], **options):
+        with sagas.open_sync(tmp_path / "orders.db", [order()], settings=settings):
             pass
     assert not isinstance(sagas.EngineNotRunnable("x"), sagas.StoreUnavailable)
 

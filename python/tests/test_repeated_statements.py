@@ -90,7 +90,7 @@ def test_a_connection_that_the_server_ends(url: str) -> None:
     async def main() -> None:
         asker, kept = await opened(url)
         ((number,),) = await kept.ask("SELECT pg_backend_pid()")
-        await asker.ask("SELECT pg_terminate_backend(%(one)s)", one=int(number or b""))
+        await asker.ask("SELECT pg_terminate_backend(%(pid)s)", pid=int(number or b""))
         wire = kept._wire
         assert wire
         await until(lambda: wire.closed)
@@ -115,7 +115,7 @@ def test_parameters_of_statements(url: str) -> None:
     run(main())
 
 
-def test_workers_go_on_while_the_server_has_no_connection_to_spare() -> None:
+def test_workers_continue_while_the_server_has_no_connection_to_spare() -> None:
     """Claims and reports use a connection that the node has. Later they have their own again."""
     kind = sagas.Saga("trip")
     for name in ("car", "tour"):
@@ -135,11 +135,11 @@ def test_workers_go_on_while_the_server_has_no_connection_to_spare() -> None:
                     while True:
                         strangers.enter_context(psycopg.connect(url))
                 task = await claimed(store, "car")
-                assert not coordinator.store.external._own.is_open
+                assert not coordinator.store.external._own_wire.is_open
                 assert await store.workers.report(task.attempt_id, task.lease, "car")
-                assert not coordinator.store.external._own.is_open
+                assert not coordinator.store.external._own_wire.is_open
             task = await claimed(store, "tour")
-            assert coordinator.store.external._own.is_open
+            assert coordinator.store.external._own_wire.is_open
             assert await store.workers.report(task.attempt_id, task.lease, "tour")
             assert (await begun.wait()).results == {"car": "car", "tour": "tour"}
 

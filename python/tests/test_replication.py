@@ -1,6 +1,6 @@
 """A synchronous standby that is down.
 
-Waits for it have a limit, and block nothing else. They are not acknowledged if the server is told
+Waits for it have a limit, and block nothing else. They are not acknowledged if the server is set
 to wait no longer.
 """
 
@@ -23,7 +23,8 @@ from server import Server, serving
 from serving import Served, host
 
 import sagas
-from sagas.server import definition_files, uvicorn_server
+from sagas.definition import definition_files
+from sagas.server import uvicorn_server
 from sagas.server.settings import Settings
 from sagas.storage.postgresql import connections, replication
 
@@ -195,34 +196,6 @@ def test_a_canceled_wait_is_not_acknowledged(away: Away, store: str, kind: sagas
     run(main())
 
 
-@pytest.mark.parametrize("plain", [False, True], ids=["async", "plain"])
-def test_a_canceled_wait_over_a_given_connection(
-    away: Away, store: str, kind: sagas.Saga, plain: bool
-) -> None:
-    """A caller's connection commits each statement: its start is not acknowledged either."""
-
-    def start() -> None:
-        with sagas.SyncClient(store) as client, psycopg.connect(store, autocommit=True) as link:
-            client.start(kind, "k", connection=link)
-
-    async def main() -> None:
-        async with sagas.Client(store) as client:
-            async with await psycopg.AsyncConnection.connect(store, autocommit=True) as link:
-                await asyncio.to_thread(away.go)
-                work = (
-                    asyncio.to_thread(start) if plain else client.start(kind, "k", connection=link)
-                )
-                first = asyncio.ensure_future(work)
-                await until(away.waiting)
-                away.cancel()
-                with pytest.raises(
-                    sagas.StoreUnavailable, match="a synchronous standby may not have"
-                ):
-                    await first
-
-    run(main())
-
-
 async def started(store: str, client: sagas.Client, kind: sagas.Saga, plain: bool) -> bool:
     """Start a saga by a client, or by another node; return whether it is new."""
     if not plain:
@@ -248,11 +221,11 @@ def test_a_canceled_wait_of_a_node(away: Away, store: str) -> None:
 
     async def main() -> None:
         hook = lambda event: event_names.append(event.name)
-        async with sagas.open(store, [kind], lease=60, on_event=hook) as one:
-            async with sagas.open(store, [kind], lease=60, accept_new=False) as two:
-                assert (await (await one.start(kind, "first")).wait()).ok
+        async with sagas.open(store, [kind], lease=60, on_event=hook) as first:
+            async with sagas.open(store, [kind], lease=60, accept_new=False) as second:
+                assert (await (await first.start(kind, "first")).wait()).ok
                 await asyncio.to_thread(away.go)
-                mine = asyncio.create_task(one.start(kind, "k"))
+                mine = asyncio.create_task(first.start(kind, "k"))
                 await until(lambda: away.rows(f"SELECT 1 {WAITS} AND query LIKE '%event_log%'"))
                 away.cancel()
                 await until(lambda: "commit_failed" in event_names)
@@ -261,8 +234,8 @@ def test_a_canceled_wait_of_a_node(away: Away, store: str) -> None:
                         f"SELECT 1 {WAITS} AND (query = 'COMMIT' OR query LIKE '%takeovers%')"
                     )
                 )
-                assert await two._coordinator.store.find("k")
-                other = asyncio.create_task(two.start(kind, "k"))
+                assert await second._coordinator.store.find("k")
+                other = asyncio.create_task(second.start(kind, "k"))
                 await until(lambda: away.rows(f"SELECT 1 {WAITS} AND query LIKE '%emit%'"))
                 assert not mine.done() and not other.done() and called == ["first"]
                 await asyncio.to_thread(away.come)

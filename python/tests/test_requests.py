@@ -52,7 +52,7 @@ def link(url: str) -> Iterator[psycopg.Connection[Any]]:
         yield link
 
 
-def one(link: psycopg.Connection[Any], text: str) -> Any:
+def first_cell(link: psycopg.Connection[Any], text: str) -> Any:
     """Return the single value of a query."""
     row = link.execute(text.encode()).fetchone()
     assert row
@@ -63,7 +63,7 @@ def pending_requests(link: psycopg.Connection[Any]) -> int:
     """Return how many requests have no reply."""
     of_sagas = "SELECT count(*) FROM operator_commands WHERE answer IS NULL"
     of_starts = "SELECT coalesce(sum(jsonb_array_length(commands)), 0) FROM pending_starts"
-    return int(one(link, of_sagas) + one(link, of_starts))
+    return int(first_cell(link, of_sagas) + first_cell(link, of_starts))
 
 
 async def waits_for_a_person(url: str, store: sagas.Store, key: str) -> None:
@@ -77,10 +77,10 @@ async def waits_for_a_person(url: str, store: sagas.Store, key: str) -> None:
 
 
 @pytest.mark.parametrize(
-    "by, what, same", pairs(("client", "node"), ("complete", "abort"), (True, False))
+    "by, command, same", pairs(("client", "node"), ("complete", "abort"), (True, False))
 )
 def test_a_request_of_a_cancelled_caller_is_for_no_other_saga(
-    url: str, link: psycopg.Connection[Any], kind: sagas.Saga, by: str, what: str, same: bool
+    url: str, link: psycopg.Connection[Any], kind: sagas.Saga, by: str, command: str, same: bool
 ) -> None:
     """A request for a start is in transit to the server; the start is withdrawn, the caller is
     cancelled, and another start has the key: the request is not executed for that one.
@@ -91,8 +91,12 @@ def test_a_request_of_a_cancelled_caller_is_for_no_other_saga(
     def x(task: Task) -> int:
         return 1
 
-    async def ask(who: sagas.Client | sagas.Store) -> None:
-        await (who.complete("k", "sign", "asked before") if what == "complete" else who.abort("k"))
+    async def ask(caller: sagas.Client | sagas.Store) -> None:
+        await (
+            caller.complete("k", "sign", "asked before")
+            if command == "complete"
+            else caller.abort("k")
+        )
 
     async def main() -> None:
         stranger = await psycopg.AsyncConnection.connect(url, options="-c search_path=sagas")
@@ -102,14 +106,14 @@ def test_a_request_of_a_cancelled_caller_is_for_no_other_saga(
             link.execute("UPDATE pending_starts SET node = (SELECT node FROM nodes)")
             await stranger.execute("LOCK TABLE operator_commands, pending_starts IN EXCLUSIVE MODE")
             asking = asyncio.create_task(ask(client if by == "client" else store))
-            await until(lambda: one(link, BLOCKED))
+            await until(lambda: first_cell(link, BLOCKED))
             await stranger.execute("DELETE FROM pending_starts")
             await client.start(kind, "k", "first" if same else "second", connection=stranger)
             asking.cancel()
             await asyncio.wait([asking])
             await stranger.commit()
             async with sagas.open(url, [kind]) as node:
-                await until(lambda: one(link, "SELECT count(*) FROM sagas"), 30)
+                await until(lambda: first_cell(link, "SELECT count(*) FROM sagas"), 30)
                 await waits_for_a_person(url, node, "k")
         assert pending_requests(link) == 0
 
@@ -136,14 +140,14 @@ def test_a_start_of_the_same_key_is_not_taken_back(
             with pytest.raises(sagas.NoSuchSaga):
                 async with asyncio.timeout(60):
                     await abort
-            assert one(link, "SELECT input FROM pending_starts") == '"second"'
+            assert first_cell(link, "SELECT input FROM pending_starts") == '"second"'
 
     run(main())
 
 
-@pytest.mark.parametrize("what", ["complete", "abort"])
+@pytest.mark.parametrize("command", ["complete", "abort"])
 def test_a_request_for_a_start_is_for_its_saga(
-    url: str, link: psycopg.Connection[Any], kind: sagas.Saga, what: str
+    url: str, link: psycopg.Connection[Any], kind: sagas.Saga, command: str
 ) -> None:
     """The caller is gone before a node comes; the request is executed anyway, once."""
 
@@ -151,15 +155,18 @@ def test_a_request_for_a_start_is_for_its_saga(
         async with sagas.Client(url) as client:
             await client.start(kind, "k")
             link.execute("UPDATE pending_starts SET node = 'gone'")
-            done = client.complete("k", "sign", "yes") if what == "complete" else client.abort("k")
+            done = (
+                client.complete("k", "sign", "yes") if command == "complete" else client.abort("k")
+            )
             asking = asyncio.create_task(done)
             await until(lambda: pending_requests(link))
             asking.cancel()
             async with sagas.open(url, [kind]) as store, asyncio.timeout(60):
                 end = await store.wait("k")
-                assert end.aborted if what == "abort" else end.results == {"sign": "yes"}
+                assert end.aborted if command == "abort" else end.results == {"sign": "yes"}
         assert (
-            pending_requests(link) == 0 and one(link, "SELECT count(*) FROM operator_commands") == 1
+            pending_requests(link) == 0
+            and first_cell(link, "SELECT count(*) FROM operator_commands") == 1
         )
 
     run(main())
@@ -178,7 +185,7 @@ def test_a_request_during_the_opening_of_a_start(
             async with stranger:
                 await stranger.execute("LOCK TABLE event_log IN EXCLUSIVE MODE")  # of the commit
                 await client.start(kind, "k")
-                await until(lambda: one(link, BLOCKED))
+                await until(lambda: first_cell(link, BLOCKED))
                 finish = asyncio.create_task(client.complete("k", "sign", "yes"))
                 await until(lambda: finish.done() or pending_requests(link))
                 await stranger.commit()
@@ -230,7 +237,7 @@ def test_a_request_during_the_deletion_of_its_saga(
             async with stranger:
                 await stranger.execute("DELETE FROM shards")
                 finish = asyncio.create_task(client.complete("k", "sign", "yes"))
-                await until(lambda: one(link, BLOCKED))
+                await until(lambda: first_cell(link, BLOCKED))
                 await stranger.execute("DELETE FROM operator_commands")
                 await stranger.execute("DELETE FROM sagas")
                 await client.start(kind, "k", "second", connection=stranger)
@@ -238,16 +245,16 @@ def test_a_request_during_the_deletion_of_its_saga(
                 await asyncio.wait([finish])
                 await stranger.commit()
             async with sagas.open(url, [kind]) as other:
-                await until(lambda: one(link, "SELECT count(*) FROM sagas"))
+                await until(lambda: first_cell(link, "SELECT count(*) FROM sagas"))
                 await waits_for_a_person(url, other, "k")
         assert pending_requests(link) == 0
 
     run(main())
 
 
-@pytest.mark.parametrize("by, what", pairs(("client", "node"), ("complete", "abort", "fail")))
+@pytest.mark.parametrize("by, command", pairs(("client", "node"), ("complete", "abort", "fail")))
 def test_a_request_during_the_opening_of_a_large_start(
-    url: str, link: psycopg.Connection[Any], kind: sagas.Saga, by: str, what: str, tmp_path: Path
+    url: str, link: psycopg.Connection[Any], kind: sagas.Saga, by: str, command: str, tmp_path: Path
 ) -> None:
     """The commit that opens the saga, whose input is then a blob, comes between the caller's look
     and its request: the request is made for the saga.
@@ -255,11 +262,13 @@ def test_a_request_during_the_opening_of_a_large_start(
     blobs, other = sagas.FolderBlobStore(tmp_path / "blobs"), sagas.Saga("other")
     other.step(lambda task: None, name="x")
 
-    async def ask(who: sagas.Client | sagas.Store) -> Any:
-        if what == "abort":
-            return await who.abort("k")
+    async def ask(caller: sagas.Client | sagas.Store) -> Any:
+        if command == "abort":
+            return await caller.abort("k")
         return await (
-            who.complete("k", "sign", "yes") if what == "complete" else who.fail("k", "sign", "no")
+            caller.complete("k", "sign", "yes")
+            if command == "complete"
+            else caller.fail("k", "sign", "no")
         )
 
     async def main() -> None:
@@ -273,24 +282,26 @@ def test_a_request_during_the_opening_of_a_large_start(
                 await commits.execute("LOCK TABLE event_log IN EXCLUSIVE MODE")
                 await client.start(kind, "k", "large" * 100)
                 await until(
-                    lambda: one(link, "SELECT count(*) FROM pending_starts WHERE node IS NOT NULL")
+                    lambda: first_cell(
+                        link, "SELECT count(*) FROM pending_starts WHERE node IS NOT NULL"
+                    )
                 )
-                await until(lambda: one(link, BLOCKED))
+                await until(lambda: first_cell(link, BLOCKED))
                 await holds.execute("SELECT 1 FROM pending_starts FOR UPDATE")
                 await commits.commit()
-                await until(lambda: one(link, WAITS_FOR_ROW) == 1)  # the node's commit
+                await until(lambda: first_cell(link, WAITS_FOR_ROW) == 1)  # the node's commit
                 asking = asyncio.create_task(ask(client if by == "client" else store))
-                await until(lambda: one(link, WAITS_FOR_ROW) == 2)
+                await until(lambda: first_cell(link, WAITS_FOR_ROW) == 2)
                 await holds.commit()
                 async with asyncio.timeout(60):
-                    assert await asking is (True if what == "abort" else None)
+                    assert await asking is (True if command == "abort" else None)
                     end = await node.wait("k")
                 assert (
                     end.aborted
-                    if what == "abort"
-                    else end.states["sign"] == ("failed" if what == "fail" else "committed")
+                    if command == "abort"
+                    else end.states["sign"] == ("failed" if command == "fail" else "committed")
                 )
-                assert one(link, "SELECT input FROM sagas").startswith('{"$blob"')
+                assert first_cell(link, "SELECT input FROM sagas").startswith('{"$blob"')
         assert pending_requests(link) == 0
 
     run(main())

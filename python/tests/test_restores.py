@@ -16,7 +16,7 @@ import sagas
 
 
 class World:
-    """A saga of two steps, the second of which waits at a gate.
+    """A saga of two steps, and the second waits at a gate.
 
     The class keeps the calls, with their idempotency keys.
     """
@@ -46,12 +46,12 @@ class World:
         await until(lambda: self.calls[key, "b"])
         return begun
 
-    async def goes_well(self, store: sagas.Store, key: str, given: str = "") -> None:
+    async def goes_well(self, store: sagas.Store, key: str, value: str = "") -> None:
         """Check that a saga ends; start it again while the store is unavailable."""
         self.gates[key].set()
         while True:
             with contextlib.suppress(sagas.StoreUnavailable):
-                assert (await ended(store, self.saga, key, given)).ok
+                assert (await ended(store, self.saga, key, value)).ok
                 return
             await asyncio.sleep(0.02)
 

@@ -111,14 +111,17 @@ def age(location: str, *logs: int, days: int = 40) -> None:
 
 
 async def fill(
-    location: str, kind: sagas.Saga, count: int, given: Callable[[int], Any] = lambda number: None
+    location: str,
+    kind: sagas.Saga,
+    count: int,
+    input_of: Callable[[int], Any] = lambda number: None,
 ) -> list[int]:
     """Run sagas to their end, in logs that are closed except for the last; return the numbers of
     the closed ones.
     """
     async with sagas.open(location, [kind]) as store:
         for number in range(count):
-            await ended(store, kind, f"k{number}", given(number))
+            await ended(store, kind, f"k{number}", input_of(number))
         await until(
             lambda: sum(log.closed for log in records.read(location).logs.values()) == count // ROOM
         )
@@ -275,9 +278,9 @@ def test_an_export_has_the_input_of_the_audit(location: str, tmp_path: pathlib.P
             "recovered" if plans else "completed",
             row.end,
         )
-        assert [one["value"] for one in entries[key]["results"] if one["outcome"] == "commit"][
-            0
-        ] == {"of": key}
+        assert [
+            result["value"] for result in entries[key]["results"] if result["outcome"] == "commit"
+        ][0] == {"of": key}
     plans = [json.loads(line) for line in (whole / "plans.jsonl").read_text().splitlines()]
     assert {plan["key"] for plan in plans} == {"k1", "k3"}
     for plan in plans:
@@ -415,7 +418,7 @@ def test_a_log_is_deleted_during_its_export(location: str, tmp_path: pathlib.Pat
         assert whole and tables(location)["sagas"] == 0
         before = files(folder)
         entries = [json.loads(line) for line in (whole / "sagas.jsonl").read_text().splitlines()]
-        assert [len(one["results"]) for one in entries] == [2] * ROOM
+        assert [len(entry["results"]) for entry in entries] == [2] * ROOM
         assert audit(whole / "log", [whole / "definition-00.toml"]).startswith(f"yes sagas {ROOM}")
         assert archive.write(overtaken, log, folder) is None and files(folder) == before
 
@@ -537,12 +540,69 @@ ASKS: dict[str, Callable[[Any], Any]] = {
 """The reads of a saga."""
 
 
+class ClosedMeanwhile(os.PathLike[str]):
+    """A folder for archives: a shard is closed before the first one is written."""
+
+    def __init__(self, folder: pathlib.Path, close: Callable[[], None]) -> None:
+        self.folder, self.close = folder, close
+        self.is_closed = False
+
+    def __fspath__(self) -> str:
+        if not self.is_closed:
+            self.is_closed = True
+            self.close()
+        return str(self.folder)
+
+
+def test_a_child_stays_whose_shard_is_closed_during_the_run(
+    location: str, tmp_path: pathlib.Path
+) -> None:
+    """Its parent is open, and may have to undo it."""
+    plain, parent = shop(), sagas.Saga("parent")
+
+    @parent.child(plain)
+    def made(task: Task) -> None:
+        return None
+
+    @parent.approval(needs=[made])
+    def review(task: Task) -> None:
+        return None
+
+    async def main() -> None:
+        async with sagas.open(location, [plain, parent]) as store:
+            for number in range(2 * ROOM - 1):
+                await ended(store, plain, f"k{number}", None)
+            await store.start(parent, "p", None)  # the last one of its shard
+            await until(lambda: shard_of("p/:made"))
+            await store.wait("p/:made", timeout=60)
+            for number in range(2 * ROOM, 3 * ROOM - 1):
+                await ended(store, plain, f"k{number}", None)
+            await until(lambda: records.read(location).logs[shard_of("p/:made")].closed)
+
+    def shard_of(key: str) -> int:
+        with contextlib.closing(admin.connect(location)) as link:
+            return sum(id for (id,) in link.ask("SELECT id FROM sagas WHERE key = ?", key)) // 1000
+
+    run(main())
+    first, last = shard_of("k0"), shard_of("p/:made")
+    assert first < shard_of("p") < last
+    age(location, first, last)
+    change(location, f"UPDATE shards SET closed = 0 WHERE shard = {last}")
+    closed = f"UPDATE shards SET closed = 1 WHERE shard = {last}"
+    folder = ClosedMeanwhile(tmp_path / "archive", lambda: change(location, closed))
+    assert retention.prune(location, MONTH, folder).sagas == ROOM and folder.is_closed
+    assert shard_of("p/:made") == last
+    assert retention.prune(location, MONTH).sagas == 0
+
+
 @pytest.mark.parametrize(
     "table, ask",
     [("attempts", "wait"), ("attempts", "log"), ("event_log", "log"), ("event_log", "plan")],
 )
-@pytest.mark.parametrize("who", ["client", "node"])
-def test_a_saga_that_is_deleted_during_a_read(url: str, who: str, table: str, ask: str) -> None:
+@pytest.mark.parametrize("reader_kind", ["client", "node"])
+def test_a_saga_that_is_deleted_during_a_read(
+    url: str, reader_kind: str, table: str, ask: str
+) -> None:
     """Its row was read, and its log is deleted before the rest is: the error says that it is gone.
 
     It is never returned with results of None, without events or without its plan.
@@ -552,14 +612,16 @@ def test_a_saga_that_is_deleted_during_a_read(url: str, who: str, table: str, as
     async def main() -> None:
         (log,) = await fill(url, kind, ROOM, lambda number: "fails" if ask == "plan" else None)
         age(url, log)
-        async with sagas.Client(url) if who == "client" else sagas.open(url, [kind]) as reader:
+        async with sagas.Client(url) if reader_kind == "client" else sagas.open(
+            url, [kind]
+        ) as reader:
             with admin.writing(url) as link:
                 with link.transaction():
                     link.changed(f"LOCK TABLE {table} IN ACCESS EXCLUSIVE MODE")
                     reading = asyncio.ensure_future(ASKS[ask](reader))
                     await until(lambda: waits_for_a_lock(url))
                     assert retention._delete(link, log, None)
-                with pytest.raises(sagas.NoSuchSaga, match="'k0' was deleted meanwhile"):
+                with pytest.raises(sagas.NoSuchSaga, match="'k0' was deleted while"):
                     await reading
 
     run(main())
@@ -581,7 +643,7 @@ def test_a_saga_that_is_deleted_during_a_look(url: str) -> None:
         age(url, log)
         async with sagas.open(url, [kind]) as store:
             for other in (False, True):
-                looks = StoreReader(store.reader())
+                looks = StoreReader(store._reader())
                 with contextlib.closing(looks), admin.writing(url) as link:
                     with link.transaction():
                         link.changed("LOCK TABLE attempts IN ACCESS EXCLUSIVE MODE")

@@ -140,7 +140,7 @@ def test_the_owner_deletes_after_root(store: pathlib.Path) -> None:
 
 
 def test_no_files_next_to_a_file_that_is_not_a_store(tmp_path: pathlib.Path) -> None:
-    """A user who gives a program instead of a store's path finds it unchanged, and no file next to
+    """A user who passes a program instead of a store's path finds it unchanged, and no file next to
     it.
     """
     path = tmp_path / "order1.py"

@@ -18,8 +18,9 @@ GREATEST = 10**9
 
 
 def row(name: str, steps: int, needs: int, tries: int = 1) -> sagas.Saga:
-    """Return steps of the highest costs, each of which needs `needs` steps before it; the first
-    waits for the gate that its input names.
+    """Return steps of the highest costs, and each needs `needs` steps before it.
+
+    The first waits for a gate that its input names.
     """
     row = sagas.Saga(name)
 
@@ -28,7 +29,7 @@ def row(name: str, steps: int, needs: int, tries: int = 1) -> sagas.Saga:
             await GATES[task.input].wait()
 
     for number in range(steps):
-        before = [f"s{index}" for index in range(max(0, number - needs), number)]
+        before = row.steps[max(0, number - needs) : number]
         step = row.step(
             name=f"s{number}",
             needs=before,

@@ -175,8 +175,13 @@ def test_a_schedule_starts_sagas(location: str) -> None:
             end = await store.wait(started[0].key)
             assert end.results == {"a": {"n": 1}} and started[0].key.startswith("tick@20")
             await until(lambda: len(keys(location)) >= 2)
-            (one,) = await store.schedules()
-            assert (one.name, one.saga, one.every, one.paused) == ("tick", "simple", 1.0, False)
+            (schedule,) = await store.schedules()
+            assert (schedule.name, schedule.saga, schedule.every, schedule.paused) == (
+                "tick",
+                "simple",
+                1.0,
+                False,
+            )
             await store.remove_schedule("tick")
             assert await store.schedules() == []
 
@@ -192,41 +197,45 @@ def test_times_that_were_missed(
     clock = Clock()
 
     async def main() -> None:
-        async with sagas.open(location, [kind := nightly()], clock=clock) as store:
+        async with sagas.open(
+            location, [kind := nightly()], settings=sagas.Settings(clock=clock)
+        ) as store:
             await store.schedule("n", kind, every=EVERY, catch_up=catch_up)
             await store.schedule("p", kind, every=EVERY, catch_up="all")
             await store.pause_schedule("p")
-            assert [one.paused for one in await store.schedules()] == [False, True]
+            assert [schedule.paused for schedule in await store.schedules()] == [False, True]
         clock.now += 2 * DAY
         missed = [
             f"n@2026-03-0{day}T{hour:02}:00:00Z" for day in (1, 2, 3) for hour in (0, 6, 12, 18)
         ][3:11]
         wanted = missed if catch_up == "all" else missed[-1:]  # which is not late
-        async with sagas.open(location, [kind], clock=clock) as store:
+        async with sagas.open(location, [kind], settings=sagas.Settings(clock=clock)) as store:
             await until(lambda: is_at(store, START + 2 * DAY))
             assert keys(location) == wanted
             await store.resume_schedule("p")
-            by_name = {one.name: one for one in await store.schedules()}
-            assert {one.next_at for one in by_name.values()} == {START + 2 * DAY + 6 * 3600}
+            by_name = {schedule.name: schedule for schedule in await store.schedules()}
+            assert {row.next_at for row in by_name.values()} == {START + 2 * DAY + 6 * 3600}
             assert by_name["n"].last_at == START + 2 * DAY and by_name["p"].last_at is None
             await store.schedule("n", kind, cron="0 2 * * *", timezone="Europe/Berlin")
-            (one, _) = await store.schedules()
-            assert one.next_at == START + 2 * DAY + 13 * 3600 and one.every is None
+            (schedule, _) = await store.schedules()
+            assert schedule.next_at == START + 2 * DAY + 13 * 3600 and schedule.every is None
         clock.now += DAY / 2 + 120
-        async with sagas.open(location, [kind], clock=clock) as store:
+        async with sagas.open(location, [kind], settings=sagas.Settings(clock=clock)) as store:
             await store.schedule("s", kind, every=EVERY, catch_up="skip")
             await until(lambda: len(keys(location)) == len(wanted) + 2)
             await until(lambda: is_at(store, START + 2 * DAY + 12 * 3600, "p"))
             assert keys(location)[-2:] == ["p@2026-03-03T18:00:00Z", "p@2026-03-04T00:00:00Z"]
 
     async def is_at(store: sagas.Store, at: float, name: str = "n") -> bool:
-        return any((one.name, one.last_at) == (name, at) for one in await store.schedules())
+        return any(
+            (schedule.name, schedule.last_at) == (name, at) for schedule in await store.schedules()
+        )
 
     run(main())
 
 
-@pytest.mark.parametrize("what", ["pause", "remove", "change"])
-def test_nothing_is_started_after_a_change(location: str, what: str) -> None:
+@pytest.mark.parametrize("command", ["pause", "remove", "change"])
+def test_nothing_is_started_after_a_change(location: str, command: str) -> None:
     """Several times are due; when the first saga has started, another program changes that."""
     clock, event_names = Clock(), list[str]()
 
@@ -234,23 +243,27 @@ def test_nothing_is_started_after_a_change(location: str, what: str) -> None:
         if event.name == "saga_started" and not event_names:
             event_names.append(event.name)
             with contextlib.closing(admin.connect(location, "rw")) as link:
-                if what == "change":
+                if command == "change":
                     Schedules(link).put("n", ("simple", 1), "7", "{}", when, clock.now)
                 else:
-                    getattr(Schedules(link), what)("n")
+                    getattr(Schedules(link), command)("n")
 
     async def main() -> None:
-        async with sagas.open(location, [kind := nightly()], clock=clock) as store:
+        async with sagas.open(
+            location, [kind := nightly()], settings=sagas.Settings(clock=clock)
+        ) as store:
             await store.schedule("n", kind, every=EVERY, catch_up="all")
             await store.schedule("z", kind, every=EVERY)  # its turn is after that of the other one
         clock.now += 2 * DAY
-        async with sagas.open(location, [kind], clock=clock, on_event=change) as store:
+        async with sagas.open(
+            location, [kind], settings=sagas.Settings(clock=clock), on_event=change
+        ) as store:
             await until(lambda: any(key.startswith("z@") for key in keys(location)))
             assert keys(location) == ["n@2026-03-01T18:00:00Z", "z@2026-03-03T12:00:00Z"]
-            by_name = {one.name: one for one in await store.schedules()}
-            if what == "pause":
+            by_name = {schedule.name: schedule for schedule in await store.schedules()}
+            if command == "pause":
                 assert by_name["n"].paused and by_name["n"].last_at == START + DAY / 4
-            elif what == "change":
+            elif command == "change":
                 assert by_name["n"].input == 7 and by_name["n"].next_at > clock.now
 
     when = timing.timing(None, EVERY, "UTC", "all")
@@ -276,7 +289,9 @@ def test_a_time_zone_that_this_system_does_not_have(
             details.append(event.detail)
 
     async def main() -> None:
-        async with sagas.open(location, [kind], clock=clock, on_event=hears) as store:
+        async with sagas.open(
+            location, [kind], settings=sagas.Settings(clock=clock), on_event=hears
+        ) as store:
             await store.schedule("far", kind, cron="0 * * * *")
             await store.schedule("near", kind, every=EVERY)
             zone("Mars/Utopia")
@@ -306,11 +321,11 @@ def test_other_times_are_not_those_that_were_read(location: str) -> None:
     with sagas.open_sync(location, [nightly()]):
         pass
     with contextlib.closing(admin.connect(location, "rw")) as link:
-        schedules, what = Schedules(link), ("n", ("simple", 1), "null", "{}")
+        schedules, command = Schedules(link), ("n", ("simple", 1), "null", "{}")
         long, short = (timing.timing(None, EVERY / parts, "UTC", "all") for parts in (1, 3))
-        schedules.put(*what, long, START)
+        schedules.put(*command, long, START)
         read = of_row(link.ask(ALL)[0])
-        schedules.put(*what, short, START + 5 * 3600)
+        schedules.put(*command, short, START + 5 * 3600)
         changed = link.ask(ALL)
         schedules.advance(read, START + 12 * 3600, read.next_at, None)
         assert read.next_at == of_row(changed[0]).next_at and link.ask(ALL) == changed
@@ -322,12 +337,13 @@ def test_a_schedule_that_is_declared_again(location: str) -> None:
 
     async def declare(given: object, **keys: bytes) -> float:
         codec = Encryption(**keys) if keys else None
-        options: dict[str, Any] = {"clock": clock, "accept_new": False, "codec": codec}
+        options: dict[str, Any] = {"accept_new": False, "codec": codec}
+        options["settings"] = sagas.Settings(clock=clock)
         async with sagas.open(location, [kind := nightly()], **options) as store:
             await store.schedule("n", kind, given, every=hour)
-            (one,) = await store.schedules()
-            assert one.input == given
-            return one.next_at
+            (schedule,) = await store.schedules()
+            assert schedule.input == given
+            return schedule.next_at
 
     async def main() -> None:
         first = await declare("a")
@@ -349,27 +365,33 @@ def test_a_saga_that_cannot_be_started(tmp_path: pathlib.Path) -> None:
 
     async def main() -> None:
         other = nightly()
-        async with sagas.open(path, [other], clock=clock, on_event=events.append) as store:
+        async with sagas.open(
+            path, [other], settings=sagas.Settings(clock=clock), on_event=events.append
+        ) as store:
             await store.start(other, "n@2026-03-01T18:00:00Z", "mine")
             await store.schedule("n", other, every=EVERY)
             clock.now += 6 * 3600
             await store.schedule("m", other, every=EVERY)  # so that the store is looked at
-            (one,) = await until(lambda: failed(store))
-            assert one.error and one.error.startswith("KeyConflict: key 'n@2026-03-01T18:00:00Z'")
-            assert one.next_at == START + 12 * 3600
+            (schedule,) = await until(lambda: failed(store))
+            assert schedule.error and schedule.error.startswith(
+                "KeyConflict: key 'n@2026-03-01T18:00:00Z'"
+            )
+            assert schedule.next_at == START + 12 * 3600
 
     async def failed(store: sagas.Store) -> list[Any]:
-        return [one for one in await store.schedules() if one.error]
+        return [schedule for schedule in await store.schedules() if schedule.error]
 
     run(main())
-    assert [one.key for one in events if one.name == "schedule_failed"] == [
+    assert [event.key for event in events if event.name == "schedule_failed"] == [
         "n@2026-03-01T18:00:00Z"
     ]
 
 
 def test_the_command(location: str, capsys: pytest.CaptureFixture[str]) -> None:
     shell, clock = Shell(location, capsys), Clock()
-    with sagas.open_sync(location, [kind := nightly()], clock=clock) as store:
+    with sagas.open_sync(
+        location, [kind := nightly()], settings=sagas.Settings(clock=clock)
+    ) as store:
         store.schedule("night", kind, {"n": 1}, cron="0 2 * * *", timezone="Europe/Berlin")
         store.schedule("tick", kind, every=datetime.timedelta(hours=1))
     assert shell("schedules").splitlines()[1:] == [
@@ -377,7 +399,7 @@ def test_the_command(location: str, capsys: pytest.CaptureFixture[str]) -> None:
         "tick   simple  every 3600 s                   2026-03-01 13:00:00Z",
     ]
     assert shell("schedules", "pause", "tick") == "tick: paused\n"
-    assert [one["paused"] for one in shell.json("schedules")] == [False, True]
+    assert [row["paused"] for row in shell.json("schedules")] == [False, True]
     assert (
         "paused" in shell("schedules") and shell("schedules", "resume", "tick") == "tick: resumed\n"
     )
@@ -464,11 +486,14 @@ def test_how_many_missed_times_are_started(location: str) -> None:
             details.append(str(event.detail))
 
     async def main() -> None:
-        async with sagas.open(location, [kind := nightly()], clock=clock) as store:
+        async with sagas.open(
+            location, [kind := nightly()], settings=sagas.Settings(clock=clock)
+        ) as store:
             await store.schedule("e", kind, every=SECOND, catch_up="all", max=3)
             await store.schedule("c", kind, cron="0 * * * *", catch_up="all", max=2)
             by_name = {
-                one.name: (one.catch_up, one.max, one.overlap) for one in await store.schedules()
+                schedule.name: (schedule.catch_up, schedule.max, schedule.overlap)
+                for schedule in await store.schedules()
             }
             assert by_name == {"e": ("all", 3, "allow"), "c": ("all", 2, "allow")}
         clock.now += 90 * DAY
@@ -476,7 +501,9 @@ def test_how_many_missed_times_are_started(location: str) -> None:
             count = 1 if "://" not in location else 10
             for _ in range(count):
                 await nodes.enter_async_context(
-                    sagas.open(location, [kind], clock=clock, on_event=listen)
+                    sagas.open(
+                        location, [kind], settings=sagas.Settings(clock=clock), on_event=listen
+                    )
                 )
             await until(lambda: len(keys(location)) >= 5)
 
@@ -496,7 +523,9 @@ def test_times_that_were_missed_before_a_pause(
 
     async def main() -> None:
         clock = Clock()
-        async with sagas.open(location, [kind := nightly()], clock=clock) as store:
+        async with sagas.open(
+            location, [kind := nightly()], settings=sagas.Settings(clock=clock)
+        ) as store:
             for name, catch_up in (("a", "all"), ("l", "last"), ("s", "skip")):
                 await store.schedule(name, kind, every=EVERY, catch_up=catch_up)
         assert (
@@ -506,14 +535,16 @@ def test_times_that_were_missed_before_a_pause(
         async with (
             sagas.Client(location)
             if "://" in location
-            else sagas.open(location, [kind], clock=clock, accept_new=False)
+            else sagas.open(
+                location, [kind], settings=sagas.Settings(clock=clock), accept_new=False
+            )
         ) as store:
             clock.now += DAY
             await store.pause_schedule("l")
             await store.pause_schedule("l")
             await store.pause_schedule("s")
             await store.resume_schedule("a")
-            errors = {one.name: one.error for one in await store.schedules()}
+            errors = {schedule.name: schedule.error for schedule in await store.schedules()}
         assert errors == {
             "a": "100 missed times before the pause were not started",
             "l": "1 missed time before the pause was not started",
@@ -539,7 +570,9 @@ def test_a_time_while_the_saga_before_is_open(location: str, overlap: str) -> No
     async def main() -> None:
         kind = simple(work)
         listen = lambda event: event_names.append(event.name)  # noqa: E731
-        async with sagas.open(location, [kind], clock=clock, on_event=listen) as store:
+        async with sagas.open(
+            location, [kind], settings=sagas.Settings(clock=clock), on_event=listen
+        ) as store:
             await store.schedule("n", kind, every=EVERY, overlap=overlap)
             for turn in (1, 2):
                 clock.now += EVERY.total_seconds()
@@ -571,10 +604,14 @@ def test_a_program_that_lacks_the_definition(location: str) -> None:
         messages.append(f"{event.name}: {event.detail}")
 
     async def main() -> None:
-        async with sagas.open(location, [kind := nightly()], clock=clock) as store:
+        async with sagas.open(
+            location, [kind := nightly()], settings=sagas.Settings(clock=clock)
+        ) as store:
             await store.schedule("n", kind, every=EVERY)
         clock.now += DAY
-        async with sagas.open(location, [other], clock=clock, on_event=listen) as store:
+        async with sagas.open(
+            location, [other], settings=sagas.Settings(clock=clock), on_event=listen
+        ) as store:
 
             async def error() -> str | None:
                 return (await store.schedules())[0].error
@@ -584,7 +621,7 @@ def test_a_program_that_lacks_the_definition(location: str) -> None:
             await asyncio.sleep(0)
             assert await error() == "no program has its saga 'simple' (version 1)"
         assert messages == ["schedule_failed: n: no program has its saga 'simple' (version 1)"]
-        async with sagas.open(location, [kind], clock=clock) as store:
+        async with sagas.open(location, [kind], settings=sagas.Settings(clock=clock)) as store:
             await until(lambda: keys(location))
 
             async def has_no_error() -> bool:
@@ -603,9 +640,9 @@ def test_invalid_bounds_and_overlaps() -> None:
         {"max": 10_001},
         {"overlap": "queued"},
     ):
-        most, overlap = options.get("max", 100), options.get("overlap", "allow")
+        max_missed, overlap = options.get("max", 100), options.get("overlap", "allow")
         with pytest.raises(sagas.InvalidSchedule, match=next(iter(options))):
-            timing.timing(None, SECOND, "UTC", "all", most, overlap)
+            timing.timing(None, SECOND, "UTC", "all", max_missed, overlap)
     some = timing.timing(None, SECOND, "UTC", "all", 7, "queue")
     assert timing.policy_of(some.policy) == (some.catch_up, 7, some.overlap)
     assert timing.timing(None, SECOND, "UTC", "last").policy == "last"
@@ -631,9 +668,10 @@ def test_a_schedule_of_a_later_release_stops_no_other(tmp_path: pathlib.Path) ->
                 await store.schedule(name, saga, every=datetime.timedelta(seconds=1))
             with contextlib.closing(sqlite3.connect(location)) as link, link:
                 link.execute("UPDATE schedules SET catch_up = 'all overlap=wait' WHERE name = 'a'")
-            before = {one.key for one in await store.list()}
+            before = {summary.key for summary in await store.list()}
             while not any(
-                one.key.startswith("b@") and one.key not in before for one in await store.list()
+                summary.key.startswith("b@") and summary.key not in before
+                for summary in await store.list()
             ):
                 await asyncio.sleep(0.05)
             assert event_names == ["schedule_failed"]

@@ -43,14 +43,14 @@ def test_a_synchronous_standby_takes_over(tmp_path: pathlib.Path) -> None:
     async def main(url: str) -> None:
         node = Node(Witness(str(tmp_path / "socket")), url, gates=True)
         async with sagas.open(url, node.sagas, concurrency=64, lease=60, record=record) as store:
-            work = [asyncio.create_task(node.one(store, number)) for number in range(40)]
+            work = [asyncio.create_task(node.run_saga(store, number)) for number in range(40)]
             await until(lambda: len(node.called) == 40)
             # some are over, some at their second step, some at their first
             for number in range(20):
                 node.gates[f"k{number}", "a"].set()
             for number in range(10):
                 node.gates[f"k{number}", "b"].set()
-            await until(lambda: sum(one.done() for one in work) == 10)
+            await until(lambda: sum(coroutine.done() for coroutine in work) == 10)
             await asyncio.to_thread(pair.fail_over)
             node.open_all()
             await asyncio.gather(*work)
@@ -90,8 +90,8 @@ def test_an_asynchronous_standby_may_lack_the_last_commits(
 ) -> None:
     """A saga that the standby has goes back to its state there, and its step is called again with
     its token; a saga that it lacks does not exist, and is started again. The store continues, also
-    if a whole log is missing, and gives no saga another's tokens. The node's record is allowed, and
-    has what was acknowledged and lost; it is not allowed if a synchronous standby is claimed.
+    if a whole log is missing, and assigns no saga another's tokens. The node's record is allowed,
+    and has what was acknowledged and lost; it is not allowed if a synchronous standby is claimed.
     """
     record = tmp_path / "record"
     monkeypatch.setattr("sagas.definition.registry.SHARD_CAPACITY", room)
@@ -124,7 +124,7 @@ def test_an_asynchronous_standby_may_lack_the_last_commits(
             before = await store.wait("there")
             assert before.ok and (await ended(store, kind, "lacking")).ok
             if held:
-                await until(held.asked.exists)
+                await until(held.request_file.exists)
             await asyncio.to_thread(pair.fail_over)
             if held:
                 await asyncio.to_thread(held.let_go)
@@ -154,11 +154,13 @@ def check_losses(url: str, record: pathlib.Path, room: int) -> None:
     starts again.
     """
     shards, faults = fleet.judged(url, [record])
-    assert all(one.good for one in shards) and len(faults) == sum(len(one.losses) for one in shards)
+    assert all(shard.good for shard in shards) and len(faults) == sum(
+        len(shard.losses) for shard in shards
+    )
     lost = [
         (loss.chunk_count, {telling.edge for telling in loss.acknowledgements})
-        for one in shards
-        for loss in one.losses
+        for shard in shards
+        for loss in shard.losses
     ]
     assert lost == [(1, {"call", "wake"})] + [(0, {"call", "wake"})] * (room == 1)
     assert fleet.reasons(fleet.judged(url, [record], sync=True)[1]) == {"FewerThanShipped"}
@@ -191,7 +193,7 @@ def test_a_log_that_is_about_to_be_closed(
             await asyncio.to_thread(pair.hold_back)
             may_end.set()
             assert (await store.wait("there")).ok
-            await until(held.asked.exists)
+            await until(held.request_file.exists)
             await asyncio.to_thread(pair.fail_over)
             await asyncio.to_thread(held.let_go)
             assert (await store.wait("there")).ok and calls == ["there"] * 2
@@ -208,12 +210,12 @@ def test_a_limit_holds_at_an_asynchronous_standby(bounds: dict[str, Any]) -> Non
     without a restart of a node.
     """
     begun = Counter[str]()
-    most = 0
+    highest = 0
 
     async def step(task: Task) -> str:
-        nonlocal most
+        nonlocal highest
         begun[task.key] += 1
-        most = max(most, sum(begun.values()) - len(ends))
+        highest = max(highest, sum(begun.values()) - len(ends))
         await asyncio.sleep(0.01)
         ends.append(task.key)
         return "done"
@@ -228,7 +230,7 @@ def test_a_limit_holds_at_an_asynchronous_standby(bounds: dict[str, Any]) -> Non
             async with asyncio.timeout(60):
                 keys = [f"k{number}" for number in range(6)]
                 assert all(await asyncio.gather(*(started_again(store, kind, key) for key in keys)))
-        assert most <= bounds.get("fleet_concurrency", 6)
+        assert highest <= bounds.get("fleet_concurrency", 6)
 
     with paired(synchronous=False) as pair:
         run(main(pair.url(pair.primary.create().rpartition("/")[2])))
@@ -238,15 +240,15 @@ class HeldAudits:
     """The program, whose audits wait until they are released."""
 
     def __init__(self, folder: pathlib.Path) -> None:
-        self.program, self.asked = folder / "held", folder / "asked"
+        self.program, self.request_file = folder / "held", folder / "asked"
         self._gate, self._free = folder / "gate", folder / "free"
         os.mkfifo(self._gate)
-        free, asked, gate = (
-            shlex.quote(str(path)) for path in (self._free, self.asked, self._gate)
+        free, requested, gate = (
+            shlex.quote(str(path)) for path in (self._free, self.request_file, self._gate)
         )
         self.program.write_text(
             "#!/bin/sh\n"
-            f'if [ "$1" = audit ] && ! [ -e {free} ]; then : >{asked}; read -r _ <{gate}; fi\n'
+            f'if [ "$1" = audit ] && ! [ -e {free} ]; then : >{requested}; read -r _ <{gate}; fi\n'
             f'exec {shlex.quote(program.path())} "$@"\n'
         )
         self.program.chmod(0o755)
@@ -304,9 +306,10 @@ class Parted:
             task.connection.execute(text, (task.key,))
             asyncio.run_coroutine_threadsafe(passes("b"), self.loop).result()
 
-        self.kind.step(name="b", transaction=True, needs=[a])(b_in_thread if in_thread else b)
+        step_b = self.kind.step(name="b", transaction=True, needs=[a])
+        needed = step_b(b_in_thread if in_thread else b)
 
-        @self.kind.step(needs=["b"])
+        @self.kind.step(needs=[needed])
         async def c(task: Task) -> None:
             self.calls.append("c")
 
@@ -361,24 +364,27 @@ def test_a_step_inside_ends_at_a_server_that_took_over(in_thread: bool) -> None:
     there before the node has recovered from it.
     """
 
-    async def moment(two: Parted) -> None:
-        await until(lambda: two.calls)
-        await asyncio.to_thread(two.part)
+    async def moment(parted: Parted) -> None:
+        await until(lambda: parted.calls)
+        await asyncio.to_thread(parted.part)
         for step in "ab":
-            two.gates[step].set()
-        await until(lambda: "commit_failed" in two.event_names or "saga_ended" in two.event_names)
+            parted.gates[step].set()
+        await until(
+            lambda: "commit_failed" in parted.event_names or "saga_ended" in parted.event_names
+        )
         assert (
-            two.ask(
-                two.pair.standby, "SELECT key FROM book UNION ALL SELECT value FROM sagas.attempts"
+            parted.ask(
+                parted.pair.standby,
+                "SELECT key FROM book UNION ALL SELECT value FROM sagas.attempts",
             )
             == []
         )
-        two.end_sessions()
+        parted.end_sessions()
 
     with paired(synchronous=False) as pair:
-        two = Parted(pair, in_thread)
-        run(two.play(moment))
-        assert two.calls.count("a") == 2
+        parted = Parted(pair, in_thread)
+        run(parted.play(moment))
+        assert parted.calls.count("a") == 2
 
 
 def test_a_lone_step_inside_ends_at_the_former_server() -> None:
@@ -386,32 +392,32 @@ def test_a_lone_step_inside_ends_at_the_former_server() -> None:
     it: it is called again there.
     """
     with paired(synchronous=False) as pair:
-        two = Parted(pair, in_thread=False)
-        run(two.play(ends_at_the_one_before))
-        assert two.calls.count("a") == 1
+        parted = Parted(pair, in_thread=False)
+        run(parted.play(ends_at_the_one_before))
+        assert parted.calls.count("a") == 1
 
 
-async def ends_at_the_one_before(two: Parted) -> None:
+async def ends_at_the_one_before(parted: Parted) -> None:
     """Let the commit wait for a lock while the node changes servers; the former server ends once it
     is done.
     """
-    two.gates["a"].set()
-    await until(lambda: "b" in two.calls)
-    await asyncio.to_thread(two.part)
+    parted.gates["a"].set()
+    await until(lambda: "b" in parted.calls)
+    await asyncio.to_thread(parted.part)
     with psycopg.connect(
-        two.pair.primary.url(two.database), options="-c default_transaction_read_only=off"
+        parted.pair.primary.url(parted.database), options="-c default_transaction_read_only=off"
     ) as stranger:
         stranger.execute("LOCK TABLE sagas.attempts IN EXCLUSIVE MODE")
-        two.gates["b"].set()
+        parted.gates["b"].set()
         waits = (
             "SELECT pid FROM pg_stat_activity WHERE datname = current_database() AND"
             " wait_event_type = 'Lock'"
         )
-        ((process,),) = await until(lambda: two.ask(two.pair.primary, waits))
-        two.end_sessions(but=[process, stranger.info.backend_pid])
-        await until(lambda: "lease_expired" in two.event_names)
-    await until(lambda: two.ask(two.pair.primary, "SELECT key FROM book"))
-    await asyncio.to_thread(two.pair.primary.stop)
+        ((process,),) = await until(lambda: parted.ask(parted.pair.primary, waits))
+        parted.end_sessions(but=[process, stranger.info.backend_pid])
+        await until(lambda: "lease_expired" in parted.event_names)
+    await until(lambda: parted.ask(parted.pair.primary, "SELECT key FROM book"))
+    await asyncio.to_thread(parted.pair.primary.stop)
 
 
 class Lacking:
@@ -493,7 +499,9 @@ class Lacking:
         await asyncio.to_thread(self.pair.hold_back)
         await store.start(self.kind, "lacking")
         await until(
-            lambda: [one.waits for one in store.active_attempts("lacking")] == ["concurrency"], 60
+            lambda: [attempt.waits for attempt in store.active_attempts("lacking")]
+            == ["concurrency"],
+            60,
         )
         await asyncio.to_thread(self.pair.standby.promote)
         text = f"ALTER DATABASE {self.database} SET default_transaction_read_only = on"
@@ -516,25 +524,25 @@ def test_a_step_inside_of_a_saga_that_the_new_server_lacks(in_thread: bool, take
     in the meantime: nothing of a saga is written that the server lacks.
     """
 
-    async def main(two: Lacking) -> None:
-        url, hook = two.pair.url(two.database), two.heard
+    async def main(lacking: Lacking) -> None:
+        url, hook = lacking.pair.url(lacking.database), lacking.heard
         async with sagas.open(
-            url, [two.kind], lease=600, on_event=hook, shutdown_timeout=1
+            url, [lacking.kind], lease=600, on_event=hook, shutdown_timeout=1
         ) as store:
-            await two.part(store)
-            held = await psycopg.AsyncConnection.connect(two.pair.standby.url(two.database))
+            await lacking.part(store)
+            held = await psycopg.AsyncConnection.connect(lacking.pair.standby.url(lacking.database))
             async with held:
                 await held.execute("LOCK TABLE sagas.shards IN SHARE MODE")  # none is loaded
-                await two.goes_over()
+                await lacking.goes_over()
                 if taken_up:
                     await held.commit()
                     await until(lambda: not store.active_attempts("lacking"), 60)
-                two.gates["lacking"].set()
-                await until(lambda: two.is_decided(taken_up, in_thread), 60)
-                assert "lacking" not in two.booked()
+                lacking.gates["lacking"].set()
+                await until(lambda: lacking.is_decided(taken_up, in_thread), 60)
+                assert "lacking" not in lacking.booked()
             assert (await store.wait("there")).ok
-            assert (await started_again(store, two.kind, "lacking")).ok
-        assert two.booked() == ["lacking", "there"]
+            assert (await started_again(store, lacking.kind, "lacking")).ok
+        assert lacking.booked() == ["lacking", "there"]
 
     with paired(synchronous=False) as pair:
         run(main(Lacking(pair, in_thread)))
@@ -610,7 +618,7 @@ def test_a_start_that_the_standby_has_as_taken(is_over: bool) -> None:
     async def main(url: str, primary: str) -> None:
         stranger = await psycopg.AsyncConnection.connect(primary)
         async with sagas.open(url, [kind], lease=600) as store, sagas.Client(url) as client:
-            assert store.holds()
+            assert store._holds()
             async with stranger:
                 await stranger.execute("LOCK TABLE sagas.event_log IN EXCLUSIVE MODE")
                 going = await client.start(kind, "k")
@@ -731,7 +739,7 @@ def test_the_databases_disk_is_full() -> None:
             with pytest.raises(sagas.StoreUnavailable):
                 await store.start(kind, "k19", large)
             ballast.unlink()
-            ends = await asyncio.gather(*(one.wait() for one in first))
+            ends = await asyncio.gather(*(run.wait() for run in first))
             assert [end.results["a"] for end in ends] == large[:19]
             assert (await started_again(store, kind, "k19")).ok
             assert all(verdict.startswith("yes") for verdict in (await store.audit()).values())
@@ -821,17 +829,17 @@ def pooled(server: Server, mode: str, *more: str) -> Iterator[int]:
     settings.chmod(0o644)
     command = server._as_other("pgbouncer", str(settings))
     command[-2] = shutil.which("pgbouncer", path=f"{os.environ['PATH']}:/usr/sbin") or "pgbouncer"
-    with subprocess.Popen(command, stdout=subprocess.DEVNULL, stderr=subprocess.DEVNULL) as one:
+    with subprocess.Popen(command, stdout=subprocess.DEVNULL, stderr=subprocess.DEVNULL) as process:
         try:
             reached = False
-            while not reached and one.poll() is None:
+            while not reached and process.poll() is None:
                 with contextlib.suppress(OSError):
                     socket.create_connection(("127.0.0.1", port)).close()
                     reached = True
             assert reached, "PgBouncer did not start"
             yield port
         finally:
-            one.terminate()
+            process.terminate()
 
 
 POOLERS = {

@@ -70,11 +70,13 @@ CALLS: list[tuple[str, str, str, Any, int]] = [
     (LOOK, "GET", "/v1/sagas/roles/timeline", None, 200),
     (LOOK, "GET", "/v1/sagas/roles/picture.svg", None, 200),
     (LOOK, "GET", "/v1/sagas/roles/certificate", None, 404),
+    (LOOK, "GET", "/v1/sagas/roles/export", None, 200),
     (LOOK, "GET", "/v1/sagas/roles/wait?seconds=0", None, 200),
     (LOOK, "GET", "/v1/events", None, 200),
     (APPROVE, "POST", "/v1/sagas/asks/steps/review/complete", {"result": 1, "undo": True}, 409),
     (APPROVE, "POST", "/v1/sagas/asks/steps/review/fail", {"error": "no", "undo": True}, 409),
     (START, "POST", "/v1/sagas/nobody/abort", {}, 404),
+    (START, "POST", "/v1/sagas/nobody/restart", {"key": "again"}, 404),
     (WORK, "POST", "/v1/tasks/claim", {"steps": ["order/send"], "wait": 0}, 200),
     (WORK, "POST", "/v1/tasks/claim/end", {"worker": "w"}, 200),
     (WORK, "POST", "/v1/tasks/x/heartbeat", FORGED, 403),
@@ -85,7 +87,9 @@ CALLS: list[tuple[str, str, str, Any, int]] = [
     (WORK, "GET", "/v1/queues", None, 200),
     (OPERATE, "POST", "/v1/sagas/roles/resolve", {"note": "x"}, 409),
     (OPERATE, "POST", "/v1/sagas/roles/steps/review/compensate", {}, 409),
+    (OPERATE, "POST", "/v1/sagas/roles/erase", {}, 409),
     (LOOK, "GET", "/v1/definitions", None, 200),
+    (LOOK, "GET", "/v1/trends?range=day", None, 200),
     (LOOK, "GET", "/v1/attention", None, 200),
     (LOOK, "POST", "/v1/sagas/roles/what-if", {"abort": True}, 200),
     (OPERATE, "GET", "/v1/webhooks/deliveries", None, 200),
@@ -96,10 +100,17 @@ CALLS: list[tuple[str, str, str, Any, int]] = [
     (OPERATE, "POST", "/v1/bulk/fail", {"filter": WAITING, "error": "no"}, 200),
     (OPERATE, "POST", "/v1/bulk/retry", {"filter": {"kind": "exhausted", "step": "none"}}, 200),
     (OPERATE, "POST", "/v1/sagas/asks/steps/review/retry", {}, 409),
+    (LOOK, "GET", "/v1/decisions", None, 200),
     (LOOK, "GET", "/v1/schedules", None, 200),
     (OPERATE, "POST", "/v1/schedules/{name}/pause", None, 404),
     (OPERATE, "POST", "/v1/schedules/{name}/resume", None, 404),
     (OPERATE, "DELETE", "/v1/schedules/{name}", None, 404),
+    (LOOK, "GET", "/v1/pauses", None, 200),
+    (OPERATE, "POST", "/v1/pauses", {"definition": "none", "note": "x"}, 422),
+    (OPERATE, "DELETE", "/v1/pauses", None, 404),
+    (OPERATE, "GET", "/v1/nodes", None, 200),
+    (OPERATE, "POST", "/v1/nodes/{node}/drain", {"note": "x"}, 404),
+    (OPERATE, "POST", "/v1/nodes/{node}/undrain", {}, 404),
     ("metrics", "GET", "/metrics", None, 200),
 ]
 """The roles that may besides operators, the call, and its status for them."""
@@ -126,7 +137,11 @@ def answer_of(client: httpx.Client, method: str, path: str, body: Any) -> tuple[
 
 def test_each_route_has_its_roles(guarded: Guarded) -> None:
     """The calls of the test below are complete."""
-    routes = {(one.method, one.path) for some in (*API, *PAGES) for one in some.operations}
+    routes = {
+        (operation.method, operation.path)
+        for some in (*API, *PAGES)
+        for operation in some.operations
+    }
     tested = {
         (method, re.sub(r"/v1/sagas/(roles|asks|nobody)", "/v1/sagas/{key}", path))
         for _, method, path, _, _ in CALLS
@@ -205,9 +220,14 @@ POSTED = (
     "/ui/inbox",
     "/ui/sagas/KEY/abort",
     "/ui/sagas/KEY/resolve",
+    "/ui/sagas/KEY/restart",
+    "/ui/sagas/KEY/erase",
     "/ui/sagas/{key}/steps/{step}/compensate",
     "/ui/sagas/{key}/steps/{step}/{outcome}",
     "/ui/schedules/{name}/{change}",
+    "/ui/pauses",
+    "/ui/pauses/resume",
+    "/ui/nodes",
     "/ui/webhooks/{id}/redeliver",
 )
 
@@ -238,7 +258,7 @@ def test_pages_have_no_roles_but_a_session(guarded: Guarded) -> None:
 
 def waits(client: httpx.Client, key: str, why: str) -> None:
     deadline = time.monotonic() + LONG
-    while why not in [one["why"] for one in client.get(f"/v1/sagas/{key}").json()["waits"]]:
+    while why not in [wait["why"] for wait in client.get(f"/v1/sagas/{key}").json()["waits"]]:
         assert time.monotonic() < deadline
 
 
@@ -283,12 +303,12 @@ def test_an_approval_is_given_on_purpose(guarded: Guarded) -> None:
         waits(approver, "refused", "approval")
         assert (
             approver.post(
-                "/v1/sagas/refused/steps/review/fail", json={"error": "too dear", "note": "no"}
+                "/v1/sagas/refused/steps/review/fail", json={"error": "too expensive", "note": "no"}
             ).status_code
             == 200
         )
         assert caller.get("/v1/sagas/refused/wait?seconds=60").json()["errors"] == {
-            "review": "too dear"
+            "review": "too expensive"
         }
 
 
@@ -345,15 +365,15 @@ def test_an_approval_before_it_begins(guarded: Guarded) -> None:
     """
     with guarded.client("caller") as caller, guarded.client("approver") as approver:
         start(caller, "late", "ahead")
-        where = "/v1/sagas/ahead/steps"
+        url = "/v1/sagas/ahead/steps"
         body = {"result": 1}
         for client, step, status in (
             (caller, "sign", 403),
             (approver, "pay", 403),
             (approver, "sign", 200),
         ):
-            assert client.post(f"{where}/{step}/complete", json=body).status_code == status
-        late = approver.post(f"{where}/seal/fail", json={"error": "no", "early": False})
+            assert client.post(f"{url}/{step}/complete", json=body).status_code == status
+        late = approver.post(f"{url}/seal/fail", json={"error": "no", "early": False})
         assert (late.status_code, error_of(late)) == (409, "StepNotWaiting")
         with logged_in(guarded) as page:
             page_text = page.get("/ui/sagas/ahead").text
@@ -361,7 +381,7 @@ def test_an_approval_before_it_begins(guarded: Guarded) -> None:
             assert "Approve seal before it begins" in page_text
             form = "/ui/sagas/ahead/steps/seal/failed"
             assert "Refuse step seal?" in page.get(form).text
-            sent = {"csrf": csrf_of(page, form), "failed": "too dear"}
+            sent = {"csrf": csrf_of(page, form), "failed": "too expensive"}
             assert page.post(form, data=sent).status_code == 303
             assert "its failure is reported" in page.get("/ui/sagas/ahead").text
         page_text = {"seal": "fail", "sign": "complete"}
@@ -396,13 +416,14 @@ def test_the_page_wants_a_session(guarded: Guarded) -> None:
             "/ui/sagas/x/resolve",
             "/ui/sagas/x/steps/y/done",
             "/ui/sagas/x/certificate",
+            "/ui/sagas/x/export",
         ):
             assert client.get(path).headers["location"].startswith("/ui/login?next="), path
         for bad in (guarded.tokens["caller"], "x"):
             assert client.post("/ui/login", data={"token": bad}).status_code == 403
-        for where in ("https://elsewhere.example/", "//elsewhere.example", "/ui\\@x", "/v1/sagas"):
+        for url in ("https://elsewhere.example/", "//elsewhere.example", "/ui\\@x", "/v1/sagas"):
             answer = client.post(
-                "/ui/login", data={"token": guarded.tokens["operator"], "next": where}
+                "/ui/login", data={"token": guarded.tokens["operator"], "next": url}
             )
             assert answer.headers["location"] == "/ui"
             cookie = answer.headers["set-cookie"]
@@ -521,19 +542,23 @@ def test_the_cookies_of_two_services(guarded: Guarded) -> None:
 def half_sent(
     service: Served, path: str, kind: str, body: bytes, **headers: str
 ) -> Iterator[tuple[Any, bytes]]:
-    """Send a request except for its body, of which only the first byte is sent; return its
-    connection, and the rest.
+    """Send a request except for its body; return its connection, and the rest.
+
+    Its token was checked: the service has asked for the body, and has its first byte.
     """
     fields = {
         "Host": service.address,
         "Content-Type": f"application/{kind}",
         "Content-Length": str(len(body)),
+        "Expect": "100-continue",
         **headers,
     }
     head = "".join(f"{name}: {value}\r\n" for name, value in fields.items())
-    with raw(service) as one:
-        one.sendall(f"POST {path} HTTP/1.1\r\n{head}\r\n".encode() + body[:1])
-        yield one, body[1:]
+    with raw(service) as connection:
+        connection.sendall(f"POST {path} HTTP/1.1\r\n{head}\r\n".encode())
+        assert b" 100 " in connection.recv(1000)
+        connection.sendall(body[:1])
+        yield connection, body[1:]
 
 
 def test_a_revoked_token(tmp_path: pathlib.Path) -> None:
@@ -578,7 +603,7 @@ def test_a_revoked_token(tmp_path: pathlib.Path) -> None:
         sent = half_sent(
             service, "/ui/sagas/late/abort", "x-www-form-urlencoded", form, Cookie=cookie
         )
-        some = [stack.enter_context(one) for one in (call, narrowed, sent)]
+        some = [stack.enter_context(manager) for manager in (call, narrowed, sent)]
         kept = file.read_text().split("[[token]]\n")[2:]
         file.write_text("[[token]]\n" + '[[token]]\ndefinitions = ["trip"]\n'.join(reversed(kept)))
         deadline = time.monotonic() + LONG
@@ -586,9 +611,9 @@ def test_a_revoked_token(tmp_path: pathlib.Path) -> None:
             assert time.monotonic() < deadline
             time.sleep(0.1)
         assert caller.get("/v1/sagas/late").status_code == 404
-        for one, rest in some:
-            one.sendall(rest)
-        assert [answered(one) for one, _ in some] == [
+        for connection, rest in some:
+            connection.sendall(rest)
+        assert [answered(connection) for connection, _ in some] == [
             (401, "Unauthorized"),
             (503, "RightsChanged"),
             (403, ""),
@@ -625,7 +650,7 @@ def test_texts_are_no_markup(guarded: Guarded) -> None:
                 f"sagas/{quoted(key)}/steps/send/done",
             )
         ]
-        assert "done…" in texts[0]
+        assert "complete…" in texts[0]
         client.post(
             f"/v1/tasks/{task['attempt_id']}/fail",
             json={"lease": task["lease"], "error": NASTY, "final": True},

@@ -3,6 +3,7 @@
 
 from __future__ import annotations
 
+import argparse
 import contextlib
 import datetime
 import importlib
@@ -18,7 +19,8 @@ from serving import FEW, command, served
 import sagas
 from sagas.api.service_replies import ServiceValues
 from sagas.server import command as command_module
-from sagas.server.command import AppStore
+from sagas.api.app import App
+from sagas.cli.options import payloads_of
 from sagas.storage.admin import connect
 
 BIG = "big " * 200
@@ -43,15 +45,15 @@ def tour(task): raise sagas.Fail("no")
 @order.step
 def charge(task):
     return {"shop": task.context["shop"], "big": task.input["big"], "seen": seen}
-words = dict(
+options = dict(
     codec=codec, context=shop, blobs=sagas.FolderBlobStore("blobs"), blob_threshold=300,
     concurrency=3, retention=datetime.timedelta(days=1), on_event=lambda event: None,
     shutdown_timeout=7, lease=datetime.timedelta(seconds=4),
 )
-store = sagas.open("other.db", [top, mid, leaf, order], **words)
-blocking = sagas.open_sync("other.db", [top, mid, leaf, order], **words)
+store = sagas.open("other.db", [top, mid, leaf, order], **options)
+blocking = sagas.open_sync("other.db", [top, mid, leaf, order], **options)
 old = sagas.open("other.db", [order], accept_new=False)
-clock = sagas.open("other.db", [order], clock=lambda: 1.0)
+clock = sagas.open("other.db", [order], settings=sagas.Settings(clock=lambda: 1.0))
 plain = [order]
 """
 
@@ -83,8 +85,8 @@ def test_options_of_a_store_are_taken(shop: Any) -> None:
         assert options["codec"] is shop.codec and options["context"] is shop.shop
         assert options["concurrency"] == 3 and options["blob_threshold"] == 300
         assert options["retention"] == datetime.timedelta(days=1)
-        assert taken.store.on_event is shop.words["on_event"] and taken.shutdown_timeout == 7
-        assert not {"path", "sagas", "on_event", "clock"} & options.keys()
+        assert taken.store.on_event is shop.options["on_event"] and taken.shutdown_timeout == 7
+        assert not {"path", "sagas", "on_event", "settings"} & options.keys()
         assert sorted(saga.name for saga in taken.sagas) == ["leaf", "mid", "order", "top"]
     arguments = (
         "--concurrency",
@@ -104,16 +106,26 @@ def test_options_of_a_store_are_taken(shop: Any) -> None:
     )
     assert (
         options["retention"] == datetime.timedelta(hours=12)
-        and options["blobs"] is not shop.words["blobs"]
+        and options["blobs"] is not shop.options["blobs"]
     )
     assert settings("--app", "app_shop:plain").store.options == {}
-    for name, says in (("old", "accept_new="), ("clock", "clock="), ("seen", "must be a saga")):
+    for name, says in (("old", "accept_new="), ("clock", "a clock in"), ("seen", "must be a saga")):
         done = command("serve", "x.db", "--app", f"app_shop:{name}")
         assert done.returncode == 2 and says in done.stderr, done
     done = command("serve", "x.db", "--app", "app_shop:plain", "--archive-dir", "old")
     assert done.returncode == 2 and "retention" in done.stderr, done
     done = command("serve", "x.db", "--app", "app_shop:plain", "--retention", "soon")
     assert done.returncode == 2 and "30d" in done.stderr, done
+
+
+@pytest.mark.parametrize(
+    "name, has_codec",
+    [("order", False), ("plain", False), ("store", True), ("blocking", True), ("codec", True)],
+)
+def test_commands_of_a_store_take_the_same(shop: Any, name: str, has_codec: bool) -> None:
+    """A saga and a list of sagas name no codec; a store names its own."""
+    payloads = payloads_of(argparse.Namespace(app=f"app_shop:{name}"))
+    assert (payloads.codec is shop.codec) == has_codec
 
 
 def test_a_store_is_served(shop: Any, tmp_path: pathlib.Path) -> None:
@@ -123,7 +135,7 @@ def test_a_store_is_served(shop: Any, tmp_path: pathlib.Path) -> None:
     blobs, and others get the stored form.
     """
     with served(tmp_path, {"few.toml": FEW}, "--app", "app_shop:store") as service:
-        options: dict[str, Any] = {"codec": shop.codec, "blobs": shop.words["blobs"]}
+        options: dict[str, Any] = {"codec": shop.codec, "blobs": shop.options["blobs"]}
         with sagas.ServiceClient(service.url, **options) as client, sagas.ServiceClient(
             service.url
         ) as plain:
@@ -192,4 +204,4 @@ def test_values_of_a_service() -> None:
         with pytest.raises(TypeError):
             sagas.ServiceClient("http://127.0.0.1:1", **wrong)  # type: ignore[arg-type]
     with pytest.raises(ValueError, match="must be a saga"):
-        AppStore("m:x", 7)
+        App("m:x", 7)

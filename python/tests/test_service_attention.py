@@ -12,6 +12,8 @@ from serving import DEFINITIONS, FEW, LONG, Served, all_done, error_of, report, 
 
 PAIR = """format = 2
 name = "pair"
+[defaults]
+tries = 1
 [[step]]
 name = "a"
 skip = "never"
@@ -29,14 +31,14 @@ FILES = {
 
 @pytest.fixture(scope="module")
 def service(tmp_path_factory: pytest.TempPathFactory, store: str | None) -> Iterator[Served]:
-    with served(tmp_path_factory.mktemp("attention"), FILES, store=store) as one:
-        yield one
+    with served(tmp_path_factory.mktemp("attention"), FILES, store=store) as service:
+        yield service
 
 
 @pytest.fixture
 def client(service: Served) -> Iterator[httpx.Client]:
-    with service.client() as one:
-        yield one
+    with service.client() as client:
+        yield client
 
 
 def test_attention_and_many(client: httpx.Client) -> None:
@@ -62,21 +64,21 @@ def test_attention_and_many(client: httpx.Client) -> None:
     keys, after = [], ""
     while after is not None:
         page = client.get(f"/v1/attention?kind=stuck&limit=2{after}").json()
-        keys += [one["key"] for one in page["entries"]]
+        keys += [entry["key"] for entry in page["entries"]]
         after = page["next"] and f"&after={page['next']}"
     assert keys == [f"many-{number}" for number in range(5)]
     (first, *_) = client.get("/v1/attention?kind=stuck&order=newest").json()["entries"]
     assert (first["key"], first["calls"]) == ("many-4", ["resolve"])
     assert first["detail"] == "because of licence: no licence 4"
     assert [
-        one["key"] for one in client.get("/v1/attention?error=licence%203").json()["entries"]
+        entry["key"] for entry in client.get("/v1/attention?error=licence%203").json()["entries"]
     ] == ["many-3"]
-    assert [one["key"] for one in client.get("/v1/sagas?error=licence%203").json()["sagas"]] == [
+    assert [saga["key"] for saga in client.get("/v1/sagas?error=licence%203").json()["sagas"]] == [
         "many-3"
     ]
     for path, name in (("/v1/attention?kind=stuck", "entries"), ("/v1/sagas?", "sagas")):
         listed = client.get(f"{path}&label=of=1&search=many-").json()[name]
-        assert sorted(one["key"] for one in listed) == ["many-1", "many-3"], path
+        assert sorted(summary["key"] for summary in listed) == ["many-1", "many-3"], path
     assert client.get("/v1/sagas?label=of").status_code == 422
     now = client.get("/v1/sagas/many-2").json()
     assert now["labels"] == {"of": "0"}
@@ -86,7 +88,7 @@ def test_attention_and_many(client: httpx.Client) -> None:
     ):
         listed = client.get(f"/v1/sagas?search=many-&{query}").json()["sagas"]
         assert len(listed) == count, query
-    assert {one["kind"] for one in client.get("/v1/attention").json()["entries"]} >= {
+    assert {entry["kind"] for entry in client.get("/v1/attention").json()["entries"]} >= {
         "stuck",
         "approval",
     }
@@ -131,7 +133,9 @@ def test_attention_and_many(client: httpx.Client) -> None:
         == 3
     )
     log = client.get("/v1/sagas/asked-0/log").json()["events"]
-    notes = [(one["value"]["what"], one["value"]["by"]) for one in log if one["event"] == "note"]
+    notes = [
+        (event["value"]["what"], event["value"]["by"]) for event in log if event["event"] == "note"
+    ]
     assert notes == [("complete", "local"), ("abort", "local")]
 
 
@@ -158,14 +162,14 @@ def test_an_abort_of_many_gets_on(client: httpx.Client) -> None:
         outcomes.append(
             (
                 outcome["done"],
-                [(one["key"], one["problem"]["detail"]) for one in outcome["refused"]],
+                [(text["key"], text["problem"]["detail"]) for text in outcome["refused"]],
             )
         )
     detail = "saga 'gets-on-late' has ended, or was aborted before"
     assert outcomes == [(0, [("gets-on-late", detail)]), (1, []), (1, []), (1, []), (0, [])]
     sagas = client.get("/v1/sagas?search=gets-on-&phase=open").json()["sagas"]
     assert len(sagas) == 4 and all(
-        client.get(f"/v1/sagas/{one['key']}").json()["aborted"] for one in sagas
+        client.get(f"/v1/sagas/{saga['key']}").json()["aborted"] for saga in sagas
     )
 
 
@@ -173,7 +177,7 @@ def test_reports_of_many_are_of_the_step(client: httpx.Client) -> None:
     """Its compensation is meant if `undo` says so; in the inbox it is in its own group."""
     for key in ("asks-a", "asks-undo"):
         start(client, "asks", key)
-    for task in take(client, "asks/a", most=2):
+    for task in take(client, "asks/a", limit=2):
         if task["key"] == "asks-a":
             report(client, task, "fail", error="timeout")
         else:
@@ -216,13 +220,13 @@ def test_a_filter_that_selects_nothing_by_mistake(client: httpx.Client) -> None:
     assert "no definition has a step 'reviev'; did you mean 'review'?" in answer.json()["warnings"]
 
 
-def test_the_cause_is_the_last_failure(client: httpx.Client) -> None:
-    """Of two failed steps it is the later one, whatever their order in the definition."""
+def test_the_cause_is_the_first_failure(client: httpx.Client) -> None:
+    """Of two failed steps it is the earlier one, whatever their order in the definition."""
     for key, order in (("two-ab", "ab"), ("two-ba", "ba")):
         start(client, "pair", key)
-        tasks = {one["step"]: one for step in "ab" for one in take(client, f"pair/{step}")}
+        tasks = {task["step"]: task for step in "ab" for task in take(client, f"pair/{step}")}
         for step in order:
             report(client, tasks[step], "fail", error=f"no {step}", final=True)
         client.get(f"/v1/sagas/{key}/wait")
-        (one,) = client.get(f"/v1/attention?kind=stuck&search={key}").json()["entries"]
-        assert one["detail"].endswith(f": no {order[-1]}"), one
+        (entry,) = client.get(f"/v1/attention?kind=stuck&search={key}").json()["entries"]
+        assert entry["detail"].endswith(f": no {order[0]}"), entry

@@ -36,14 +36,14 @@ def service(tmp_path_factory: pytest.TempPathFactory, store: str | None) -> Iter
     """Return a service for the cases of this file, over each kind of database; each case has its
     own keys, and takes only its own tasks.
     """
-    with served(tmp_path_factory.mktemp("service"), store=store) as one:
-        yield one
+    with served(tmp_path_factory.mktemp("service"), store=store) as service:
+        yield service
 
 
 @pytest.fixture
 def client(service: Served) -> Iterator[httpx.Client]:
-    with service.client() as one:
-        yield one
+    with service.client() as client:
+        yield client
 
 
 def get(client: httpx.Client, path: str, status: int = 200) -> Any:
@@ -175,7 +175,7 @@ def test_a_saga_through_workers(client: httpx.Client) -> None:
 
 
 def test_leases(client: httpx.Client) -> None:
-    """An expired lease gives the task to another worker with the same token.
+    """An expired lease passes the task to another worker with the same token.
 
     A failure counts only under the newest lease, success under any that was issued; the first
     report stays.
@@ -279,7 +279,7 @@ def test_started_attempts(client: httpx.Client) -> None:
 
     def flight() -> tuple[str, list[tuple[str, str | None]]]:
         saga = get(client, "/v1/sagas/begun")
-        return saga["states"]["flight"], [(one["why"], one["said"]) for one in saga["waits"]]
+        return saga["states"]["flight"], [(wait["why"], wait["detail"]) for wait in saga["waits"]]
 
     def comes(wanted: tuple[str, list[tuple[str, str | None]]]) -> None:
         deadline = time.monotonic() + LONG
@@ -306,7 +306,7 @@ def test_a_refund_that_fails(client: httpx.Client) -> None:
     """With defaults it is in the inbox, in the metrics and on the page; one call, or one for all,
     retries it.
     """
-    figure = 'sagas_attention_required{reason="exhausted"} '
+    figure = 'sagas_attention_required{reason="exhausted",saga="few"} '
     for key in ("refund-1", "refund-2"):
         start(client, "few", key)
         all_done(client, "few/a")
@@ -318,14 +318,14 @@ def test_a_refund_that_fails(client: httpx.Client) -> None:
     assert measured(client, f"{figure}2.0")
     listed = get(client, "/v1/attention?kind=exhausted")
     assert listed["counts"]["exhausted"] == 2
-    one = listed["entries"][0]
-    assert (one["key"], one["step"], one["undo"], one["detail"]) == (
+    entry = listed["entries"][0]
+    assert (entry["key"], entry["step"], entry["undo"], entry["detail"]) == (
         "refund-1",
         "a",
         True,
         "the bank is closed",
     )
-    assert one["calls"] == ["retry", "complete", "fail", "abort"]
+    assert entry["calls"] == ["retry", "complete", "fail", "abort"]
     page = client.get("/ui/sagas/refund-1").text
     assert (
         "Undoing a has used up its attempts" in page
@@ -368,8 +368,8 @@ def test_a_compensation_that_failed(client: httpx.Client) -> None:
         {"car": "no", "tour": "full"},
     )
     assert [
-        (one["key"], one["undo_failed"])
-        for one in get(client, "/v1/sagas?phase=undo_failed")["sagas"]
+        (saga["key"], saga["undo_failed"])
+        for saga in get(client, "/v1/sagas?phase=undo_failed")["sagas"]
     ] == [("undo-failed", True)]
     page = client.get("/ui/sagas/undo-failed").text
     assert (
@@ -380,12 +380,12 @@ def test_a_compensation_that_failed(client: httpx.Client) -> None:
         "car: undo failed, plan: keep, costs 30"
         in client.get("/v1/sagas/undo-failed/picture.svg").text
     )
-    figure = 'sagas_attention_required{reason="undo_failed"} '
+    figure = 'sagas_attention_required{reason="undo_failed",saga="trip"} '
     assert measured(client, f"{figure}1.0")
     first = client.get("/ui?kind=undo_failed&search=undo-failed").text
     assert "undoing car: no" in first and "/resolve" in page
     assert client.get("/ui/sagas/undo-failed/resolve").status_code == 200
-    answer = client.post("/v1/sagas/undo-failed/resolve", json={"note": "given back by hand"})
+    answer = client.post("/v1/sagas/undo-failed/resolve", json={"note": "returned by hand"})
     assert answer.status_code == 200
     assert get(client, "/v1/sagas/undo-failed")["phase"] == "resolved"
     assert get(client, "/v1/sagas?phase=undo_failed")["sagas"] == []
@@ -444,18 +444,18 @@ def test_a_limit_holds_for_leases(service: Served, client: httpx.Client) -> None
     """
     for number in range(5):
         start(client, "few", f"few-{number}")
-    first, second = take(client, "few/a", most=10)
+    first, second = take(client, "few/a", limit=10)
     assert take(client, "few/a", wait=0) == []
     claimed: list[Any] = []
     with service.client() as other:
         taker = threading.Thread(
-            target=lambda: claimed.extend(take(other, "few/a", most=10, lease=1))
+            target=lambda: claimed.extend(take(other, "few/a", limit=10, lease=1))
         )
         taker.start()
         report(client, first)
         taker.join(LONG)
     (third,) = claimed  # its lease expires, and then the next one is available
-    (fourth,) = take(client, "few/a", most=10)
+    (fourth,) = take(client, "few/a", limit=10)
     assert {first["key"], second["key"], third["key"], fourth["key"]} >= {
         f"few-{number}" for number in range(3)
     }
@@ -469,18 +469,18 @@ def test_a_limit_holds_for_leases(service: Served, client: httpx.Client) -> None
     left = {f"few-{number}" for number in range(5)} - {first["key"]}
     assert report(client, fourth).status_code == 200
     while True:
-        for task in take(client, "few/a", wait=1, most=10):
+        for task in take(client, "few/a", wait=1, limit=10):
             report(client, task)
         states = {key: client.get(f"/v1/sagas/{key}").json()["states"]["a"] for key in left}
         if set(states.values()) == {"committed"}:
             break
-    tasks = take(client, "few/b", most=10)
+    tasks = take(client, "few/b", limit=10)
     assert len(tasks) == 5
     for task in tasks:
         report(client, task, "fail", error="no")
     undone = []
     while len(undone) < 5:
-        undone += take(client, "few/a/undo", most=10)
+        undone += take(client, "few/a/undo", limit=10)
     assert [
         queue for queue in client.get("/v1/queues").json()["queues"] if queue["definition"] == "few"
     ] == [
@@ -508,7 +508,7 @@ def test_a_task_that_is_offered_again_has_no_worker(client: httpx.Client) -> Non
     worker has it, and no lease has expired.
     """
     start(client, "few", "offered-again")
-    (task,) = [one for one in take(client, "few/a", most=100) if one["key"] == "offered-again"]
+    (task,) = [task for task in take(client, "few/a", limit=100) if task["key"] == "offered-again"]
     assert "offered-again" in client.get("/ui/workers").text
     assert report(client, task, "unknown", error="no answer").status_code == 200
     deadline, whys = time.monotonic() + 30, {"unknown"}
@@ -517,10 +517,11 @@ def test_a_task_that_is_offered_again_has_no_worker(client: httpx.Client) -> Non
         page = client.get("/ui/workers")
         assert page.status_code == 200 and "offered-again" not in page.text
         waits = client.get("/v1/sagas/offered-again").json()["waits"]
-        assert not any("expired" in (one["said"] or "") for one in waits), waits
-        whys = {one["why"] for one in waits}
-    (task,) = [one for one in take(client, "few/a", most=100) if one["key"] == "offered-again"]
+        assert not any("expired" in (wait["detail"] or "") for wait in waits), waits
+        whys = {wait["why"] for wait in waits}
+    (task,) = [task for task in take(client, "few/a", limit=100) if task["key"] == "offered-again"]
     assert report(client, task).status_code == 200
+    all_done(client, "few/b")
 
 
 def test_unknown_is_reported_once_per_lease(client: httpx.Client) -> None:
@@ -552,7 +553,7 @@ def test_unknown_is_reported_once_per_lease(client: httpx.Client) -> None:
 
 
 def test_unknown_outcomes(client: httpx.Client) -> None:
-    """After the last unknown outcome an operator must report; no earlier lease gives the task to a
+    """After the last unknown outcome an operator must report; no earlier lease passes the task to a
     worker.
     """
     start(client, "trip", "hazy")
@@ -562,7 +563,7 @@ def test_unknown_outcomes(client: httpx.Client) -> None:
     assert report(client, tour, "unknown", error="the line went dead").json()["repeated"] is True
     assert take(client, "trip/tour", wait=2) == []
     (held,) = get(client, "/v1/sagas/hazy")["waits"]
-    assert (held["why"], held["person"], held["said"]) == ("unknown", True, "the line went dead")
+    assert (held["why"], held["person"], held["detail"]) == ("unknown", True, "the line went dead")
     assert (
         client.post(
             "/v1/sagas/hazy/steps/tour/complete",
@@ -615,13 +616,13 @@ def test_a_report_comes_before_its_step(client: httpx.Client) -> None:
     it.
     """
     start(client, "order", "ahead")
-    where = "/v1/sagas/ahead/steps"
+    url = "/v1/sagas/ahead/steps"
     for _ in range(2):
-        assert client.post(f"{where}/send/complete", json={"result": "sent"}).json()["kept"] is True
-    assert error_of(client.post(f"{where}/send/fail", json={"error": "no"})) == "ConflictingReport"
+        assert client.post(f"{url}/send/complete", json={"result": "sent"}).json()["kept"] is True
+    assert error_of(client.post(f"{url}/send/fail", json={"error": "no"})) == "ConflictingReport"
     assert get(client, "/v1/sagas/ahead")["early"] == {"send": "complete"}
     assert "its success is reported" in client.get("/ui/sagas/ahead").text
-    assert client.post(f"{where}/review/complete", json={"result": 1}).status_code == 200
+    assert client.post(f"{url}/review/complete", json={"result": 1}).status_code == 200
     end = get(client, "/v1/sagas/ahead/wait?seconds=60")
     assert end["phase"] == "completed" and end["results"]["send"] == "sent" and end["early"] == {}
 
@@ -713,6 +714,7 @@ def test_a_stuck_saga_is_resolved(client: httpx.Client) -> None:
     stuck(client, "stuck-1")
     assert get(client, "/v1/sagas/stuck-1")["plan"] == {
         "cost": None,
+        "pivot": None,
         "blocking_steps": ["licence"],
         "steps": [
             {
@@ -788,9 +790,10 @@ def test_the_log_is_lines_of_json(service: Served, client: httpx.Client) -> None
     start(client, "licence", "logged")
     all_done(client, "licence/server", "licence/licence", failing=["licence/licence"])
     get(client, "/v1/sagas/logged/wait?seconds=60")
+    client.post("/v1/sagas/logged/resolve", json={"note": "bought one"})
     deadline = time.monotonic() + LONG
     # a request is logged once it is answered
-    while '"/v1/sagas/logged/wait"' not in service.log_text():
+    while '"/v1/sagas/logged/resolve"' not in service.log_text():
         assert time.monotonic() < deadline
         time.sleep(0.05)
     # the lines before are the service's start
@@ -804,7 +807,9 @@ def test_the_log_is_lines_of_json(service: Served, client: httpx.Client) -> None
         line for line in log_lines if line.get("name") == "saga_stuck" and line["key"] == "logged"
     )
     assert (stuck["level"], stuck["logger"], stuck["saga"]) == ("error", "sagas", "licence")
-    request_line = next(line for line in log_lines if line.get("path") == "/v1/sagas/logged/wait")
+    request_line = next(
+        line for line in log_lines if line.get("path") == "/v1/sagas/logged/resolve"
+    )
     assert (
         request_line["logger"],
         request_line["method"],
@@ -812,7 +817,7 @@ def test_the_log_is_lines_of_json(service: Served, client: httpx.Client) -> None
         request_line["who"],
     ) == (
         "sagas.http",
-        "GET",
+        "POST",
         200,
         "local",
     )
@@ -910,9 +915,14 @@ def test_invalid_options_of_a_service(
     """It reports what is wrong and where, and does not start."""
     from serving import environment
 
-    one = Served(tmp_path, files, *arguments)
+    service = Served(tmp_path, files, *arguments)
     done = subprocess.run(
-        one.command(), env=environment(), capture_output=True, text=True, timeout=LONG, cwd=tmp_path
+        service.command(),
+        env=environment(),
+        capture_output=True,
+        text=True,
+        timeout=LONG,
+        cwd=tmp_path,
     )
     assert done.returncode in (1, 2, 4) and says in done.stderr, done.stderr
     assert "Traceback" not in done.stderr
@@ -985,7 +995,7 @@ def test_a_module_s_steps_run_here(tmp_path: pathlib.Path) -> None:
             assert get(client, f"/v1/sagas/{key}/wait?seconds=0.2")["over"] is False
         first, second = (get(client, f"/v1/sagas/{key}") for key in ("long-1", "long-2"))
         assert (first["states"], first["waits"]) == ({"once": "running"}, [])
-        assert (second["states"], [one["why"] for one in second["waits"]]) == (
+        assert (second["states"], [wait["why"] for wait in second["waits"]]) == (
             {"once": "begun"},
             ["concurrency"],
         )

@@ -9,7 +9,7 @@ import os
 import pathlib
 import threading
 import time
-from collections.abc import Iterator
+from collections.abc import Callable, Iterator
 from typing import Any
 
 import pytest
@@ -17,6 +17,7 @@ from relay import relaying
 from serving import LONG, Served, all_done, host, served
 
 import sagas
+from sagas.api.service_connection import ServiceConnection
 
 ORDER = sagas.Saga("order")
 review = ORDER.approval(name="review")(lambda task: None)
@@ -29,14 +30,14 @@ def send(task: sagas.Task[Any]) -> None:
 
 @pytest.fixture(scope="module")
 def service(tmp_path_factory: pytest.TempPathFactory) -> Iterator[Served]:
-    with served(tmp_path_factory.mktemp("service")) as one:
-        yield one
+    with served(tmp_path_factory.mktemp("service")) as service:
+        yield service
 
 
 @pytest.fixture
 def client(service: Served) -> Iterator[sagas.ServiceClient]:
-    with sagas.ServiceClient(service.url, timeout=LONG) as one:
-        yield one
+    with sagas.ServiceClient(service.url, timeout=LONG) as client:
+        yield client
 
 
 def test_a_saga_from_its_start_to_its_end(service: Served, client: sagas.ServiceClient) -> None:
@@ -136,15 +137,15 @@ def test_lists(client: sagas.ServiceClient) -> None:
     assert client.wait(keys[0], timeout=LONG).errors == {"review": "too ünusual"}
     listed = list(client.list(labels={"list": "a=b"}, saga=ORDER, page_size=2))
     assert (
-        [one.key for one in listed] == keys[::-1]
+        [summary.key for summary in listed] == keys[::-1]
         and listed[0].phase == "open"
         and listed[0].labels == {"list": "a=b"}
     )
     moment = datetime.datetime.fromtimestamp(before, datetime.timezone.utc)
     assert len(list(client.list(search="listed", started_after=moment))) == 5
     assert list(client.list(search="listed", started_before=before)) == []
-    assert list(client.list(error="what nobody raised")) == []
-    assert [one.key for one in client.list(phase="recovered", search="listed")] == [keys[0]]
+    assert list(client.list(error="what no function raised")) == []
+    assert [summary.key for summary in client.list(phase="recovered", search="listed")] == [keys[0]]
 
 
 def test_events_continue_after_the_last_one(service: Served) -> None:
@@ -243,3 +244,21 @@ def test_invalid_arguments(tmp_path: pathlib.Path) -> None:
         with pytest.raises(ValueError) as wrong:
             sagas.ServiceClient(url, token, timeout=timeout)
         assert "secret" not in str(wrong.value)
+
+
+def test_clients_and_workers_begin_with_any_service() -> None:
+    """They ask the next one in order, and stay where they are."""
+    urls = [f"http://127.0.0.1:{port}" for port in (1, 2, 3)]
+
+    def first_urls(make: Callable[[], Any]) -> set[str]:
+        return {make().url for _ in range(1000)}
+
+    assert first_urls(lambda: sagas.ServiceClient(urls)) == {*urls}
+    assert first_urls(lambda: sagas.AsyncServiceClient(urls)) == {*urls}
+    assert first_urls(lambda: sagas.Worker(urls)) == {*urls}
+    connection = ServiceConnection(urls, None, 1.0, threading.Event())
+    begun = connection.url
+    connection.turn_from("http://another")
+    assert connection.url == begun
+    connection.turn_from(begun)
+    assert connection.url == urls[(urls.index(begun) + 1) % 3]

@@ -7,8 +7,8 @@ import pathlib
 import pytest
 
 import sagas
-from sagas.server import definition_files
-from sagas.server.definition_files import LineNumbers
+from sagas.definition import definition_files
+from sagas.definition.definition_files import LineNumbers
 
 GOOD = """# a trip
 format = 2
@@ -25,7 +25,7 @@ name = "review"
 needs = ["car"]
 tries = 9
 """
-SERVICE_FILE = """# beside it
+SERVICE_FILE = """# next to it
 [step.review]
 kind = "approval"
 timeout = 60
@@ -35,6 +35,16 @@ backoff = { initial = 1, maximum = 60 }
 concurrency = 4
 """
 FAULTS = [
+    (
+        GOOD.replace("\n\n[[step]]", "\n[defaults]\ntries = 3\ntimeout = 3\n\n[[step]]", 1),
+        SERVICE_FILE,
+        "a.toml:6: defaults has only the keys backoff, max_unknown, on_exhausted, tries",
+    ),
+    (
+        GOOD.replace("\n\n[[step]]", "\n[defaults]\ntries = 0\n\n[[step]]", 1),
+        SERVICE_FILE,
+        "a.toml:5: saga 'trip': tries=0: must be an integer from 1 to",
+    ),
     (
         GOOD.replace('"trip"', '"Trip"'),
         SERVICE_FILE,
@@ -88,7 +98,7 @@ FAULTS = [
     (
         GOOD.replace("tries = 9", "tries = 10"),
         SERVICE_FILE,
-        "a.toml:14: saga 'trip', step 'review': tries=10 of its function",
+        "a.toml:14: invalid definition: step 'review': tries must be an integer from 1 to 9",
     ),
     (
         GOOD.replace('needs = ["car"]', 'needs = "car"'),
@@ -127,7 +137,11 @@ FAULTS = [
         "a.toml:3: invalid definition: step 'car' has no key 'price'",
     ),
     ('format = 2\n\nname = "trip"\n', "", "a.toml:3: saga 'trip': it has no step"),
-    (GOOD, SERVICE_FILE + "[other]\n", "a.service.toml:9: only [step.NAME] tables are allowed"),
+    (
+        GOOD,
+        SERVICE_FILE + "[other]\n",
+        "a.service.toml:9: only [step.NAME] tables and [on_end] are allowed",
+    ),
     (
         GOOD,
         SERVICE_FILE.replace("approval", "aproval"),
@@ -136,7 +150,8 @@ FAULTS = [
     (
         GOOD,
         SERVICE_FILE.replace("timeout = 60", "until = 60"),
-        "a.service.toml:4: step 'review': approval has no key 'until'; its keys are kind, timeout",
+        "a.service.toml:4: step 'review': approval has no key 'until'; its keys are kind, "
+        "optional, show, timeout",
     ),
     (
         GOOD,
@@ -210,6 +225,47 @@ def test_a_fault_has_its_line(
     assert ".py" not in str(fault.value)
 
 
+def test_defaults_are_those_of_steps_and_compensations(tmp_path: pathlib.Path) -> None:
+    """They are no part of the definition: its numbers of attempts are what it then has."""
+    defaults = """
+[defaults]
+tries = 4
+backoff = { initial = 5 }
+max_unknown = 3
+on_exhausted = "ask"
+"""
+    (tmp_path / "a.toml").write_text(GOOD.replace('"trip"\n', '"trip"\n' + defaults))
+    (tmp_path / "a.service.toml").write_text(
+        SERVICE_FILE + 'on_exhausted = "fail"\nmax_unknown = 7\n'
+    )
+    car, review = definition_files.read_one(tmp_path / "a.toml").steps
+    assert (car.run.tries, car.undo.tries, review.run.tries) == (4, 4, 9)
+    assert (car.run.max_unknown, car.undo.max_unknown) == (7, 7)
+    assert (car.run.on_exhausted, car.undo.on_exhausted) == ("fail", "ask")
+    assert car.run.backoff == sagas.Backoff(maximum=60)  # of its own
+    assert review.run.backoff == sagas.Backoff(initial=5)
+
+
+def test_attempts_of_the_service_file(tmp_path: pathlib.Path) -> None:
+    """They count before those of the definition, which has at most 9; the default is 10."""
+    (tmp_path / "a.toml").write_text(GOOD)
+    more = 'tries = 20\nundo_tries = 1000\nmax_unknown = "unlimited"\n'
+    (tmp_path / "a.service.toml").write_text(SERVICE_FILE + more)
+    car, _ = definition_files.read_one(tmp_path / "a.toml").steps
+    assert (car.run.tries, car.undo.tries, car.run.max_unknown) == (20, 1000, None)
+    assert car.saga.toml().count("tries = 2\n") == 2  # `undo_tries` is one of them
+    (tmp_path / "a.service.toml").write_text(SERVICE_FILE)
+    car, _ = definition_files.read_one(tmp_path / "a.toml").steps
+    assert (car.run.tries, car.undo.tries, car.run.max_unknown) == (10, 10, 10)
+    for line, text in (
+        ("max_unknown = 0", "max_unknown must be an integer >= 1, or 'unlimited'"),
+        ("tries = 1001", "tries=1001 of its function: must be an integer from 1 to 1,000"),
+    ):
+        (tmp_path / "a.service.toml").write_text(f"{SERVICE_FILE}{line}\n")
+        with pytest.raises(sagas.DefinitionError, match=text):
+            definition_files.read_one(tmp_path / "a.toml")
+
+
 def test_valid_files(tmp_path: pathlib.Path) -> None:
     """It is read; its warnings have their lines as well, and two of one name and version
     name both.
@@ -250,7 +306,7 @@ y.z = 5
 [[step]]
 name = "c\\"]"
 '''
-PLACES = [
+ERROR_LINES = [
     ((), 1),
     (("name",), 2),
     (("undo",), 3),
@@ -267,7 +323,7 @@ PLACES = [
 ]
 
 
-@pytest.mark.parametrize("path, line", PLACES)
+@pytest.mark.parametrize("path, line", ERROR_LINES)
 def test_lines_of_odd_texts(path: tuple[str | int, ...], line: int) -> None:
     """Brackets and headers within strings and comments do not count; an item without its own line
     has that of its parent.

@@ -31,9 +31,9 @@ TOKENS: dict[str, tuple[str, ...]] = {
 @pytest.fixture(scope="module")
 def receiver() -> Iterator[Receiver]:
     """Return a receiver that refuses the first post permanently, and takes the others."""
-    one = Receiver(410)
-    yield one
-    one.server.shutdown()
+    receiver = Receiver(410)
+    yield receiver
+    receiver.server.shutdown()
 
 
 @pytest.fixture(scope="module")
@@ -62,9 +62,13 @@ def settled(operator: httpx.Client, key: str, attempts: int = 1) -> dict[str, An
     deadline = time.monotonic() + LONG
     while True:
         deliveries = operator.get("/v1/webhooks/deliveries").json()["deliveries"]
-        for one in deliveries:
-            if one["key"] == key and one["state"] != "pending" and one["attempts"] == attempts:
-                return dict(one)
+        for delivery in deliveries:
+            if (
+                delivery["key"] == key
+                and delivery["state"] != "pending"
+                and delivery["attempts"] == attempts
+            ):
+                return dict(delivery)
         assert time.monotonic() < deadline, deliveries
         time.sleep(0.05)
 
@@ -108,8 +112,8 @@ def test_the_page_lists_them(world: World, receiver: Receiver) -> None:
 
 def test_the_right_to_see_and_repeat_deliveries(world: World, receiver: Receiver) -> None:
     """Operators that see all definitions may, by a form of their own session."""
-    one = settled(world["operator"], "<b>given-up")
-    again = f"/ui/webhooks/{one['id']}/redeliver"
+    delivery = settled(world["operator"], "<b>given-up")
+    again = f"/ui/webhooks/{delivery['id']}/redeliver"
     kept = world.page("of-order")
     for answer in (
         kept.get("/ui/webhooks"),
@@ -131,7 +135,7 @@ def test_the_right_to_see_and_repeat_deliveries(world: World, receiver: Receiver
     assert (answer.status_code, answer.headers["location"]) == (303, "/ui/webhooks?state=failed")
     receiver.wait(count + 1)
     assert settled(world["operator"], "<b>given-up")["status"] == 204
-    assert f"operator has the delivery {one['id']} posted again" in world.service.log_text()
+    assert f"operator has the delivery {delivery['id']} posted again" in world.service.log_text()
     assert rows(page.get("/ui/webhooks?state=failed").text) == []
 
 
@@ -150,7 +154,7 @@ def test_the_command(world: World, receiver: Receiver) -> None:
     """It lists them, as a table and as JSON, and lets the service repeat one."""
     store = str(world.service.store)
     output = started(store, "--json")
-    deliveries = {one["key"]: one for one in json.loads(output)}
+    deliveries = {row["key"]: row for row in json.loads(output)}
     assert {*deliveries} == {"came", "<b>given-up"} and deliveries["came"]["state"] == "delivered"
     assert "body" not in deliveries["came"] and "whsec_" not in output
     arguments = ["--state", "delivered", "--webhook", "one", "--limit", "1"]

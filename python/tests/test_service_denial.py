@@ -17,10 +17,11 @@ import pytest
 from driving import program
 from serving import DEFINITIONS, LONG, Served, host, served, start, token
 
-from sagas.server import definition_files, uvicorn_server
+from sagas.definition import definition_files
+from sagas.server import uvicorn_server
 from sagas.server.settings import Settings, StreamSettings
 
-MOST = 60
+MAX_CONNECTIONS = 60
 
 
 class Trickler(threading.Thread):
@@ -36,11 +37,11 @@ class Trickler(threading.Thread):
         while not self.over.is_set():
             with contextlib.suppress(OSError), socket.create_connection(
                 self.address, timeout=LONG
-            ) as one:
-                one.sendall(self.head)
+            ) as connection:
+                connection.sendall(self.head)
                 self.begun.set()
                 while not self.over.wait(0.2):
-                    one.sendall(self.part)
+                    connection.sendall(self.part)
 
 
 @contextlib.contextmanager
@@ -48,16 +49,16 @@ def trickling(service: Served, count: int, head: str, part: bytes) -> Iterator[N
     """Run `count` of them, each with at least its head sent, until the block ends."""
     text = "\r\n".join([head, f"Host: {service.address}", "Content-Type: application/json", "", ""])
     some = [Trickler(service, text.encode(), part) for _ in range(count)]
-    for one in some:
-        one.start()
+    for item in some:
+        item.start()
     try:
-        assert all(one.begun.wait(LONG) for one in some)
+        assert all(item.begun.wait(LONG) for item in some)
         yield
     finally:
-        for one in some:
-            one.over.set()
-        for one in some:
-            one.join(LONG)
+        for item in some:
+            item.over.set()
+        for item in some:
+            item.join(LONG)
 
 
 HEADS = [
@@ -75,7 +76,7 @@ def limited(
 ) -> Iterator[Served]:
     """Return a service that takes few connections."""
     folder = tmp_path_factory.mktemp("limited")
-    options = ["--most-connections", str(MOST)]
+    options = ["--most-connections", str(MAX_CONNECTIONS)]
     if request.param:
         token(folder, "a", "caller")
         options += ["--token-file", str(folder / "tokens.toml")]
@@ -92,7 +93,7 @@ def test_bodies_that_trickle(limited: Served, head: str, part: bytes) -> None:
     """There are more of them than connections: each request of another client is answered
     at once.
     """
-    with trickling(limited, MOST + 1, head, part):
+    with trickling(limited, MAX_CONNECTIONS + 1, head, part):
         for _ in range(25):
             with limited.client() as client:
                 assert client.get("/health/live").json() == {"alive": True}
@@ -102,15 +103,15 @@ def test_bodies_that_trickle(limited: Served, head: str, part: bytes) -> None:
 @contextlib.contextmanager
 def raw(service: Served) -> Iterator[socket.socket]:
     name, _, port = service.address.rpartition(":")
-    with socket.create_connection((name, int(port)), timeout=LONG) as one:
-        yield one
+    with socket.create_connection((name, int(port)), timeout=LONG) as connection:
+        yield connection
 
 
-def answered(one: socket.socket) -> tuple[int, str]:
+def answered(connection: socket.socket) -> tuple[int, str]:
     """Return the status of the next response, and the name of its error."""
     text = b""
     while b"\r\n\r\n" not in text:
-        text += one.recv(65536)
+        text += connection.recv(65536)
     head, _, body = text.partition(b"\r\n\r\n")
     length = int(
         next(line for line in head.lower().split(b"\r\n") if line.startswith(b"content-length"))[
@@ -118,7 +119,7 @@ def answered(one: socket.socket) -> tuple[int, str]:
         ]
     )
     while len(body) < length:
-        body += one.recv(65536)
+        body += connection.recv(65536)
     problem = json.loads(body) if body.startswith(b"{") else {}
     return int(head.split(b" ")[1]), problem.get("type", "").rpartition(":")[2]
 
@@ -126,8 +127,8 @@ def answered(one: socket.socket) -> tuple[int, str]:
 def test_a_client_that_goes_before_its_body_is_whole(tmp_path: pathlib.Path) -> None:
     """It is not an error of the service, whose log says that the request got no response."""
     with served(tmp_path, DEFINITIONS, "--log", "json") as service:
-        with raw(service) as one:
-            one.sendall(
+        with raw(service) as connection:
+            connection.sendall(
                 f"POST /v1/sagas/k/abort HTTP/1.1\r\nHost: {service.address}\r\nContent-Type: "
                 "application/json\r\nContent-Length: 20\r\n\r\n{".encode()
             )
@@ -179,14 +180,16 @@ def test_a_refusal_needs_only_the_head(guarded: tuple[Served, dict[str, str]]) -
         head += f"Content-Type: application/{form}\r\n"
         if name is not None:
             head += f"Authorization: Bearer {tokens.get(name, name)}\r\n"
-        with raw(service) as one:
+        with raw(service) as connection:
             began = time.monotonic()
-            one.sendall(f"{head}Content-Length: 100000\r\n\r\n".encode())
-            status, error = answered(one)
+            connection.sendall(f"{head}Content-Length: 100000\r\n\r\n".encode())
+            status, error = answered(connection)
             assert status in statuses and time.monotonic() - began < 10, (path, name, error)
-            one.sendall(b"[" * 100_000)  # not JSON, and deep: it is never read
-            one.sendall(f"GET /health/live HTTP/1.1\r\nHost: {service.address}\r\n\r\n".encode())
-            assert answered(one) == (200, "")
+            connection.sendall(b"[" * 100_000)  # not JSON, and deep: it is never read
+            connection.sendall(
+                f"GET /health/live HTTP/1.1\r\nHost: {service.address}\r\n\r\n".encode()
+            )
+            assert answered(connection) == (200, "")
 
 
 def test_a_body_is_checked_after_the_token(guarded: tuple[Served, dict[str, str]]) -> None:
@@ -307,7 +310,7 @@ def test_streams_are_shared(tmp_path: pathlib.Path, monkeypatch: pytest.MonkeyPa
             await asyncio.sleep(0.05)
         await some.close()
 
-    few = StreamSettings(most=7, most_each=3, kept=2)
+    few = StreamSettings(maximum=7, max_each=3, kept=2)
     inside(tmp_path, ask, tokens=tmp_path / "tokens.toml", streams=few)
 
 
@@ -326,22 +329,26 @@ def test_idle_ones_give_way_before_those_at_work(tmp_path: pathlib.Path) -> None
             f"Host: {service.address}\r\n\r\n".encode()
         )
         idle = [stack.enter_context(raw(service)) for _ in range(15)]
-        for one in idle:
-            one.sendall(f"GET /health/live HTTP/1.1\r\nHost: {service.address}\r\n\r\n".encode())
-            assert answered(one) == (200, "")
+        for connection in idle:
+            connection.sendall(
+                f"GET /health/live HTTP/1.1\r\nHost: {service.address}\r\n\r\n".encode()
+            )
+            assert answered(connection) == (200, "")
         for _ in range(3):
-            one = stack.enter_context(raw(service))
-            one.sendall(f"GET /health/live HTTP/1.1\r\nHost: {service.address}\r\n\r\n".encode())
-            assert answered(one) == (200, "")
-        assert [is_over(one) for one in idle] == [True] * 3 + [False] * 12
+            connection = stack.enter_context(raw(service))
+            connection.sendall(
+                f"GET /health/live HTTP/1.1\r\nHost: {service.address}\r\n\r\n".encode()
+            )
+            assert answered(connection) == (200, "")
+        assert [is_over(connection) for connection in idle] == [True] * 3 + [False] * 12
         assert answered(works) == (200, "")
 
 
-def is_over(one: socket.socket) -> bool:
+def is_over(connection: socket.socket) -> bool:
     """Return whether the service has ended this connection."""
-    one.settimeout(0.2)
+    connection.settimeout(0.2)
     try:
-        return one.recv(1) == b""
+        return connection.recv(1) == b""
     except ConnectionResetError:
         return True
     except TimeoutError:

@@ -20,6 +20,9 @@ import pytest
 import tomllib
 from serving import LONG, environment, host, served, start, take, token
 
+from sagas.inspection import store_figures
+from sagas.server.metrics import INTERNAL_ERRORS
+
 TOP = pathlib.Path(__file__).resolve().parents[2]
 REFERENCE = TOP / "docs" / "reference"
 PAGE = (REFERENCE / "http.md").read_text()
@@ -88,19 +91,21 @@ def test_the_page(tmp_path: pathlib.Path) -> None:
 def test_each_path_is_described() -> None:
     """The reference has each call of the schema, and no other."""
     routes = re.findall(r"`(?:GET|POST|DELETE) (/[^`?\s]*)", PAGE)
-    described = {re.sub(r"KEY|STEP|ATTEMPT_ID|ID|NAME", "{}", path) for path in routes}
+    described = {re.sub(r"KEY|STEP|ATTEMPT_ID|ID|NODE|NAME", "{}", path) for path in routes}
     from sagas.server.app import operations
 
-    assert {re.sub(r"\{\w+\}", "{}", one.path) for one in operations()} == described
+    assert {re.sub(r"\{\w+\}", "{}", operation.path) for operation in operations()} == described
 
 
 def test_each_command_is_described() -> None:
-    """The pages have each command of `sagas store`, and each option of these, `serve` and
-    `token`.
+    """The pages have each command of `sagas store`, and each option of these, `serve`, `token`,
+    `demo` and `new`.
     """
+    from sagas.cli.new_project import parser as new
     from sagas.cli.store_command import parser as store
     from sagas.server.command import parser as serve
     from sagas.server.command import token_parser
+    from sagas.server.demo import parser as demo
 
     (commands,) = (action.choices for action in store()._actions if action.dest == "command")
     page = (REFERENCE / "cli-store.md").read_text()
@@ -109,12 +114,13 @@ def test_each_command_is_described() -> None:
     pages = {
         page: commands.values(),
         (TOP / "docs" / "guides" / "service.md").read_text(): (serve(), token_parser()),
+        (REFERENCE / "cli.md").read_text(): (demo(), new()),
     }
     for text, parsers in pages.items():
         options = {
             word
-            for one in parsers
-            for action in one._actions
+            for parser in parsers
+            for action in parser._actions
             for word in action.option_strings
             if word.startswith("--")
         }
@@ -129,15 +135,26 @@ def test_metrics_are_described(tmp_path: pathlib.Path) -> None:
         re.findall(r"expr: (.*)", (TOP / "examples" / "service" / "alerts.yml").read_text())
     )
     board = json.loads((TOP / "examples" / "service" / "grafana.json").read_text())
+    assert "Service level" in [
+        panel["title"] for panel in board["panels"] if panel["type"] == "row"
+    ]
     targets = [target for panel in board["panels"] for target in panel["targets"]]
     shown = " ".join(target["expr"] for target in targets)
-    names = {re.sub("_bucket$", "", name) for name in re.findall(r"sagas_\w+", f"{alerts} {shown}")}
+    names = {
+        re.sub("_(bucket|count)$", "", name)
+        for name in re.findall(r"sagas_\w+", f"{alerts} {shown}")
+    }
     names = {name.removesuffix("_total") if name.endswith("_total") else name for name in names}
     for text in (alerts, shown):
-        reasons = set(re.findall(r'reason="(\w+)"', text))
-        assert {"stuck", "undo_failed", "unknown", "exhausted", "cannot_decode"} <= reasons
+        reasons = set("|".join(re.findall(r'reason=~?"([\w|]+)"', text)).split("|"))
+        assert reasons >= {*store_figures.REASONS} - {"approval"}, reasons
     assert len({panel["id"] for panel in board["panels"]}) == len(board["panels"])
     with served(tmp_path) as service, service.client() as client:
+        text = client.get("/metrics").text
+        for kind in INTERNAL_ERRORS:  # an alert sees no increase in the first value of a series
+            assert f'sagas_internal_errors_total{{kind="{kind}"}} 0.0' in text
+        assert 'outcome="program_error",saga="trip",step="car"} 0.0' in text
+        assert 'sagas_ended_total{phase="stuck",saga="few"} 0.0' in text
         start(client, "trip", "a")
         take(client, "trip/flight")
         text = client.get("/metrics").text
@@ -160,18 +177,19 @@ def test_each_wait_is_described() -> None:
 
     table = PAGE.partition("| `why` |")[2].partition("\n\n")[0]
     inner = {Suspension.STEP_LIMIT, Suspension.FLEET_LIMIT}  # the names in the store
-    assert set(WAITS_FOR) - inner == set(
+    assert {*WAITS_FOR, "no_node"} - inner == set(
         re.findall(r"`(\w+)`", re.sub(r"(?m)^(\|[^|]*)\|.*", r"\1", table))
     )
     page = (TOP / "docs" / "guides" / "troubleshooting.md").read_text()
     assert {word for word in NEEDS.values() if word != "stuck" and f"`{word}`" not in page} == set()
     rows = [re.sub("NAME|N", ".+", row) for row in re.findall(r"^\| ([^|]*) \|", page, re.M)]
-    one = {"until": None, "count": 1, "worker": "w", "saga": "trip", "version": 1}
-    kinds = ["unknown", "exhausted", "retry", "cannot_decode", "node", "approval", "wait", "child"]
-    texts = [waits_for(one | {"why": why}) for why in kinds]
+    fields = {"until": None, "count": 1, "worker": "w", "saga": "trip", "version": 1}
+    kinds = ["unknown", "exhausted", "retry", "cannot_decode", "program_error"]
+    kinds += ["node", "approval", "wait", "child"]
+    texts = [waits_for(fields | {"why": why}) for why in kinds]
     texts += [
-        waits_for(one | {"why": "external", "until": 4e9}),
-        waits_for(one | {"why": "unknown", "until": 4e9}),
+        waits_for(fields | {"why": "external", "until": 4e9}),
+        waits_for(fields | {"why": "unknown", "until": 4e9}),
     ]
     assert [text for text in texts if not any(re.match(row, text) for row in rows)] == []
 
@@ -184,10 +202,10 @@ def test_the_containers_have_one_image_and_its_tokens_can_be_read(
     others.
     """
     deploy = shutil.copytree(TOP / "examples" / "deploy", tmp_path / "deploy")
-    places = (TOP / "docs" / "guides" / "service.md", deploy / "Containerfile")
+    paths = (TOP / "docs" / "guides" / "service.md", deploy / "Containerfile")
     (image,) = {
         name
-        for path in places
+        for path in paths
         for name in re.findall(r"podman build .* -t (\S+) \.", path.read_text())
     }
     (tmp_path / "bin").mkdir()

@@ -76,8 +76,8 @@ class World:
             service = Served(folder / name, FILES, *options, store=store)
             stack.callback(service.kill)
             service.start()
-            for who, text in tokens.items():
-                self.clients[who].append(stack.enter_context(service.client(text)))
+            for user, text in tokens.items():
+                self.clients[user].append(stack.enter_context(service.client(text)))
         self.ada, self.caller, self.operator = (
             self.clients[name][0] for name in ("ada", "caller", "operator")
         )
@@ -99,7 +99,7 @@ class World:
     def waits(self, key: str, why: str) -> None:
         """Wait until the saga waits for that."""
         deadline = time.monotonic() + LONG
-        while why not in [one["why"] for one in self.saga(key)["waits"]]:
+        while why not in [wait["why"] for wait in self.saga(key)["waits"]]:
             assert time.monotonic() < deadline, self.saga(key)
 
     def forged(
@@ -134,9 +134,9 @@ def guesses(world: World) -> list[str]:
     this worker has for its own task.
     """
     assert start(world.caller, "licence", f"own-{time.monotonic_ns()}").status_code == 201
-    (own,) = take(world.clients["bob"][0], "licence/server")
-    number, _, signed = own["lease"].partition(".")
-    assert re.fullmatch(r"\d+\.[0-9a-f]{32}", own["lease"])
+    (own_task,) = take(world.clients["bob"][0], "licence/server")
+    number, _, signed = own_task["lease"].partition(".")
+    assert re.fullmatch(r"\d+\.[0-9a-f]{32}", own_task["lease"])
     near = [
         f"{number}.",
         number,
@@ -145,13 +145,13 @@ def guesses(world: World) -> list[str]:
         f"{number}.{'0' * 32}",
     ]
     return [
-        own["lease"],
+        own_task["lease"],
         "0",
         "1",
         "",
         *near,
         f"{number}.{signed.upper()}",
-        f"{own['lease']}\n",
+        f"{own_task['lease']}\n",
         "1.\u0660" * 9,
     ]
 
@@ -160,7 +160,7 @@ def is_unmoved(world: World, key: str, before: Any) -> None:
     fields, after = ("phase", "results", "errors", "states"), world.saga(key)
     assert {word: after[word] for word in fields} == {word: before[word] for word in fields}
     waits = [
-        [(one["step"], one["why"], one["attempt"]) for one in state["waits"]]
+        [(wait["step"], wait["why"], wait["attempt"]) for wait in state["waits"]]
         for state in (before, after)
     ]
     assert waits[0] == waits[1]
@@ -174,7 +174,7 @@ def is_unmoved(world: World, key: str, before: Any) -> None:
         ("pause", "rest", "wait"),
         ("shop", "price", None),
     ],
-    ids=["a task that nobody took", "an approval", "a timer", "a function of the program"],
+    ids=["a task that no worker took", "an approval", "a timer", "a function of the program"],
 )
 def test_reports_of_unclaimed_tasks(
     world: World, definition: str, step: str, why: str | None
@@ -278,7 +278,7 @@ def test_a_lease_cannot_report_an_attempt_that_needs_an_operator(world: World) -
     assert report(world.ada, tour, "unknown", error="the line went dead").status_code == 200
     world.waits("forged-unknown", "unknown")
     before = world.saga("forged-unknown")
-    assert [one["person"] for one in before["waits"]] == [True]
+    assert [wait["person"] for wait in before["waits"]] == [True]
     for guess in [*guesses(world), tour["lease"]]:
         assert world.forged(tour["attempt_id"], guess) == INVALID, guess
     late = world.forged(tour["attempt_id"], tour["lease"], by="ada", verbs=[REPORTS[0], REPORTS[4]])

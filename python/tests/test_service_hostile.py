@@ -24,7 +24,8 @@ from hypothesis import HealthCheck, given, settings, strategies as st
 from serving import DEFINITIONS, LONG, Served, host, served, start, take
 from uvicorn.server import ServerState
 
-from sagas.server import definition_files, uvicorn_server
+from sagas.definition import definition_files
+from sagas.server import uvicorn_server
 from sagas.server.connections import Connections
 from sagas.server.settings import Settings
 
@@ -34,11 +35,11 @@ MEGA = 1 << 20
 
 @pytest.fixture(scope="module")
 def service(tmp_path_factory: pytest.TempPathFactory) -> Iterator[Served]:
-    with served(tmp_path_factory.mktemp("hostile"), DEFINITIONS, "--log-level", "error") as one:
-        with one.client() as client:
+    with served(tmp_path_factory.mktemp("hostile"), DEFINITIONS, "--log-level", "error") as service:
+        with service.client() as client:
             start(client, "trip", "there", {"a": [1, None]})
             start(client, "order", "ordered")
-        yield one
+        yield service
 
 
 def memory(service: Served) -> int:
@@ -164,14 +165,14 @@ def requests(draw: st.DrawFn, schema: dict[str, Any]) -> tuple[str, str, bytes, 
     )
 
 
-def send_any_json(service: Served, most: settings) -> None:
+def send_any_json(service: Served, profile: settings) -> None:
     """Each request, by the schema or nearly, gets a response in JSON that is not an
     internal error.
     """
     with service.client() as client:
         schema = client.get("/openapi.json").json()
 
-        @most
+        @profile
         @given(requests(schema))
         def holds(request: tuple[str, str, bytes, str]) -> None:
             method, path, body, kind = request
@@ -282,19 +283,19 @@ PARTS = [
 @given(st.lists(st.one_of(st.binary(max_size=200), st.sampled_from(PARTS)), max_size=6))
 def send_any_bytes(service: Served, parts: list[bytes]) -> None:
     """A request that is not HTTP is refused, or closed."""
-    with connection(service) as one:
+    with connection(service) as raw:
         with contextlib.suppress(OSError):
-            one.sendall(b"".join(parts))
-            one.shutdown(socket.SHUT_WR)
-            while one.recv(65536):
+            raw.sendall(b"".join(parts))
+            raw.shutdown(socket.SHUT_WR)
+            while raw.recv(65536):
                 pass
 
 
 @contextlib.contextmanager
 def connection(service: Served) -> Iterator[socket.socket]:
     host, _, port = service.address.rpartition(":")
-    with socket.create_connection((host, int(port)), timeout=LONG) as one:
-        yield one
+    with socket.create_connection((host, int(port)), timeout=LONG) as connection:
+        yield connection
 
 
 def test_any_bytes_leave_it_well(service: Served) -> None:
@@ -305,26 +306,26 @@ def test_any_bytes_leave_it_well(service: Served) -> None:
 @pytest.mark.parametrize("path", ["/", "/health/live", "/v1/events"])
 def test_a_body_that_is_not_http(service: Served, path: str) -> None:
     """It follows a request that needs none, at once and once its response has started: the
-    connection ends, and there is no internal error.
+    connection ends, without an internal error.
     """
     head = f"GET {path} HTTP/1.1\r\nHost: 127.0.0.1\r\nTransfer-Encoding: chunked\r\n\r\n".encode()
-    with connection(service) as one:
-        one.sendall(head + b"no chunk\r\n")
-        assert one.recv(65536).startswith(b"HTTP/1.1 400 ")
-        while one.recv(65536):
+    with connection(service) as raw:
+        raw.sendall(head + b"no chunk\r\n")
+        assert raw.recv(65536).startswith(b"HTTP/1.1 400 ")
+        while raw.recv(65536):
             pass
-    with connection(service) as one:  # read only once the request before it is answered
-        one.sendall(
+    with connection(service) as raw:  # read only once the request before it is answered
+        raw.sendall(
             b"GET /health/live HTTP/1.1\r\nHost: 127.0.0.1\r\n\r\n" + head + b"no chunk\r\n"
         )
-        while one.recv(65536):
+        while raw.recv(65536):
             pass
-    with connection(service) as one:
-        one.sendall(head)
-        assert one.recv(65536).startswith(b"HTTP/1.1 ")
-        one.sendall(b"no chunk\r\n")
+    with connection(service) as raw:
+        raw.sendall(head)
+        assert raw.recv(65536).startswith(b"HTTP/1.1 ")
+        raw.sendall(b"no chunk\r\n")
         with contextlib.suppress(ConnectionResetError):
-            while one.recv(65536):
+            while raw.recv(65536):
                 pass
     is_well(service)
 
@@ -348,19 +349,19 @@ def is_refused(service: Served, path: str, content: Any) -> None:
 def test_long_bodies(service: Served) -> None:
     """A body of 100 MB is refused, with its length or without, and is never in memory."""
     before = memory(service)
-    with connection(service) as one:
-        one.sendall(
+    with connection(service) as raw:
+        raw.sendall(
             b"POST /v1/sagas HTTP/1.1\r\nHost: 127.0.0.1\r\nContent-Type:"
             b" application/json\r\nContent-Length: 104857600\r\n\r\n"
         )
-        assert one.recv(4096).startswith(b"HTTP/1.1 413 ")
+        assert raw.recv(4096).startswith(b"HTTP/1.1 413 ")
     for _ in range(3):
         is_refused(service, "/v1/sagas", pieces(100, MEGA))
     assert memory(service) - before < 50 * MEGA
     with service.client() as client:
         assert start(client, "trip", "large", "x" * (MEGA - 1000)).status_code == 201
         assert len(client.get("/v1/sagas/large").json()["input"]) == MEGA - 1000
-        (task,) = [one for one in take(client, "trip/flight", most=10) if one["key"] == "large"]
+        (task,) = [task for task in take(client, "trip/flight", limit=10) if task["key"] == "large"]
         is_refused(
             service,
             f"/v1/tasks/{task['attempt_id']}/complete",
@@ -377,10 +378,10 @@ def test_ten_thousand_idle_connections(service: Served) -> None:
     host, _, port = service.address.rpartition(":")
     try:
         for number in range(min(10_000, hard - 500)):
-            one = socket.socket()
-            one.setblocking(False)
-            one.connect_ex((host, int(port)))
-            open.append(one)
+            raw = socket.socket()
+            raw.setblocking(False)
+            raw.connect_ex((host, int(port)))
+            open.append(raw)
             if number % 1000 == 999:
                 with service.client() as client:
                     assert client.get("/health/live").status_code == 200
@@ -388,8 +389,8 @@ def test_ten_thousand_idle_connections(service: Served) -> None:
             assert client.get("/v1/sagas/there").status_code == 200
         assert memory(service) - before < 150 * MEGA
     finally:
-        for one in open:
-            one.close()
+        for raw in open:
+            raw.close()
         resource.setrlimit(resource.RLIMIT_NOFILE, (soft, hard))
     is_well(service)
 
@@ -401,9 +402,9 @@ def test_clients_that_never_read(service: Served) -> None:
     before = memory(service)
     with contextlib.ExitStack() as stack:
         for path in ["/v1/sagas/long"] * 30 + ["/v1/events"] * 30:
-            one = stack.enter_context(connection(service))
-            one.setsockopt(socket.SOL_SOCKET, socket.SO_RCVBUF, 4096)
-            one.sendall(f"GET {path} HTTP/1.1\r\nHost: 127.0.0.1\r\n\r\n".encode())
+            raw = stack.enter_context(connection(service))
+            raw.setsockopt(socket.SOL_SOCKET, socket.SO_RCVBUF, 4096)
+            raw.sendall(f"GET {path} HTTP/1.1\r\nHost: 127.0.0.1\r\n\r\n".encode())
         with service.client() as client:
             for number in range(100):
                 assert start(client, "order", f"meanwhile-{number}").status_code in (200, 201)
@@ -412,7 +413,7 @@ def test_clients_that_never_read(service: Served) -> None:
     is_well(service)
 
 
-def test_whoever_does_not_read_is_cut_off() -> None:
+def test_a_client_that_does_not_read_is_cut_off() -> None:
     """A connection ends if its client reads nothing of its response for too long; one that reads
     slowly gets all of it.
     """
@@ -450,8 +451,8 @@ def test_whoever_does_not_read_is_cut_off() -> None:
         (slow, ask), (_, stands) = await asyncio.open_connection(
             *address, limit=MEGA
         ), await asyncio.open_connection(*address)
-        for one in (ask, stands):
-            one.write(b"GET / HTTP/1.1\r\nHost: 127.0.0.1\r\n\r\n")
+        for text in (ask, stands):
+            text.write(b"GET / HTTP/1.1\r\nHost: 127.0.0.1\r\n\r\n")
         assert (await slow.readuntil(b"\r\n\r\n")).startswith(b"HTTP/1.1 200 ")
         for _ in range(64):
             await slow.readexactly(MEGA // 2)
@@ -460,8 +461,8 @@ def test_whoever_does_not_read_is_cut_off() -> None:
             await asyncio.sleep(0.1)
         ask.write(b"GET / HTTP/1.1\r\nHost: 127.0.0.1\r\n\r\n")
         assert (await slow.readuntil(b"\r\n\r\n")).startswith(b"HTTP/1.1 200 ")
-        for one in (ask, stands):
-            one.close()
+        for text in (ask, stands):
+            text.close()
         listening.close()
 
     asyncio.run(asyncio.wait_for(main(), LONG))

@@ -15,7 +15,7 @@ from service_kills import play
 @pytest.mark.parametrize("kind", ["sqlite", "postgresql"])
 def test_no_acknowledgement_is_lost(kind: str, request: pytest.FixtureRequest) -> None:
     """Four workers and six callers over forty sagas; the service, over PostgreSQL two of them, and
-    the workers are struck ten times.
+    the workers get ten faults.
     """
     server: Server | None = request.getfixturevalue("postgresql") if kind == "postgresql" else None
     seed = random.randrange(10**6)

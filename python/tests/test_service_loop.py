@@ -32,8 +32,8 @@ def plain(service: Served) -> httpx.Client:
 @pytest.fixture(scope="module")
 def service(tmp_path_factory: pytest.TempPathFactory) -> Iterator[Served]:
     """Return a service with a saga whose input and results are as large as a request may be."""
-    with served(tmp_path_factory.mktemp("loop"), DEFINITIONS | {"large.toml": LARGE}) as one:
-        with plain(one) as client:
+    with served(tmp_path_factory.mktemp("loop"), DEFINITIONS | {"large.toml": LARGE}) as service:
+        with plain(service) as client:
             began = f'{{"definition": "large", "key": "large", "input": {TEXT}}}'
             assert client.post("/v1/sagas", content=began, headers=JSON).status_code == 201
             for number in range(COUNT):
@@ -41,7 +41,7 @@ def service(tmp_path_factory: pytest.TempPathFactory) -> Iterator[Served]:
                 path = f"/v1/tasks/{task['attempt_id']}/complete"
                 body = f'{{"lease": "{task["lease"]}", "result": {TEXT}}}'
                 assert client.post(path, content=body, headers=JSON).status_code == 200
-        yield one
+        yield service
 
 
 def slowest(service: Served, path: str) -> float:
@@ -81,14 +81,14 @@ def test_the_loop_answers_while_a_page_is_made(service: Served, path: str) -> No
     assert min(slowest(service, path) for _ in range(3)) < whole / 2
 
 
-def test_large_values_are_as_they_were(service: Served) -> None:
+def test_large_values_are_unchanged(service: Served) -> None:
     """This holds for the responses of the API, the page, and the worker of the next step."""
     results = {f"s{number}": BIG for number in range(COUNT)}
     with plain(service) as client:
         saga = client.get("/v1/sagas/large").json()
         assert saga["input"] == BIG and saga["results"] == results
         events = client.get("/v1/sagas/large/log").json()["events"]
-        assert [one["value"] for one in events if one["event"] == "commit"] == [BIG] * COUNT
+        assert [event["value"] for event in events if event["event"] == "commit"] == [BIG] * COUNT
         text = html.unescape(client.get("/ui/sagas/large").text)
         for value in (BIG, results):
             shown = json.dumps(value, indent=2)[:20_000]

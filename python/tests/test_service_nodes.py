@@ -59,7 +59,9 @@ class Pair:
             stack.callback(service.kill)
             service.start()
             self.services.append(service)
-        self.one, self.two = (stack.enter_context(service.client()) for service in self.services)
+        self.first, self.second = (
+            stack.enter_context(service.client()) for service in self.services
+        )
 
 
 @contextlib.contextmanager
@@ -79,34 +81,34 @@ def both(tmp_path_factory: pytest.TempPathFactory, postgresql: Server) -> Iterat
 
 def test_a_worker_is_notified_of_an_abort_at_either_service(both: Pair) -> None:
     """Whichever service drives the saga, and whichever took the abort."""
-    start(both.one, "trip", "off")
-    (flight,) = take(both.two, "trip/flight")
+    start(both.first, "trip", "off")
+    (flight,) = take(both.second, "trip/flight")
     path, body = f"/v1/tasks/{flight['attempt_id']}/heartbeat", {"lease": flight["lease"]}
-    for client in (both.one, both.two):
+    for client in (both.first, both.second):
         assert client.post(path, json=body).json()["cancelled"] is None
-    assert both.two.post("/v1/sagas/off/abort", json={}).json()["aborted"] is True
-    for client in (both.one, both.two):
+    assert both.second.post("/v1/sagas/off/abort", json={}).json()["aborted"] is True
+    for client in (both.first, both.second):
         assert client.post(path, json=body).json()["cancelled"] == "aborted"
-    assert report(both.one, flight, "fail", error="stopped").status_code == 200
-    assert both.one.get("/v1/sagas/off/wait?seconds=60").json()["phase"] == "recovered"
+    assert report(both.first, flight, "fail", error="stopped").status_code == 200
+    assert both.first.get("/v1/sagas/off/wait?seconds=60").json()["phase"] == "recovered"
 
 
 def test_a_task_goes_through_both(both: Pair) -> None:
     """It is started at one, claimed and renewed at the other, and reported at the first; each shows
     all of it.
     """
-    one, two = both.one, both.two
-    assert start(one, "trip", "both", {"to": "Rome"}).status_code == 201
-    again = start(two, "trip", "both", {"to": "Rome"})
+    first, second = both.first, both.second
+    assert start(first, "trip", "both", {"to": "Rome"}).status_code == 201
+    again = start(second, "trip", "both", {"to": "Rome"})
     assert (again.status_code, again.json()["new"]) == (200, False)
-    assert error_of(start(two, "trip", "both", {"to": "Oslo"})) == "KeyConflict"
-    (flight,) = take(two, "trip/flight")
+    assert error_of(start(second, "trip", "both", {"to": "Oslo"})) == "KeyConflict"
+    (flight,) = take(second, "trip/flight")
     assert (flight["key"], flight["input"]) == ("both", {"to": "Rome"}) and 500 < flight[
         "seconds"
     ] <= 600
-    assert take(one, "trip/flight", wait=0) == take(two, "trip/flight", wait=0) == []
+    assert take(first, "trip/flight", wait=0) == take(second, "trip/flight", wait=0) == []
     assert (
-        two.post(
+        second.post(
             f"/v1/tasks/{flight['attempt_id']}/heartbeat",
             json={"lease": flight["lease"], "seconds": 700},
         ).json()["until"]
@@ -114,39 +116,41 @@ def test_a_task_goes_through_both(both: Pair) -> None:
     )
     number, _, signed = flight["lease"].partition(".")
     forged = {**flight, "lease": f"{int(number) - 1}.{signed}"}
-    for client in (one, two):
+    for client in (first, second):
         body = {"lease": forged["lease"]}
         answer = client.post(f"/v1/tasks/{flight['attempt_id']}/heartbeat", json=body)
         assert error_of(answer) == "InvalidLease"
         assert error_of(report(client, forged, "fail", error="no")) == "InvalidLease"
-    assert report(one, flight, result={"seat": 1}).json() == {
+    assert report(first, flight, result={"seat": 1}).json() == {
         "kept": True,
         "repeated": False,
         "next": None,
     }
-    assert report(two, flight, result={"seat": 1}).json() == {
+    assert report(second, flight, result={"seat": 1}).json() == {
         "kept": True,
         "repeated": True,
         "next": None,
     }
-    assert error_of(report(two, flight, result={"seat": 2})) == "ConflictingReport"
+    assert error_of(report(second, flight, result={"seat": 2})) == "ConflictingReport"
     assert (
         error_of(
-            two.post(f"/v1/tasks/{flight['attempt_id']}/heartbeat", json={"lease": flight["lease"]})
+            second.post(
+                f"/v1/tasks/{flight['attempt_id']}/heartbeat", json={"lease": flight["lease"]}
+            )
         )
         == "LeaseLost"
     )
-    (car,) = take(two, "trip/car")
+    (car,) = take(second, "trip/car")
     assert car["results"] == {"flight": {"seat": 1}}
     answer = report(
-        two, car, result=7, next={"steps": ["trip/tour"], "wait": 10, "lease": 600}
+        second, car, result=7, next={"steps": ["trip/tour"], "wait": 10, "lease": 600}
     ).json()
     (tour,) = answer["next"]["tasks"]
-    report(two, tour, "fail", error="full", final=True)
-    (undo,) = take(two, "trip/car/undo")
+    report(second, tour, "fail", error="full", final=True)
+    (undo,) = take(second, "trip/car/undo")
     assert undo["result"] == 7 and undo["original_idempotency_key"] == car["idempotency_key"]
-    report(two, undo)
-    for client in (one, two):
+    report(second, undo)
+    for client in (first, second):
         end = client.get("/v1/sagas/both/wait?seconds=60").json()
         assert (
             end["states"] == {"flight": "committed", "car": "undone", "tour": "failed"}
@@ -162,15 +166,15 @@ def test_a_task_goes_through_both(both: Pair) -> None:
 
 def test_started_attempts_at_the_other_service(both: Pair) -> None:
     """Each reports what a step waits for, whichever of them has the saga."""
-    start(both.one, "trip", "begun")
-    for client in (both.one, both.two):
+    start(both.first, "trip", "begun")
+    for client in (both.first, both.second):
         deadline = time.monotonic() + LONG
         while not (waits := client.get("/v1/sagas/begun").json()["waits"]):
             assert time.monotonic() < deadline
-        assert [(one["step"], one["why"]) for one in waits] == [("flight", "worker")]
+        assert [(wait["step"], wait["why"]) for wait in waits] == [("flight", "worker")]
         assert "waits for a worker" in client.get("/ui/sagas/begun").text
-    assert both.two.post("/v1/sagas/begun/abort", json={}).json()["aborted"] is True
-    assert both.one.get("/v1/sagas/begun/wait?seconds=60").json()["aborted"] is True
+    assert both.second.post("/v1/sagas/begun/abort", json={}).json()["aborted"] is True
+    assert both.first.get("/v1/sagas/begun/wait?seconds=60").json()["aborted"] is True
 
 
 def test_a_waiting_claim_gets_a_task_of_the_other_service(both: Pair) -> None:
@@ -179,7 +183,7 @@ def test_a_waiting_claim_gets_a_task_of_the_other_service(both: Pair) -> None:
         gone.post("/v1/tasks/claim", json={"steps": ["licence/server"], "wait": 30}, timeout=0.5)
     claimed: list[Any] = []
     taker = threading.Thread(
-        target=lambda: claimed.extend(take(both.two, "licence/server", wait=30, most=5))
+        target=lambda: claimed.extend(take(both.second, "licence/server", wait=30, limit=5))
     )
     with both.services[0].client() as client:
         taker.start()
@@ -192,32 +196,33 @@ def test_a_waiting_claim_gets_a_task_of_the_other_service(both: Pair) -> None:
             for queue in client.get("/v1/queues").json()["queues"]
             if queue["step"] == "server"
         ]
-        assert queue == both.two.get("/v1/queues").json()["queues"][0] and (
+        assert queue == both.second.get("/v1/queues").json()["queues"][0] and (
             queue["ready"],
             queue["claimed"],
         ) == (0, 1)
         assert "local/w" in client.get("/ui/workers").text  # the worker that claimed at the other
-    report(both.two, claimed[0])
-    all_done(both.two, "licence/licence")
+    report(both.second, claimed[0])
+    all_done(both.second, "licence/licence")
 
 
 def test_the_longest_waiting_task_comes_first(both: Pair) -> None:
     """Whichever service has it; and many workers that wait at one get what comes at the other, all
     of them.
     """
-    start(both.one, "licence", "first")
+    start(both.first, "licence", "first")
     deadline = time.monotonic() + LONG
     while not any(
-        queue["oldest"] < time.time() - 2 for queue in both.two.get("/v1/queues").json()["queues"]
+        queue["oldest"] < time.time() - 2
+        for queue in both.second.get("/v1/queues").json()["queues"]
     ):
         assert time.monotonic() < deadline
         time.sleep(0.1)
-    start(both.two, "licence", "second")
-    (first,) = take(both.two, "licence/server")
-    (second,) = take(both.two, "licence/server")
+    start(both.second, "licence", "second")
+    (first,) = take(both.second, "licence/server")
+    (second,) = take(both.second, "licence/server")
     assert (first["key"], second["key"]) == ("first", "second")
     for task in (first, second):
-        report(both.one, task, "fail", error="no", final=True)
+        report(both.first, task, "fail", error="no", final=True)
     order: list[str] = []
 
     def work() -> None:
@@ -231,7 +236,7 @@ def test_the_longest_waiting_task_comes_first(both: Pair) -> None:
     for taker in takers:
         taker.start()
     for key in keys:
-        start(both.one, "licence", key)
+        start(both.first, "licence", key)
     for taker in takers:
         taker.join(LONG)
     assert sorted(order) == keys
@@ -241,32 +246,38 @@ def test_people_say_it_anywhere(both: Pair) -> None:
     """An approval, an abort and a stuck saga that is resolved, each at the service that does not
     have the saga.
     """
-    start(both.one, "order", "approved")
+    start(both.first, "order", "approved")
     deadline = time.monotonic() + LONG
-    while not both.two.get("/v1/sagas/approved").json()["waits"]:
+    while not both.second.get("/v1/sagas/approved").json()["waits"]:
         assert time.monotonic() < deadline
-    answered = both.two.post(
+    answered = both.second.post(
         "/v1/sagas/approved/steps/review/complete", json={"result": "yes", "note": "by two"}
     )
     assert answered.status_code == 200
-    other = both.two.post("/v1/sagas/approved/steps/review/complete", json={"result": 1})
+    other = both.second.post("/v1/sagas/approved/steps/review/complete", json={"result": 1})
     assert error_of(other) == "ConflictingReport"
-    all_done(both.two, "order/send")
-    assert both.two.get("/v1/sagas/approved/wait?seconds=60").json()["results"]["review"] == "yes"
+    all_done(both.second, "order/send")
+    assert (
+        both.second.get("/v1/sagas/approved/wait?seconds=60").json()["results"]["review"] == "yes"
+    )
     notes = [
         event["value"]
-        for event in both.one.get("/v1/sagas/approved/log").json()["events"]
+        for event in both.first.get("/v1/sagas/approved/log").json()["events"]
         if event["event"] == "note"
     ]
     assert [
         (note["by"], note["note"], note["answer"]) for note in notes if note["answer"] is True
     ] == [("local", "by two", True)]
-    start(both.one, "order", "aborted")
-    assert both.two.post("/v1/sagas/aborted/abort", json={"note": "no"}).json()["aborted"] is True
-    assert both.one.get("/v1/sagas/aborted/wait?seconds=60").json()["aborted"] is True
-    stuck(both.one, "stuck")
-    assert both.two.post("/v1/sagas/stuck/resolve", json={"note": "bought one"}).status_code == 200
-    assert both.one.get("/v1/sagas/stuck").json()["phase"] == "resolved"
+    start(both.first, "order", "aborted")
+    assert (
+        both.second.post("/v1/sagas/aborted/abort", json={"note": "no"}).json()["aborted"] is True
+    )
+    assert both.first.get("/v1/sagas/aborted/wait?seconds=60").json()["aborted"] is True
+    stuck(both.first, "stuck")
+    assert (
+        both.second.post("/v1/sagas/stuck/resolve", json={"note": "bought one"}).status_code == 200
+    )
+    assert both.first.get("/v1/sagas/stuck").json()["phase"] == "resolved"
 
 
 def test_events_of_all(both: Pair) -> None:
@@ -276,8 +287,8 @@ def test_events_of_all(both: Pair) -> None:
     ) as stream:
         lines = stream.iter_lines()
         assert next(lines).startswith("retry")
-        start(both.one, "licence", "streamed")
-        all_done(both.one, "licence/server", "licence/licence")
+        start(both.first, "licence", "streamed")
+        all_done(both.first, "licence/server", "licence/licence")
         names: list[str] = []
         for line in lines:
             if line.startswith("event:"):
@@ -305,15 +316,15 @@ def test_events_that_a_service_did_not_hear() -> None:
         for _ in range(2):  # it is open
             await anext(there)
         hub.missed()
-        assert hub.behind(away) == ([], True)
+        assert hub.events_after(away) == ([], True)
         hub.publish(event)
-        assert hub.behind(away) == ([(3, event)], True)
+        assert hub.events_after(away) == ([(3, event)], True)
         texts = [await anext(there) for _ in range(2)]
         assert [text.split("\n")[:2] for text in texts] == [
             [f"id: {hub.boot}-2", "event: missed"],
             [f"id: {hub.boot}-3", "event: saga_ended"],
         ]
-        assert hub.behind(f"{hub.boot}-2") == ([(3, event)], False)
+        assert hub.events_after(f"{hub.boot}-2") == ([(3, event)], False)
 
     asyncio.run(main())
 
@@ -322,8 +333,8 @@ def test_any_request(both: Pair) -> None:
     """As over a file: no request leads to an internal error, of PostgreSQL or of the service that
     has the saga.
     """
-    start(both.one, "trip", "there")
-    start(both.one, "order", "ordered")
+    start(both.first, "trip", "there")
+    start(both.first, "order", "ordered")
     service = both.services[1]
     send_odd_texts(service)
     send_any_json(
@@ -337,40 +348,41 @@ def test_one_is_killed(tmp_path: pathlib.Path, url: str) -> None:
     """Its sagas are the other's after its lease; its tasks are claimed and reported there
     at once.
     """
-    with pair(tmp_path, url) as two:
-        start(two.one, "trip", "k")
-        (flight,) = take(two.two, "trip/flight")
-        start(two.one, "trip", "waits")
-        start(two.one, "order", "o")
-        two.one.post("/v1/sagas/o/steps/review/complete", json={"result": 1})
-        two.services[0].kill()
-        (waits,) = take(two.two, "trip/flight")
+    with pair(tmp_path, url) as second:
+        start(second.first, "trip", "k")
+        (flight,) = take(second.second, "trip/flight")
+        start(second.first, "trip", "waits")
+        start(second.first, "order", "o")
+        second.first.post("/v1/sagas/o/steps/review/complete", json={"result": 1})
+        second.services[0].kill()
+        (waits,) = take(second.second, "trip/flight")
         assert (waits["key"], waits["definition"], waits["step"]) == ("waits", "trip", "flight")
-        assert report(two.two, flight, result=5).json() == {
+        assert report(second.second, flight, result=5).json() == {
             "kept": True,
             "repeated": False,
             "next": None,
         }
-        assert report(two.two, waits, result=6).json() == {
+        assert report(second.second, waits, result=6).json() == {
             "kept": True,
             "repeated": False,
             "next": None,
         }
-        assert report(two.two, flight, result=5).json()["repeated"] is True
-        worker = sagas.Worker([service.url for service in two.services], wait=1.0)
+        assert report(second.second, flight, result=5).json()["repeated"] is True
+        worker = sagas.Worker([service.url for service in second.services], wait=1.0)
         for saga, step in (("order", "send"), ("trip", "car"), ("trip", "tour")):
             worker.step(saga, step)(lambda task: task.step)
         with working(worker):  # its first service does not answer
-            two.two.get("/v1/sagas/k/wait?seconds=60")
-            two.two.get("/v1/sagas/waits/wait?seconds=60")
-        assert two.two.get("/v1/sagas/o/wait?seconds=60").json()["phase"] == "completed"
+            second.second.get("/v1/sagas/k/wait?seconds=60")
+            second.second.get("/v1/sagas/waits/wait?seconds=60")
+        assert second.second.get("/v1/sagas/o/wait?seconds=60").json()["phase"] == "completed"
         for key, flown in (("k", 5), ("waits", 6)):
-            results = two.two.get(f"/v1/sagas/{key}/wait?seconds=60").json()["results"]
+            results = second.second.get(f"/v1/sagas/{key}/wait?seconds=60").json()["results"]
             assert results == {"flight": flown, "car": "car", "tour": "tour"}
-        assert "sagas_shards_taken_over_total 1.0" in two.two.get("/metrics").text
-        two.services[0].start()
-        assert two.services[0].stop() == two.services[1].stop() == 0
-    for service in two.services:
+        assert "sagas_shards_taken_over_total 1.0" in second.second.get("/metrics").text
+        second.services[0].start()
+        assert second.services[0].stop() == second.services[1].stop() == 0
+    assert '"message": "took over 1 shard in ' in second.services[1].log_text()
+    for service in second.services:
         assert "Traceback" not in service.log_text() and '"trace"' not in service.log_text()
 
 

@@ -44,8 +44,8 @@ REFERENCE = HERE.parents[1] / "docs" / "reference"
 def service(tmp_path_factory: pytest.TempPathFactory) -> Iterator[Served]:
     folder = tmp_path_factory.mktemp("openapi")
     token(folder, "operator", "operator")
-    with served(folder, DEFINITIONS, "--token-file", str(folder / "tokens.toml")) as one:
-        yield one
+    with served(folder, DEFINITIONS, "--token-file", str(folder / "tokens.toml")) as service:
+        yield service
 
 
 @pytest.fixture(scope="module")
@@ -55,13 +55,13 @@ def operator(service: Served) -> str:
 
 @pytest.fixture
 def client(service: Served, operator: str) -> Iterator[httpx.Client]:
-    with service.client(operator) as one:
-        yield one
+    with service.client(operator) as client:
+        yield client
 
 
 def test_the_file_is_the_program_s() -> None:
     """The file of the repository is generated from the operations."""
-    remedy = f"print it anew: python3 -m sagas.server.openapi > {contract.PATH}"
+    remedy = f"print it again: python3 -m sagas.server.openapi > {contract.PATH}"
     assert contract.PATH.read_text() == openapi.text(), remedy
 
 
@@ -88,18 +88,20 @@ def test_the_document_is_valid() -> None:
         jsonschema.Draft202012Validator.check_schema(schema)
         for example in schema.get("examples", ()):
             contract.validator(json.dumps(schema)).validate(example)
-    ids, tags = [], {one["name"] for one in document["tags"]}
+    ids, tags = [], {tag["name"] for tag in document["tags"]}
     for path, methods in document["paths"].items():
         for method, operation in methods.items():
             ids.append(operation["operationId"])
             assert method in ("get", "post", "delete") and set(operation["tags"]) <= tags
             assert operation["summary"] and operation["responses"], path
             declared = {
-                one["name"] for one in operation.get("parameters", ()) if one["in"] == "path"
+                parameter["name"]
+                for parameter in operation.get("parameters", ())
+                if parameter["in"] == "path"
             }
             assert declared == set(re.findall(r"{(\w+)}", path)), path
-            for one in operation.get("parameters", ()):
-                jsonschema.Draft202012Validator.check_schema(one["schema"])
+            for parameter in operation.get("parameters", ()):
+                jsonschema.Draft202012Validator.check_schema(parameter["schema"])
             needs_token = operation["security"] == [{"token": []}]
             assert needs_token is bool(operation.get("x-roles")), path
             for part in [
@@ -192,7 +194,10 @@ def test_bodies_and_parameters(client: httpx.Client) -> None:
 
 def test_definitions(client: httpx.Client) -> None:
     """They have their steps with costs, and who does them."""
-    definitions = {one["name"]: one for one in client.get("/v1/definitions").json()["definitions"]}
+    definitions = {
+        definition["name"]: definition
+        for definition in client.get("/v1/definitions").json()["definitions"]
+    }
     assert [*definitions] == ["few", "licence", "order", "trip"]
     car = definitions["trip"]["steps"][1]
     assert (car["name"], car["needs"], car["undo"], car["keep"]) == ("car", ["flight"], 5, 30)
@@ -211,7 +216,7 @@ def test_what_if(client: httpx.Client) -> None:
     assert plan["cost"] == 15 and plan["assumed"] == {"tour": "waiting"}
     failed = client.post("/v1/sagas/suppose/what-if", json={"fail": "tour"}).json()
     assert (failed["cost"], failed["assumed"]) == (15, {"tour": "failed"})
-    states = {one["step"]: one["decision"] for one in failed["plan"]["steps"]}
+    states = {step["step"]: step["decision"] for step in failed["plan"]["steps"]}
     assert states == {"flight": "stands", "car": "is undone", "tour": "is left out"}
     text = "\n---\n".join(
         part if isinstance(part, str) else json.dumps(part)
@@ -267,7 +272,7 @@ def generated() -> str:
         for method, operation in methods.items():
             content = next(iter(operation["responses"].values())).get("content", {})
             answer = kind(content.get("application/json", {}).get("schema", {}))
-            parameters = [f"{one}: str" for one in re.findall(r"{(\w+)}", path)]
+            parameters = [f"{name}: str" for name in re.findall(r"{(\w+)}", path)]
             body = "None"
             if "requestBody" in operation:
                 sent = operation["requestBody"]["content"]["application/json"]
@@ -349,7 +354,7 @@ def test_other_languages(
         got = json.loads(outputs[0])
         assert got["statuses"] == [201, 200, 409, 409] and got["phase"] == "completed"
         assert got["car"] == {"by": "go", "after": {"of": "flight"}}
-        assert [one.rpartition(":")[2] for one in got["types"]] == ["KeyConflict", "SagaOver"]
+        assert [name.rpartition(":")[2] for name in got["types"]] == ["KeyConflict", "SagaOver"]
         assert working.stdout and working.stdout.readline() == "trip/car 200\n"
     finally:
         working.kill()
@@ -362,11 +367,11 @@ def test_other_languages(
 @pytest.mark.parametrize(
     "shape, value, detail",
     [
-        (shapes.Number(least=0), -1, "must be at least 0"),
-        (shapes.Number(most=9), 10, "must be at most 9"),
+        (shapes.Number(minimum=0), -1, "must be at least 0"),
+        (shapes.Number(maximum=9), 10, "must be at most 9"),
         (shapes.Number(1, 9), 10, "must be from 1 to 9"),
-        (shapes.Several(shapes.Number(), least=1), [], "must have at least 1 entries"),
-        (shapes.Several(shapes.Number(), most=1), [1, 2], "must have from 0 to 1 entries"),
+        (shapes.Several(shapes.Number(), min_items=1), [], "must have at least 1 entries"),
+        (shapes.Several(shapes.Number(), max_items=1), [1, 2], "must have from 0 to 1 entries"),
     ],
 )
 def test_bounds_are_in_words(shape: shapes.Shape, value: object, detail: str) -> None:

@@ -93,18 +93,18 @@ class Browser:
         self.wait(lambda: self._click(css, text))
 
     def _click(self, css: str, text: str) -> bool:
-        for one in self.driver.find_elements(By.CSS_SELECTOR, css):
-            if text in (one.text or one.get_attribute("aria-label") or "") or text in (
-                one.get_attribute("aria-label") or ""
-            ):
-                one.click()
+        for find_element in self.driver.find_elements(By.CSS_SELECTOR, css):
+            if text in (
+                find_element.text or find_element.get_attribute("aria-label") or ""
+            ) or text in (find_element.get_attribute("aria-label") or ""):
+                find_element.click()
                 return True
         return False
 
     def type(self, css: str, text: str) -> None:
-        one = self.driver.find_element(By.CSS_SELECTOR, css)
-        one.clear()
-        one.send_keys(text)
+        element = self.driver.find_element(By.CSS_SELECTOR, css)
+        element.clear()
+        element.send_keys(text)
 
     def wait(self, condition: Any) -> None:
         """Wait for a condition; the page may be renewed in the meantime."""
@@ -130,7 +130,7 @@ class Browser:
         self.driver.save_screenshot(str(self.shots / f"{name}.png"))
 
     def is_quiet(self) -> None:
-        """Check that there is no error in the console."""
+        """Check that the console has no error."""
         assert [
             entry
             for entry in self.driver.get_log("browser")
@@ -145,20 +145,20 @@ def shots(tmp_path_factory: pytest.TempPathFactory) -> pathlib.Path:
 
 @pytest.fixture(scope="module")
 def service(shots: pathlib.Path) -> Iterator[Served]:
-    with served(shots) as one:
-        with one.client() as client:
+    with served(shots) as service:
+        with service.client() as client:
             seed(client)
-        yield one
+        yield service
 
 
 @pytest.fixture(scope="module")
 def browser(service: Served, shots: pathlib.Path) -> Iterator[Browser]:
-    one = Browser(service, shots)
+    browser = Browser(service, shots)
     try:
-        one.size(1280)
-        yield one
+        browser.size(1280)
+        yield browser
     finally:
-        one.driver.quit()
+        browser.driver.quit()
 
 
 def seed(client: httpx.Client) -> None:
@@ -216,7 +216,20 @@ def test_a_failed_saga_shows_kept_steps(browser: Browser) -> None:
     browser.shot("failed")
     browser.driver.find_element(By.LINK_TEXT, "the certificate").click()
     browser.has('"cost": 15')
+    browser.driver.back()
+    browser.driver.find_element(By.LINK_TEXT, "Replay it").click()
+    browser.has("Car is undone")
+    browser.has("It follows the plan of event")
+    browser.driver.find_element(By.ID, "first").click()
+    browser.has("The saga is opened")
+    browser.shot("replay")
     browser.is_quiet()
+    with browser.service.client() as client:
+        exported = client.get("/v1/sagas/failed-1/export").json()
+    assert exported["saga"]["phase"] == "recovered" and exported["history"]
+    assert exported["events"][0]["event"] == "open" and all(
+        line["at"] for line in exported["events"]
+    )
 
 
 def test_a_stuck_saga_is_resolved_in_two_clicks(browser: Browser) -> None:
@@ -230,19 +243,36 @@ def test_a_stuck_saga_is_resolved_in_two_clicks(browser: Browser) -> None:
     browser.has("It is stuck")
     assert "because of licence" in browser.text
     browser.shot("stuck")
-    browser.click("a.button", "Mark as resolved…")
-    browser.has("Mark this saga as resolved?")
+    browser.click("a.button", "Resolve…")
+    browser.has("Resolve this saga?")
     browser.shot("resolve")
-    browser.click("main button", "Mark as resolved")
+    browser.click("main button", "Resolve it")
     assert "/resolve" in browser.driver.current_url  # a note is needed
     browser.type("textarea[name=note]", "bought a licence by hand")
-    browser.click("main button", "Mark as resolved")
+    browser.click("main button", "Resolve it")
     browser.has("It was stuck, and is resolved")
-    assert (
-        "local marked it as resolved" in browser.text and "bought a licence by hand" in browser.text
-    )
+    assert "local resolved it" in browser.text and "bought a licence by hand" in browser.text
     browser.go("/ui")
     assert "stuck-1" not in browser.text and "stuck-2" in browser.text
+    browser.is_quiet()
+
+
+def test_a_key_is_copied(browser: Browser) -> None:
+    """The button exists with a script only. It works by keyboard, and the key stays a link."""
+    browser.go("/ui/sagas/failed-1")
+    assert browser.driver.find_element(By.CSS_SELECTOR, "h1").text == "failed-1"
+    button = browser.driver.find_element(By.CSS_SELECTOR, "main .copy")
+    assert button.is_displayed() and button.get_attribute("aria-label") == "Copy failed-1"
+    button.send_keys(Keys.ENTER)
+    status = "return document.getElementById('said').textContent"
+    browser.wait(lambda: browser.driver.execute_script(status) == "Copied.")
+    browser.go("/ui/sagas?search=failed-1")
+    field = browser.driver.find_element(By.CSS_SELECTOR, "[name=search]")
+    field.send_keys(Keys.CONTROL, "a")
+    field.send_keys(Keys.CONTROL, "v")
+    assert field.get_attribute("value") == "failed-1"
+    browser.driver.execute_script("document.documentElement.classList.remove('scripted')")
+    assert not browser.driver.find_element(By.CSS_SELECTOR, "main .copy").is_displayed()
     browser.is_quiet()
 
 
@@ -250,7 +280,6 @@ def test_an_approval(browser: Browser) -> None:
     """It is listed on the first page, decided with a result and a note, and the saga continues."""
     browser.go("/ui")
     browser.click(".tabs a", "Approvals")
-    browser.click("summary", "order-1")
     browser.click("a.button", "Look at order-1")
     browser.has("review waits to be approved")
     assert "Start send" in browser.text  # the effect of the answer
@@ -258,11 +287,11 @@ def test_an_approval(browser: Browser) -> None:
     browser.has("Approve step review?")
     browser.type("textarea[name=result]", "yes")
     browser.type("textarea[name=note]", "asked the boss")
-    browser.click("main button", "Approve")
+    browser.click("main button", "Approve it")
     browser.has("The result is not valid JSON")
     assert all("422" in entry["message"] for entry in browser.driver.get_log("browser"))
     browser.type("textarea[name=result]", '{"by": "Ada"}')
-    browser.click("main button", "Approve")
+    browser.click("main button", "Approve it")
     browser.has("asked the boss")
     assert '"by": "Ada"' in browser.text and "review is done" in browser.text
     browser.shot("approved")
@@ -283,10 +312,10 @@ def test_an_unknown_outcome_and_an_abort(browser: Browser) -> None:
         browser.text.count("Undo car, keep flight: costs 15") == 1
         and "The saga is completed" in browser.text
     )
-    browser.click("a.button", "It had no effect…")
+    browser.click("a.button", "Fail…")
     browser.has("Now it would: Undo car, keep flight: costs 15.")
     browser.type("input[name=failed]", "they have no booking")
-    browser.click("main button", "It had no effect")
+    browser.click("main button", "Fail it")
     browser.has("they have no booking")
     with browser.service.client() as client:
         all_done(client, "trip/car/undo")
@@ -395,22 +424,22 @@ def test_the_page_shows_when_it_is_not_live(tmp_path: pathlib.Path) -> None:
     between.
     """
     with served(tmp_path) as service:
-        one = Browser(service, tmp_path)
+        browser = Browser(service, tmp_path)
         try:
-            one.go("/ui")
-            notice = one.driver.find_element(By.ID, "lapsed")
+            browser.go("/ui")
+            notice = browser.driver.find_element(By.ID, "lapsed")
             assert not notice.is_displayed()
             service.kill()
-            one.wait(notice.is_displayed)
+            browser.wait(notice.is_displayed)
             assert "Not live" in notice.text
-            one.shot("not-live")
+            browser.shot("not-live")
             service.start()
             with service.client() as client:
                 start(client, "trip", "meanwhile")
-            one.wait(lambda: not notice.is_displayed())
-            one.has("1 open")
+            browser.wait(lambda: not notice.is_displayed())
+            browser.has("1 open")
         finally:
-            one.driver.quit()
+            browser.driver.quit()
 
 
 def test_the_page_shows_when_its_stream_is_refused(tmp_path: pathlib.Path) -> None:
@@ -422,15 +451,15 @@ def test_the_page_shows_when_its_stream_is_refused(tmp_path: pathlib.Path) -> No
         client.get("/ui")
         there = [stack.enter_context(client.stream("GET", "/ui/events")) for _ in range(50)]
         assert {answer.status_code for answer in there} == {200}
-        one = Browser(service, tmp_path)
+        browser = Browser(service, tmp_path)
         try:
-            one.go("/ui")
-            notice = one.driver.find_element(By.ID, "lapsed")
-            one.wait(notice.is_displayed)
+            browser.go("/ui")
+            notice = browser.driver.find_element(By.ID, "lapsed")
+            browser.wait(notice.is_displayed)
             there[0].close()
-            one.wait(lambda: not notice.is_displayed())
+            browser.wait(lambda: not notice.is_displayed())
         finally:
-            one.driver.quit()
+            browser.driver.quit()
 
 
 def test_those_that_ended_by_plan(browser: Browser) -> None:
@@ -452,9 +481,27 @@ def test_those_that_ended_by_plan(browser: Browser) -> None:
     browser.shot("undo-failed")
     with browser.service.client() as client:
         listed = client.get("/v1/sagas?phase=recovered").json()["sagas"]
-        assert "failed-1" in [one["key"] for one in listed] and all(
-            one["phase"] == "recovered" for one in listed
+        assert "failed-1" in [summary["key"] for summary in listed] and all(
+            summary["phase"] == "recovered" for summary in listed
         )
+    browser.is_quiet()
+
+
+def test_a_definition_shows_what_each_failure_leads_to(browser: Browser) -> None:
+    browser.go("/ui/definitions/trip")
+    browser.has("undo car, keep flight")
+    browser.has("Point of no return\nflight")
+    browser.click("#failures tbody a", "tour")
+    browser.has("If tour fails:")
+    drawn = browser.driver.find_element(By.CSS_SELECTOR, "#failures svg").text
+    assert "is undone" in drawn and "fails" in drawn
+    browser.click("#failures a", "hide the picture")
+    browser.wait(lambda: "If tour fails" not in browser.text)
+    with browser.service.client() as client:
+        page = client.get("/ui/definitions/licence?fails=licence&when=early").text
+        assert "stuck: licence failed and must not be left out" in page
+        assert client.get("/ui/definitions/trip?fails=nothing").is_success
+        assert client.get("/ui/definitions/trip?when=never").status_code == 422
     browser.is_quiet()
 
 
@@ -462,7 +509,7 @@ PATHS = (
     "/ui",
     "/ui?kind=undo_failed",
     "/ui/definitions",
-    "/ui/definitions/trip",
+    "/ui/definitions/trip?fails=tour",
     "/ui/sagas",
     "/ui/start",
     "/ui/sagas/failed-1",
@@ -470,6 +517,7 @@ PATHS = (
     "/ui/sagas/stuck-2",
     "/ui/sagas/work-1",
     "/ui/workers",
+    "/ui/nodes",
     "/ui/webhooks",
     "/ui/sagas/work-1/abort",
     "/ui/sagas/nobody",
@@ -758,8 +806,8 @@ def test_a_page_that_is_not_answered_is_taken_later(browser: Browser) -> None:
         start(client, "trip", "slow-page")
         browser.has("slow-page")
     refused, first, second = browser.driver.execute_script("return asked")[:3]
-    assert [one["status"] for one in (refused, first, second)] == [503, 200, 200]
-    assert [one["isLive"] for one in (refused, first, second)] == [True, False, True]
+    assert [answer["status"] for answer in (refused, first, second)] == [503, 200, 200]
+    assert [answer["isLive"] for answer in (refused, first, second)] == [True, False, True]
     pause, took = second["began"] - first["ended"], first["ended"] - first["began"]
     assert pause > 5 * took - 5  # milliseconds
     browser.is_quiet()
@@ -778,7 +826,7 @@ return [...document.querySelectorAll(boxes)].filter((one) => one.scrollWidth > o
 
 
 def test_long_names_are_not_cut_off(browser: Browser, tmp_path: pathlib.Path) -> None:
-    """Those of a token, a label, a worker and a key: the page is no wider, and each box has the
+    """Those of a token, a label, a worker and a key: the page is not wider, and each box has the
     full name.
     """
     secret, key = token(tmp_path, "N" * 64, "operator"), "K" * 300

@@ -135,8 +135,8 @@ def test_waits_and_claims_of_a_token(
                 async with asyncio.timeout(1.0):
                     await reply_of(await waiting)
 
-    places = ConcurrencySettings(waits=5, claims=5)
-    inside(tmp_path, ask, tokens=tmp_path / "tokens.toml", places=places)
+    concurrency = ConcurrencySettings(waits=5, claims=5)
+    inside(tmp_path, ask, tokens=tmp_path / "tokens.toml", concurrency=concurrency)
 
 
 def test_a_report_counts_when_no_claim_may_follow(
@@ -163,7 +163,9 @@ def test_a_report_counts_when_no_claim_may_follow(
                     await evil.ask(text(line, tokens["evil"], json.dumps(report)))
                 ).status == 200
 
-    inside(tmp_path, ask, tokens=tmp_path / "tokens.toml", places=ConcurrencySettings(claims=2))
+    inside(
+        tmp_path, ask, tokens=tmp_path / "tokens.toml", concurrency=ConcurrencySettings(claims=2)
+    )
 
 
 def test_connections_of_a_token(tmp_path: pathlib.Path, tokens: dict[str, str]) -> None:
@@ -182,18 +184,18 @@ def test_connections_of_a_token(tmp_path: pathlib.Path, tokens: dict[str, str]) 
             while (await others.ask(list_sagas)).status != 200:
                 await asyncio.sleep(0.05)
 
-    places = ConcurrencySettings(connections_of_token=6)
-    inside(tmp_path, ask, tokens=tmp_path / "tokens.toml", places=places)
+    concurrency = ConcurrencySettings(connections_of_token=6)
+    inside(tmp_path, ask, tokens=tmp_path / "tokens.toml", concurrency=concurrency)
 
 
-@pytest.mark.parametrize("is_behind_proxy", [False, True])
+@pytest.mark.parametrize("is_proxied", [False, True])
 def test_connections_of_an_address(
-    tmp_path: pathlib.Path, tokens: dict[str, str], is_behind_proxy: bool
+    tmp_path: pathlib.Path, tokens: dict[str, str], is_proxied: bool
 ) -> None:
     """Each one above the limit gets the error, on its own connection; health checks and operators
     are answered. For a trusted proxy the forwarded address counts.
     """
-    proxied = "\r\nX-Forwarded-For: 192.0.2.7" if is_behind_proxy else ""
+    proxied = "\r\nX-Forwarded-For: 192.0.2.7" if is_proxied else ""
     wait = text(WAIT + "\r\nX: y" + proxied, tokens["evil"])
     once = text("GET /v1/sagas HTTP/1.1" + proxied, tokens["evil"])
 
@@ -206,7 +208,7 @@ def test_connections_of_an_address(
             reply = await others.ask(once)
             assert (reply.status, reply.problem) == (503, "TooManyConnections")
             assert reply.headers["retry-after"] == "1"
-            if not is_behind_proxy:
+            if not is_proxied:
                 for request in (text(LIVE), text("GET /v1/attention HTTP/1.1", tokens["op"])):
                     assert (await others.ask(request)).status == 200
             else:
@@ -219,9 +221,9 @@ def test_connections_of_an_address(
                 await asyncio.sleep(0.05)
                 await others.end()
 
-    options: dict[str, Any] = {} if is_behind_proxy else {"trusted_proxies": ()}
-    places = ConcurrencySettings(connections_of_address=6)
-    inside(tmp_path, ask, tokens=tmp_path / "tokens.toml", places=places, **options)
+    options: dict[str, Any] = {} if is_proxied else {"trusted_proxies": ()}
+    concurrency = ConcurrencySettings(connections_of_address=6)
+    inside(tmp_path, ask, tokens=tmp_path / "tokens.toml", concurrency=concurrency, **options)
 
 
 def test_connections_for_health_and_operators(
@@ -237,14 +239,14 @@ def test_connections_for_health_and_operators(
             op = text("GET /v1/attention HTTP/1.1", tokens["op"])
             some = [text(LIVE), op, text("GET /health/ready HTTP/1.1")]
             for _ in range(20):
-                assert [(await others.ask(one)).status for one in some] == [200] * 3
+                assert [(await others.ask(item)).status for item in some] == [200] * 3
                 reply = await others.ask(text("GET /v1/sagas HTTP/1.1", tokens["other"]))
                 assert (reply.status, reply.problem) == (503, "TooManyConnections")
                 assert reply.headers["retry-after"] == "1"
                 assert (await others.ask(text("GET /openapi.json HTTP/1.1"))).status == 503
 
-    places = ConcurrencySettings(connections=40, waits=100, kept=10)
-    inside(tmp_path, ask, tokens=tmp_path / "tokens.toml", places=places)
+    concurrency = ConcurrencySettings(connections=40, waits=100, kept=10)
+    inside(tmp_path, ask, tokens=tmp_path / "tokens.toml", concurrency=concurrency)
 
 
 def test_clients_that_read_nothing_give_way(tmp_path: pathlib.Path, tokens: dict[str, str]) -> None:
@@ -263,8 +265,8 @@ def test_clients_that_read_nothing_give_way(tmp_path: pathlib.Path, tokens: dict
                 assert reply.status == 200
                 assert (await others.ask(text(LIVE))).status == 200
 
-    places = ConcurrencySettings(connections=40, kept=10)
-    inside(tmp_path, ask, tokens=tmp_path / "tokens.toml", places=places)
+    concurrency = ConcurrencySettings(connections=40, kept=10)
+    inside(tmp_path, ask, tokens=tmp_path / "tokens.toml", concurrency=concurrency)
 
 
 @pytest.mark.parametrize("parser", ["h11", "httptools"])
@@ -283,9 +285,9 @@ def test_data_after_a_wait_ends_it(
     counted: list[Any] = []
     serving = uvicorn_server.Serving
 
-    def seen(server: Any, service: Any, connections: Any, overdue: Any) -> Any:
+    def seen(server: Any, service: Any, connections: Any, *more: Any) -> Any:
         counted.append(connections)
-        return serving(server, service, connections, overdue)
+        return serving(server, service, connections, *more)
 
     monkeypatch.setattr(uvicorn_server, "Serving", seen)
 
@@ -297,7 +299,7 @@ def test_data_after_a_wait_ends_it(
                 back = await some.send(text(line, evil, body), text(LIVE))
                 async with asyncio.timeout(20):
                     replies = [await reply_of(back), await reply_of(back)]
-                assert [one.status for one in replies] == [200, 200], line
+                assert [reply.status for reply in replies] == [200, 200], line
             back = await some.send(text("GET /v1/events HTTP/1.1", evil))
             await back.readuntil(b"\r\n\r\n")
             some.open[-1][1].write(text(LIVE))
@@ -331,10 +333,10 @@ def test_a_stop_after_pipelined_requests(tmp_path: pathlib.Path) -> None:
         claim = text(CLAIM, body=FOREVER) + text(LIVE)
         wait = text(WAIT) + text(LIVE)
         for request in (text("GET /openapi.json HTTP/1.1") * 30, claim, wait) * 7:
-            with socket.create_connection((name, int(port)), timeout=LONG) as one:
-                one.sendall(request)
+            with socket.create_connection((name, int(port)), timeout=LONG) as connection:
+                connection.sendall(request)
                 time.sleep(0.01)
-                one.setsockopt(socket.SOL_SOCKET, socket.SO_LINGER, RESET)
+                connection.setsockopt(socket.SOL_SOCKET, socket.SO_LINGER, RESET)
         began = time.monotonic()
         assert service.stop() == 0 and time.monotonic() - began < 30
 
@@ -347,8 +349,8 @@ def test_a_stop_has_a_deadline(
     servers: list[Any] = []
     serving = uvicorn_server.Serving
 
-    def seen(server: Any, service: Any, connections: Any, overdue: Any) -> Any:
-        servers.append(serving(server, service, connections, overdue))
+    def seen(server: Any, service: Any, connections: Any, *more: Any) -> Any:
+        servers.append(serving(server, service, connections, *more))
         return servers[-1]
 
     monkeypatch.setattr(uvicorn_server, "Serving", seen)
@@ -362,7 +364,7 @@ def test_a_stop_has_a_deadline(
                 back = await some.send(*[text("GET /v1/sagas/k HTTP/1.1", tokens["evil"])] * 9)
                 back._transport.pause_reading()  # type: ignore[attr-defined]
             await asyncio.sleep(0.5)
-            servers[0].stop()
+            servers[0].stop("of a test")
             async with asyncio.timeout(30):
                 while servers[0]._connections.all or servers[0]._connections.requests:
                     await asyncio.sleep(0.05)
@@ -449,10 +451,10 @@ def test_malformed_requests_are_refused(tmp_path: pathlib.Path) -> None:
         name, _, port = service.address.rpartition(":")
         for request_text in BAD:
             for before in (b"", text(LIVE)):
-                with socket.create_connection((name, int(port)), timeout=LONG) as one:
-                    one.sendall(before + request_text + b"\r\n" * 1000)
+                with socket.create_connection((name, int(port)), timeout=LONG) as connection:
+                    connection.sendall(before + request_text + b"\r\n" * 1000)
                     received = b""
-                    while part := one.recv(65536):
+                    while part := connection.recv(65536):
                         received += part
                 statuses = re.findall(rb"HTTP/1\.1 (\d+) ", received)
                 assert statuses == ([b"200"] if before else []) + [b"400"], (request_text, received)

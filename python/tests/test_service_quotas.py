@@ -36,8 +36,8 @@ def service(
     served.kill()
 
 
-def begun(client: httpx.Client, name: str, count: int, given: object = None) -> list[int]:
-    return [start(client, "order", f"{name}-{at}", given).status_code for at in range(count)]
+def begun(client: httpx.Client, name: str, count: int, value: object = None) -> list[int]:
+    return [start(client, "order", f"{name}-{at}", value).status_code for at in range(count)]
 
 
 def test_open_sagas_of_a_quota(service: tuple[Served, dict[str, str]]) -> None:
@@ -80,12 +80,12 @@ def test_starts_at_the_same_time(service: tuple[Served, dict[str, str]]) -> None
     """No more than the quota, and all of it."""
     served, tokens = service
 
-    def one(number: int) -> int:
+    def start_saga(number: int) -> int:
         with served.client(tokens["many"]) as client:
             return begun(client, f"many-{number}", 15).count(201)
 
     with ThreadPoolExecutor(10) as threads:
-        assert sum(threads.map(one, range(10), timeout=3 * LONG)) == 100
+        assert sum(threads.map(start_saga, range(10), timeout=3 * LONG)) == 100
 
 
 @pytest.mark.parametrize(

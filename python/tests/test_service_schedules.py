@@ -46,7 +46,7 @@ def declare(service: Served, name: str, saga: str, seconds: float, *policy: Any)
 
 
 def names(client: httpx.Client) -> list[str]:
-    return [one["name"] for one in client.get("/v1/schedules").json()["schedules"]]
+    return [schedule["name"] for schedule in client.get("/v1/schedules").json()["schedules"]]
 
 
 def sagas_with(client: httpx.Client, label: str) -> list[dict[str, Any]]:
@@ -65,8 +65,8 @@ def test_the_service_starts_and_changes_schedules(world: World) -> None:
     operator, of_order, caller = world["operator"], world["of-order"], world["caller"]
     declare(world.service, "tick", "order", 1.0)
     declare(world.service, "trips a/b", "trip", 3600.0)
-    (one, *_) = sagas_with(operator, "by=tick")
-    assert one["key"].startswith("tick@20") and one["definition"] == "order"
+    (row, *_) = sagas_with(operator, "by=tick")
+    assert row["key"].startswith("tick@20") and row["definition"] == "order"
     assert names(operator) == names(caller) == ["tick", "trips a/b"] and names(of_order) == ["tick"]
     (schedule,) = of_order.get("/v1/schedules").json()["schedules"]
     assert (schedule["every"], schedule["cron"], schedule["labels"]) == (1.0, None, {"by": "tick"})

@@ -54,8 +54,8 @@ def service(tmp_path_factory: pytest.TempPathFactory) -> Iterator[tuple[Served, 
     folder = tmp_path_factory.mktemp("secrets")
     operator = token(folder, "op", "operator")
     options = ("--token-file", str(folder / "tokens.toml"))
-    with served(folder, DEFINITIONS, *options) as one:
-        yield one, operator
+    with served(folder, DEFINITIONS, *options) as service:
+        yield service, operator
 
 
 def leads_to(service: Served, token: str, wanted: str) -> str:

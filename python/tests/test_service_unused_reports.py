@@ -33,14 +33,14 @@ FILES = {
 
 @pytest.fixture(scope="module")
 def service(tmp_path_factory: pytest.TempPathFactory, store: str | None) -> Iterator[Served]:
-    with served(tmp_path_factory.mktemp("unused"), FILES, store=store) as one:
-        yield one
+    with served(tmp_path_factory.mktemp("unused"), FILES, store=store) as service:
+        yield service
 
 
 @pytest.fixture
 def client(service: Served) -> Iterator[httpx.Client]:
-    with service.client() as one:
-        yield one
+    with service.client() as client:
+        yield client
 
 
 def unused(client: httpx.Client, definition: str, key: str) -> None:
@@ -75,13 +75,16 @@ def entries(client: httpx.Client) -> list[dict[str, Any]]:
 def test_it_is_listed_and_compensated(client: httpx.Client) -> None:
     """The entry has its result and its reporter; the worker of the compensation gets it."""
     unused(client, "shop", "k")
-    (one,) = entries(client)
-    assert (one["key"], one["step"], one["detail"]) == ("k", "pay", '{"euros":40}') and one["by"]
-    assert one["calls"] == ["compensate", "resolve"] and one["undo"] is False
+    (entry,) = entries(client)
+    assert (entry["key"], entry["step"], entry["detail"]) == ("k", "pay", '{"euros":40}') and entry[
+        "by"
+    ]
+    assert entry["calls"] == ["compensate", "resolve"] and entry["undo"] is False
     until = time.monotonic() + LONG  # it is counted once a second
     while client.get("/v1/attention").json()["counts"]["unused_report"] != 1:
         assert time.monotonic() < until
-    assert 'sagas_attention_required{reason="unused_report"} 1.0' in client.get("/metrics").text
+    figure = 'sagas_attention_required{reason="unused_report",saga="shop"} 1.0'
+    assert figure in client.get("/metrics").text
     wrong = client.post("/v1/sagas/k/steps/reserve/compensate", json={})
     assert (wrong.status_code, error_of(wrong)) == (409, "StepNotWaiting")
     for _ in range(2):
@@ -127,7 +130,7 @@ def test_on_the_dashboard(client: httpx.Client) -> None:
     assert client.post("/ui/sagas/d/steps/pay/compensate", data=sent).status_code == 303
     again = client.post("/ui/sagas/e/steps/reserve/compensate", data=sent)
     assert again.status_code == 409 and "no unused report" in again.text
-    assert [one["key"] for one in entries(client)] == ["e"]
+    assert [entry["key"] for entry in entries(client)] == ["e"]
     refunded(client, "shop", "d")
     assert client.post("/v1/sagas/e/resolve", json={"note": "x"}).status_code == 200
     assert "A report was not used, and it is resolved" in client.get("/ui/sagas/e").text

@@ -22,11 +22,11 @@ from serving import DEFINITIONS, LONG, all_done, host, report, served, start, st
 
 import sagas
 from sagas.cli.snapshot import Snapshot
-from sagas.core.deliveries import TYPES
-from sagas.inspection import deliveries
+from sagas.core.webhook_rows import TYPES
+from sagas.inspection import delivery_questions
 from sagas.server import webhooks
 from sagas.server.webhooks import Webhook, WebhookFault, Webhooks
-from sagas.storage.deliveries import Claimed
+from sagas.storage.webhook_deliveries import Claimed
 
 SECRET = base64.b64encode(b"k" * 32).decode()
 
@@ -77,9 +77,9 @@ class Receiver:
 
 @pytest.fixture
 def receiver() -> Iterator[Receiver]:
-    one = Receiver()
-    yield one
-    one.server.shutdown()
+    receiver = Receiver()
+    yield receiver
+    receiver.server.shutdown()
 
 
 def written(folder: pathlib.Path, *tables: str) -> str:
@@ -110,7 +110,7 @@ def test_posts_of_a_webhook(tmp_path: pathlib.Path, receiver: Receiver) -> None:
         (task,) = take(client, "trip/tour")
         report(client, task, "unknown", error="the line went dead")
         posts = receiver.wait(5)
-        posts_by_key = {(one["type"], one["data"]["key"]): one["data"] for one in posts}
+        posts_by_key = {(post["type"], post["data"]["key"]): post["data"] for post in posts}
         assert {*posts_by_key} == {
             ("saga.completed", "good"),
             ("saga.recovered", "bad"),
@@ -151,12 +151,12 @@ def test_it_is_repeated(tmp_path: pathlib.Path) -> None:
         deadline = time.monotonic() + LONG
         while True:
             listed = client.get("/v1/webhooks/deliveries").json()["deliveries"]
-            states = sorted((one["webhook"], one["state"]) for one in listed)
+            states = sorted((summary["webhook"], summary["state"]) for summary in listed)
             if states == [("one", "delivered"), ("one", "delivered"), ("two", "failed")]:
                 break
             assert time.monotonic() < deadline, states
             time.sleep(0.1)
-        assert sum(one["attempts"] for one in listed if one["webhook"] == "one") == 4
+        assert sum(summary["attempts"] for summary in listed if summary["webhook"] == "one") == 4
         assert service.stop() == 0
 
 
@@ -167,8 +167,11 @@ def delivered(client: httpx.Client) -> dict[tuple[str, str, str], dict[str, Any]
         deliveries: list[dict[str, Any]] = client.get("/v1/webhooks/deliveries").json()[
             "deliveries"
         ]
-        if deliveries and all(one["state"] != "pending" for one in deliveries):
-            return {(one["webhook"], one["type"], one["key"]): one for one in deliveries}
+        if deliveries and all(delivery["state"] != "pending" for delivery in deliveries):
+            return {
+                (delivery["webhook"], delivery["type"], delivery["key"]): delivery
+                for delivery in deliveries
+            }
         assert time.monotonic() < deadline, deliveries
         time.sleep(0.1)
 
@@ -205,7 +208,10 @@ def test_it_survives_a_kill(tmp_path: pathlib.Path, store: str | None) -> None:
                 other.mkdir()
                 others.enter_context(served(other, DEFINITIONS, *options, store=store))
             deliveries = delivered(client)
-            assert {one["state"] for one in deliveries.values()} == {"delivered", "failed"}
+            assert {delivery["state"] for delivery in deliveries.values()} == {
+                "delivered",
+                "failed",
+            }
             ids = [headers["webhook-id"] for headers, _ in receiver.got]
             assert ids.count(deliveries["one", "saga.attention", "given-up"]["id"]) == 1
             assert all(
@@ -299,10 +305,10 @@ def test_an_invalid_file(tmp_path: pathlib.Path, text: str, says: str) -> None:
 
 def test_a_host_beyond_ascii(tmp_path: pathlib.Path) -> None:
     """Its name is sent in its ASCII form."""
-    (one,) = webhooks.read_file(
+    (hook,) = webhooks.read_file(
         pathlib.Path(written(tmp_path, table("https://zürich.example:8443/a%20b?c=%C3%BC")))
     )
-    assert one.url == "https://zürich.example:8443/a%20b?c=%C3%BC"
+    assert hook.url == "https://zürich.example:8443/a%20b?c=%C3%BC"
 
 
 def test_whatever_a_post_raises(location: str) -> None:
@@ -314,8 +320,8 @@ def test_whatever_a_post_raises(location: str) -> None:
     def are_there() -> list[tuple[bool, str | None]]:
         with Snapshot(location) as store:
             return [
-                (one.attempts > 1, one.error)
-                for one in store.ask(deliveries.listed(None, None, 10))
+                (row.attempts > 1, row.error)
+                for row in store.ask(delivery_questions.listed(None, None, 10))
             ]
 
     async def main() -> None:

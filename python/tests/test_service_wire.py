@@ -22,20 +22,20 @@ from sagas.server import log_format, middleware
 
 @pytest.fixture(scope="module")
 def service(tmp_path_factory: pytest.TempPathFactory) -> Iterator[Served]:
-    with served(tmp_path_factory.mktemp("wire"), DEFINITIONS, "--log", "text") as one:
-        yield one
+    with served(tmp_path_factory.mktemp("wire"), DEFINITIONS, "--log", "text") as service:
+        yield service
 
 
 def status_of(service: Served, head: str, body: bytes = b"") -> int:
     """Return the service's status for these bytes."""
     name, _, port = service.address.rpartition(":")
-    with socket.create_connection((name, int(port)), timeout=LONG) as one:
-        one.sendall(
+    with socket.create_connection((name, int(port)), timeout=LONG) as connection:
+        connection.sendall(
             head.replace("\n", "\r\n").replace("@", service.address).encode("latin-1")
             + b"\r\n\r\n"
             + body
         )
-        return int(one.recv(65536).split(b" ")[1])
+        return int(connection.recv(65536).split(b" ")[1])
 
 
 HEADS = [
@@ -188,7 +188,7 @@ def test_the_client_of_a_request(peer: str, forwarded_for: list[str], client: st
     """The last address that is not a trusted proxy's; the header of any other address is
     ignored.
     """
-    headers = [(b"x-forwarded-for", one.encode()) for one in forwarded_for] + [
+    headers = [(b"x-forwarded-for", address.encode()) for address in forwarded_for] + [
         (b"x-forwarded-proto", b"https")
     ]
     scope: dict[str, Any] = {"client": (peer, 5), "headers": headers, "scheme": "http"}
@@ -219,12 +219,19 @@ def test_trusted_proxies(tmp_path: pathlib.Path) -> None:
             while '"/ui/login"' not in service.log_text():
                 assert time.monotonic() < deadline
             (line,) = [
-                json.loads(one) for one in service.log_text().splitlines() if '"/ui/login"' in one
+                json.loads(line)
+                for line in service.log_text().splitlines()
+                if '"/ui/login"' in line
             ]
             assert line["from"] == ("192.0.2.7" if believed else "127.0.0.1")
-    one = Served(tmp_path, DEFINITIONS, "--trusted-proxies", "here")
+    refused = Served(tmp_path, DEFINITIONS, "--trusted-proxies", "here")
     done = subprocess.run(
-        one.command(), env=environment(), capture_output=True, text=True, timeout=LONG, cwd=tmp_path
+        refused.command(),
+        env=environment(),
+        capture_output=True,
+        text=True,
+        timeout=LONG,
+        cwd=tmp_path,
     )
     assert (
         done.returncode == 2

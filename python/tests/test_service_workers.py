@@ -7,6 +7,7 @@ from __future__ import annotations
 
 import asyncio
 import contextlib
+import os
 import pathlib
 import shutil
 import signal
@@ -59,7 +60,7 @@ undo = "never"
 skip = 10
 tries = 9
 """
-ONE = 'format = 2\nname = "one"\n[[step]]\nname = "a"\nundo = "never"\n'
+ONE_STEP = 'format = 2\nname = "one"\n[[step]]\nname = "a"\nundo = "never"\n'
 SERVICE = "[step.flaky]\nbackoff = { initial = 0.01 }\n[step.hazy]\nbackoff = { initial = 0.01 }\n"
 
 
@@ -103,7 +104,7 @@ def test_a_worker(tmp_path: pathlib.Path, caplog: pytest.LogCaptureFixture) -> N
     """
     calls: list[tuple[str, bool, str]] = []
     with served(
-        tmp_path, {"steps.toml": STEPS, "steps.service.toml": SERVICE}
+        tmp_path, {"steps.toml": STEPS, "steps.service.toml": SERVICE}, "--log-level", "debug"
     ) as service, service.client() as client:
         worker = sagas.Worker(service.url, lease=3.0, wait=1.0, concurrency=2)
 
@@ -111,7 +112,7 @@ def test_a_worker(tmp_path: pathlib.Path, caplog: pytest.LogCaptureFixture) -> N
         def flaky(task: sagas.Task[int]) -> int:
             calls.append((task.step, task.is_compensation, task.idempotency_key))
             if task.attempt < 3:
-                raise ValueError("not yet")
+                raise sagas.Retry("not yet")
             return task.input + 1
 
         @worker.step("steps", "hazy")
@@ -206,6 +207,100 @@ def flight(task):
 worker.run()
 print("over", flush=True)
 """
+
+
+TERMINATED = """import logging, os, sagas, sys
+logging.basicConfig(stream=sys.stderr, format="%(message)s")
+worker = sagas.Worker(sys.argv[1], lease=600, concurrency=1, shutdown_timeout=float(sys.argv[2]))
+
+@worker.step("one", "a")
+def a(task):
+    print("at work", task.key, os.getpid(), flush=True)
+    sys.stdin.readline()
+    return "done"
+
+worker.run()
+print("over", flush=True)
+"""
+HELD_ON = "its function is still running, so its task is released"
+
+
+@pytest.mark.parametrize(
+    ("seconds", "signals", "ends", "first"),
+    [
+        pytest.param(60, 1, True, False, id="its function ends"),
+        pytest.param(60, 1, True, True, id="it is process 1"),
+        pytest.param(60, 2, False, False, id="a second SIGTERM"),
+        pytest.param(0.5, 1, False, False, id="its function outlives the time"),
+        pytest.param(0.5, 1, False, True, id="process 1, and its function outlives the time"),
+    ],
+)
+def test_a_worker_that_is_terminated(
+    tmp_path: pathlib.Path, seconds: float, signals: int, ends: bool, first: bool
+) -> None:
+    """On SIGTERM it reports what ends in time, and releases the rest, long before leases expire."""
+    (tmp_path / "worker.py").write_text(TERMINATED)
+    command = [sys.executable, str(tmp_path / "worker.py")]
+    if first:
+        command = ["unshare", "--pid", "--fork", "--kill-child", *command]
+        if subprocess.run(["unshare", "--pid", "--fork", "true"]).returncode:
+            pytest.skip("a process may make no namespace here")
+    with served(tmp_path, {"one.toml": ONE_STEP}) as service, service.client() as client:
+        start(client, "one", "x")
+        with subprocess.Popen(
+            [*command, service.url, str(seconds)],
+            env=environment(),
+            stdin=subprocess.PIPE,
+            stdout=subprocess.PIPE,
+            stderr=subprocess.PIPE,
+            text=True,
+        ) as worker:
+            assert worker.stdin and worker.stdout and worker.stderr
+            called = worker.stdout.readline().split()
+            assert called[:3] == ["at", "work", "x"] and (called[3] == "1") is first
+            start(client, "one", "y")
+            pid = worker.pid if not first else child_of(worker.pid)
+            os.kill(pid, signal.SIGTERM)
+            (other,) = take(client, "one/a")  # the worker does not claim it any more
+            assert other["key"] == "y"
+            if ends:
+                worker.stdin.write("\n")
+                worker.stdin.flush()
+            for _ in range(signals - 1):
+                os.kill(pid, signal.SIGTERM)
+            assert worker.wait(LONG) == 0
+            errors = worker.stderr.read()
+            assert worker.stdout.read() == "over\n" and (errors.count(HELD_ON) == 1) is not ends
+        if not ends:
+            (again,) = take(client, "one/a")
+            assert again["key"] == "x" and again["idempotency_key"].endswith("-a-run")
+            assert report(client, again, result="done").status_code == 200
+        assert client.get("/v1/sagas/x/wait").json()["results"] == {"a": "done"}
+
+
+def child_of(pid: int) -> int:
+    """Return the process that another one has started."""
+    return int(pathlib.Path(f"/proc/{pid}/task/{pid}/children").read_text().split()[0])
+
+
+def test_a_handler_of_the_program_remains(tmp_path: pathlib.Path) -> None:
+    """A worker does not replace it, and one that calls `stop` ends the worker."""
+    with served(tmp_path, {"one.toml": ONE_STEP}) as service:
+        worker, came = sagas.Worker(service.url, wait=1.0), threading.Event()
+        worker.step("one", "a")(lambda task: came.set())
+        mine = signal.signal(signal.SIGTERM, lambda *_: worker.stop())
+        try:
+            with service.client() as client:
+                start(client, "one", "x")
+                ending = threading.Thread(
+                    target=lambda: came.wait(LONG) and os.kill(os.getpid(), signal.SIGTERM)
+                )
+                ending.start()
+                worker.run()
+                ending.join(LONG)
+                assert came.is_set() and signal.getsignal(signal.SIGTERM) is not signal.SIG_DFL
+        finally:
+            signal.signal(signal.SIGTERM, mine)
 
 
 def test_a_worker_that_may_not(tmp_path: pathlib.Path) -> None:
@@ -308,19 +403,19 @@ ODD = SystemExit, KeyboardInterrupt, GeneratorExit, asyncio.CancelledError
 
 @pytest.mark.parametrize("is_async", [False, True])
 def test_a_function_raises_a_base_exception(
-    ones: tuple[Served, httpx.Client], is_async: bool
+    batches: tuple[Served, httpx.Client], is_async: bool
 ) -> None:
     """The outcome is unknown, as in a store: the same thread calls it again, with the same
     idempotency key.
     """
-    service, client = ones
+    service, client = batches
     calls: list[tuple[str, str]] = []
     worker = sagas.Worker(service.url, wait=1.0, concurrency=1)
 
     def odd(task: sagas.Task[int]) -> None:
         calls.append((task.key, task.idempotency_key))
         if len([key for key, _ in calls if key == task.key]) == 1:
-            raise ODD[task.input]("in the middle")
+            raise ODD[task.input]("during the call")
 
     async def odd_in_loop(task: sagas.Task[int]) -> None:
         odd(task)
@@ -339,12 +434,12 @@ def test_a_function_raises_a_base_exception(
 
 
 def test_no_thread_of_a_worker_ends_silently(
-    ones: tuple[Served, httpx.Client], caplog: pytest.LogCaptureFixture
+    batches: tuple[Served, httpx.Client], caplog: pytest.LogCaptureFixture
 ) -> None:
     """The worker ends with it, and its log has the reason: a claiming thread, or one that keeps
     leases; `run` raises the exception.
     """
-    service, client = ones
+    service, client = batches
     claims = sagas.Worker(service.url, wait=1.0, lease=1.0)
 
     @claims.step("one", "a")
@@ -369,7 +464,7 @@ def test_no_thread_of_a_worker_ends_silently(
         thread.join(20.0)
         worker.stop()
         assert not thread.is_alive() and "a thread of this worker failed" in caplog.text
-        assert [type(one) for one in heard] == [fault]
+        assert [type(event) for event in heard] == [fault]
     all_done(client, "one/a")
 
 
@@ -378,14 +473,14 @@ class Asking(sagas.Worker):
 
     def __init__(self, url: str, **more: Any) -> None:
         super().__init__(url, wait=0.2, **more)
-        self.given: list[int] = []
+        self.claim_sizes: list[int] = []
         right = self._service.ask_until_answered
 
         def ask_until_answered(*arguments: Any, **more: Any) -> dict[str, Any] | None:
             reply = right(*arguments, **more)
             claimed = (reply.get("next") or reply) if reply else {}
             if claimed.get("tasks"):
-                self.given.append(len(claimed["tasks"]))
+                self.claim_sizes.append(len(claimed["tasks"]))
             return reply
 
         self._service.ask_until_answered = ask_until_answered  # type: ignore[method-assign]
@@ -406,7 +501,7 @@ class Calls:
             with self._came:
                 self.all.append((name, task.key))
                 self._came.notify_all()
-            if holds and sum(holds.given) - self.count(name) > 1 and not self.held.is_set():
+            if holds and sum(holds.claim_sizes) - self.count(name) > 1 and not self.held.is_set():
                 self.held.set()
                 self.hold.wait(LONG)
             elif seconds:
@@ -415,7 +510,7 @@ class Calls:
         return function
 
     def count(self, name: str) -> int:
-        return len([one for one, _ in self.all if one == name])
+        return len([event_name for event_name, _ in self.all if event_name == name])
 
     def until(self, count: int, seconds: float = LONG) -> None:
         with self._came:
@@ -423,10 +518,10 @@ class Calls:
 
 
 @pytest.fixture(scope="module")
-def ones(tmp_path_factory: pytest.TempPathFactory) -> Iterator[tuple[Served, httpx.Client]]:
+def batches(tmp_path_factory: pytest.TempPathFactory) -> Iterator[tuple[Served, httpx.Client]]:
     """Return a service for sagas of one step."""
     with served(
-        tmp_path_factory.mktemp("ones"), {"one.toml": ONE}
+        tmp_path_factory.mktemp("ones"), {"one.toml": ONE_STEP}, "--log-level", "debug"
     ) as service, service.client() as client:
         yield service, client
 
@@ -438,14 +533,14 @@ def left_open(client: httpx.Client) -> list[str]:
     return [saga["key"] for saga in client.get("/v1/sagas?phase=open").json()["sagas"]]
 
 
-def test_reports_together(ones: tuple[Served, httpx.Client]) -> None:
+def test_reports_together(batches: tuple[Served, httpx.Client]) -> None:
     """Each counts as if it was sent alone, and has its own problem; a malformed one is refused
     before anything is stored.
     """
-    _, client = ones
+    _, client = batches
     for number in range(6):
         start(client, "one", f"together-{number}")
-    tasks = take(client, "one/a", most=6)
+    tasks = take(client, "one/a", limit=6)
     outcomes: list[dict[str, Any]] = [
         {"outcome": "complete", "result": {"n": 1}},
         {"outcome": "complete"},
@@ -455,8 +550,8 @@ def test_reports_together(ones: tuple[Served, httpx.Client]) -> None:
         {"outcome": "complete"},
     ]
     reports = [
-        {"attempt_id": one["attempt_id"], "lease": one["lease"], **outcome}
-        for one, outcome in zip(tasks, outcomes)
+        {"attempt_id": task["attempt_id"], "lease": task["lease"], **outcome}
+        for task, outcome in zip(tasks, outcomes)
     ]
     reports[4] |= {"lease": tasks[5]["lease"]}
     reports[5] |= {"attempt_id": "0-1-a-run-1"}
@@ -474,27 +569,29 @@ def test_reports_together(ones: tuple[Served, httpx.Client]) -> None:
         assert wrong.status_code == 422
     assert sent(reports[0], {**reports[2], "error": None}).json()["field"] == "reports.1.error"
     reply = sent(*reports, next={"steps": ["one/a"]}).json()
-    assert [one["attempt_id"] for one in reply["reports"]] == [one["attempt_id"] for one in reports]
-    assert [one["kept"] for one in reply["reports"]] == [True] * 4 + [False] * 2 and reply["next"][
-        "unknown_steps"
-    ] == []
-    assert [one["problem"]["type"].rpartition(":")[2] for one in reply["reports"][4:]] == [
+    assert [report["attempt_id"] for report in reply["reports"]] == [
+        report["attempt_id"] for report in reports
+    ]
+    assert [report["kept"] for report in reply["reports"]] == [True] * 4 + [False] * 2 and reply[
+        "next"
+    ]["unknown_steps"] == []
+    assert [report["problem"]["type"].rpartition(":")[2] for report in reply["reports"][4:]] == [
         "InvalidLease"
     ] * 2
     again = sent(*reports[:3], {**reports[2], "outcome": "complete"}).json()
-    assert [(one["kept"], one["repeated"]) for one in again["reports"]] == [(True, True)] * 3 + [
-        (False, False)
-    ]
+    assert [(report["kept"], report["repeated"]) for report in again["reports"]] == [
+        (True, True)
+    ] * 3 + [(False, False)]
     assert again["next"] is None and again["reports"][3]["problem"]["status"] == 409
-    for one, word in zip(tasks, ("completed", "completed", "recovered")):
-        assert client.get(f"/v1/sagas/{one['key']}/wait").json()["phase"] == word
-    for one in (tasks[4], tasks[5], *take(client, "one/a")):
-        assert report(client, one).status_code == 200
+    for task, word in zip(tasks, ("completed", "completed", "recovered")):
+        assert client.get(f"/v1/sagas/{task['key']}/wait").json()["phase"] == word
+    for task in (tasks[4], tasks[5], *take(client, "one/a")):
+        assert report(client, task).status_code == 200
 
 
-def test_a_worker_takes_short_ones_ahead(ones: tuple[Served, httpx.Client]) -> None:
+def test_a_worker_takes_short_ones_ahead(batches: tuple[Served, httpx.Client]) -> None:
     """It claims as many in one request as it does in a short time, and long ones one at a time."""
-    service, client = ones
+    service, client = batches
     for seconds, count in ((0.0, 40), (0.15, 4)):
         calls = Calls()
         worker = Asking(service.url, concurrency=2)
@@ -505,19 +602,21 @@ def test_a_worker_takes_short_ones_ahead(ones: tuple[Served, httpx.Client]) -> N
             calls.until(count)
         assert len(set(calls.all)) == count
         if seconds:
-            assert worker.given == [1] * count
+            assert worker.claim_sizes == [1] * count
         else:
             assert (
-                worker.given[0] == 1 and 2 < max(worker.given) <= 10 and len(worker.given) < count
-            ), worker.given
+                worker.claim_sizes[0] == 1
+                and 2 < max(worker.claim_sizes) <= 10
+                and len(worker.claim_sizes) < count
+            ), worker.claim_sizes
     assert not left_open(client)
 
 
-def test_tasks_that_a_worker_claimed_ahead(ones: tuple[Served, httpx.Client]) -> None:
+def test_tasks_that_a_worker_claimed_ahead(batches: tuple[Served, httpx.Client]) -> None:
     """If a function is slow, or the worker is stopped, other workers soon get the tasks in its
     queue, long before its lease is over; each is done once.
     """
-    service, client = ones
+    service, client = batches
     reclaimed = [
         line
         for line in client.get("/metrics").text.splitlines()
@@ -542,7 +641,7 @@ def test_tasks_that_a_worker_claimed_ahead(ones: tuple[Served, httpx.Client]) ->
             finally:
                 calls.hold.set()
         assert calls.count("slow") == count and len(set(calls.all)) == 20
-        assert service.log_text().count("/heartbeat 200") - before >= sum(slow.given) - count
+        assert service.log_text().count("/heartbeat 200") - before >= sum(slow.claim_sizes) - count
         assert not left_open(client) and reclaimed[0] in client.get("/metrics").text.splitlines()
 
 
@@ -594,7 +693,7 @@ class Workers:
 
 @contextlib.contextmanager
 def hotel(answer: bytes) -> Iterator[str]:
-    """Run a hotel that gives this response to each request, and then ends the connection; return
+    """Run a hotel that sends this response to each request, and then ends the connection; return
     its address.
     """
     with socket.create_server((host(), 0)) as listening:
@@ -606,14 +705,14 @@ def hotel(answer: bytes) -> Iterator[str]:
 def accept(listening: socket.socket, answer: bytes) -> None:
     while True:
         try:
-            one, _ = listening.accept()
+            connection, _ = listening.accept()
         except OSError:
             return
-        with one, contextlib.suppress(OSError):
-            one.recv(65536)
-            one.sendall(answer)
-            one.shutdown(socket.SHUT_WR)
-            while one.recv(65536):  # the data still to come: else the response would be lost
+        with connection, contextlib.suppress(OSError):
+            connection.recv(65536)
+            connection.sendall(answer)
+            connection.shutdown(socket.SHUT_WR)
+            while connection.recv(65536):  # the data still to come: else the response would be lost
                 pass
 
 
@@ -651,23 +750,25 @@ def test_the_worker_in_node_does_not_know(
                     log = client.get("/v1/sagas/t/log").json()["events"]
                     waits = client.get("/v1/sagas/t").json()["waits"]
                     entries = [
-                        one["said"]
-                        for one in waits
-                        if (one["step"], one["why"]) == ("hotel", "unknown") and one["said"]
+                        wait["detail"]
+                        for wait in waits
+                        if (wait["step"], wait["why"]) == ("hotel", "unknown") and wait["detail"]
                     ]
                     entries += [
-                        one["value"]["error"]
-                        for one in log
-                        if (one["event"], one["step"]) == ("missed", "hotel")
+                        event["value"]["error"]
+                        for event in log
+                        if (event["event"], event["step"]) == ("missed", "hotel")
                     ]
             finally:
                 worker.kill()
     assert (says or "the hotel answers 409") in entries[0]
-    missed = [one for one in log if one["event"] in ("missed", "fail") and one["step"] == "hotel"]
+    missed = [
+        event for event in log if event["event"] in ("missed", "fail") and event["step"] == "hotel"
+    ]
     assert bool(missed) is (says is None)
 
 
-def test_the_examples_go_on(tmp_path: pathlib.Path) -> None:
+def test_the_examples_continue(tmp_path: pathlib.Path) -> None:
     """Service and workers are killed; each saga ends, with the results of all three workers."""
     files = {path.name: path.read_text() for path in (EXAMPLES / "definitions").glob("*.toml")}
     with served(tmp_path, files) as service, service.client() as client:

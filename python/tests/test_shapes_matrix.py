@@ -51,7 +51,7 @@ class Case(NamedTuple):
     """An input, and its result: the number of steps, and the result of a step if all succeeds."""
 
     saga: sagas.Saga
-    given: Any
+    value: Any
     steps: int
     of: Any = None
     result: Any = None
@@ -59,9 +59,9 @@ class Case(NamedTuple):
 
 def items(count: int, twice: bool = False, **more: Any) -> Case:
     """Return a list of `count` items, each once or twice."""
-    given = {"items": [number % 12 for number in range(count)], "twice": twice}
+    value = {"items": [number % 12 for number in range(count)], "twice": twice}
     result = [[number, number % 12] for number in range(count)]
-    return Case(many, given | more, count * (2 if twice else 1) + 1, last, result)
+    return Case(many, value | more, count * (2 if twice else 1) + 1, last, result)
 
 
 def keyed(**more: Any) -> Case:
@@ -74,22 +74,22 @@ def keyed(**more: Any) -> Case:
 def travel(rooms: int, cars: list[str], breakfast: bool) -> Case:
     """Return inclusions two deep, and one for each item."""
     names = [f"r{number}" for number in range(rooms)]
-    given = Trip(Package(Hotel("Rome", names, breakfast), cars))
+    value = Trip(Package(Hotel("Rome", names, breakfast), cars))
     booked = [f"booked in Rome: {name}" for name in names]
     result = ["LH1", ["booked in Rome", booked, "by LH1"], booked, cars]
     steps = 4 + rooms + len(cars) + breakfast
-    return Case(trip, given, steps, shaped.tour, result)
+    return Case(trip, value, steps, shaped.tour, result)
 
 
 def sent(count: int, gift: bool = False) -> Case:
     """Return orders of parcels."""
-    given = Order(parcels(count).parcels, gift)
-    return Case(order, given, 2 + 2 * count + gift, ship, [f"{n}:t{n}" for n in range(count)])
+    value = Order(parcels(count).parcels, gift)
+    return Case(order, value, 2 + 2 * count + gift, ship, [f"{n}:t{n}" for n in range(count)])
 
 
-def bad(case: Case, given: Any) -> Case:
+def bad(case: Case, value: Any) -> Case:
     """Return the case with an item that fails, so that a plan is made."""
-    return Case(case.saga, given, case.steps)
+    return Case(case.saga, value, case.steps)
 
 
 THIRTEEN = [5, 13, 0, 2]
@@ -124,11 +124,12 @@ def is_closed(kept: set[str], needs: dict[str, list[str]]) -> bool:
 
 
 def least_of_all(plan: Plan) -> int:
-    """Return the least cost of all plans, each of which is tried."""
+    """Return the least cost of all plans, and each is tried."""
     needs = {
-        one["name"]: one.get("needs", []) for one in definition_text.shaped_steps(plan.definition)
+        shaped_step["name"]: shaped_step.get("needs", [])
+        for shaped_step in definition_text.shaped_steps(plan.definition)
     }
-    costs = {one.step: (one.cost_to_keep, one.cost_to_drop) for one in plan.choices}
+    costs = {choice.step: (choice.cost_to_keep, choice.cost_to_drop) for choice in plan.choices}
     sums = []
     for word in itertools.product((True, False), repeat=len(costs)):
         kept = {step for step, is_kept in zip(costs, word) if is_kept}
@@ -160,7 +161,7 @@ async def restarted(location: str) -> Any:
     async def begin() -> None:
         async with sagas.open(location, SAGAS, shutdown_timeout=0) as store:
             for name, case in CASES.items():
-                await store.start(case.saga, name, case.given)
+                await store.start(case.saga, name, case.value)
 
     await begin()
     async with sagas.open(location, SAGAS) as store:
@@ -173,7 +174,7 @@ async def by_a_client(location: str) -> Any:
     """Return a client that starts them, and a node."""
     async with sagas.open(location, SAGAS) as _, sagas.Client(location) as client:
         for name, case in CASES.items():
-            await client.start(case.saga, name, case.given)
+            await client.start(case.saga, name, case.value)
         yield client
 
 
@@ -184,7 +185,7 @@ async def taken_over(location: str) -> Any:
     async with sagas.open(location, SAGAS, node="b", lease=1) as second:
         async with first:
             for name, case in CASES.items():
-                await first.start(case.saga, name, case.given)
+                await first.start(case.saga, name, case.value)
         yield second
 
 

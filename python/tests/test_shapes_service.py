@@ -8,7 +8,7 @@ from typing import Any
 
 import pytest
 from serving import error_of, report, served, start, take, token
-from test_service_workers import ONE, working
+from test_service_workers import ONE_STEP, working
 
 import sagas
 
@@ -33,7 +33,7 @@ def test_tasks_of_items(tmp_path: pathlib.Path) -> None:
     """
     module(tmp_path)
     with served(
-        tmp_path, {"one.toml": ONE}, "--app", "shop:store"
+        tmp_path, {"one.toml": ONE_STEP}, "--app", "shop:store"
     ) as service, service.client() as client:
         start(client, "order", "list", {"parcels": ["book", "lamp"]})
         claimed = {
@@ -80,7 +80,7 @@ def test_tasks_of_included_sagas(tmp_path: pathlib.Path) -> None:
     """They are claimed by the path of their names, and see the results of their own saga."""
     module(tmp_path)
     with served(
-        tmp_path, {"one.toml": ONE}, "--app", "shop:store"
+        tmp_path, {"one.toml": ONE_STEP}, "--app", "shop:store"
     ) as service, service.client() as client:
         start(client, "fair", "f", {"stalls": [{"parcels": ["book"]}]})
         answer = client.post(
@@ -109,7 +109,7 @@ def test_a_worker_s_function_reads_its_item(tmp_path: pathlib.Path) -> None:
     module(tmp_path)
     calls: list[Any] = []
     with served(
-        tmp_path, {"one.toml": ONE}, "--app", "shop:store"
+        tmp_path, {"one.toml": ONE_STEP}, "--app", "shop:store"
     ) as service, service.client() as client:
         worker = sagas.Worker(service.url, wait=1.0)
 
@@ -120,7 +120,7 @@ def test_a_worker_s_function_reads_its_item(tmp_path: pathlib.Path) -> None:
 
         @worker.step("order", "mail")
         def mail(task: sagas.Task[Any]) -> Any:
-            with pytest.raises(RuntimeError, match="no item"):
+            with pytest.raises(sagas.ProgramError, match="no item"):
                 task.item
             return task.result_of("ship")
 
@@ -193,7 +193,7 @@ def test_given_arguments_at_a_worker(tmp_path: pathlib.Path) -> None:
     """
     (tmp_path / "shop.py").write_text(GIVING)
     with served(
-        tmp_path, {"one.toml": ONE}, "--app", "shop:store"
+        tmp_path, {"one.toml": ONE_STEP}, "--app", "shop:store"
     ) as service, service.client() as client:
         start(client, "order", "plain", {"parcels": ["p"]})
         (task,) = take(client, "order/ship")
@@ -221,9 +221,9 @@ def test_given_arguments_at_a_worker(tmp_path: pathlib.Path) -> None:
             assert end["phase"] == "recovered" and "given= raised" in end["errors"]["box-ship-0"]
             assert message in end["errors"]["box-ship-0"]
         attempts = [
-            one
-            for one in client.get("/v1/sagas/bad/timeline").json()["attempts"]
-            if one["step"] == "box-ship-0"
+            attempt
+            for attempt in client.get("/v1/sagas/bad/timeline").json()["attempts"]
+            if attempt["step"] == "box-ship-0"
         ]
         assert len(attempts) == 2
         start(client, "outer", "deep", {"trips": [{"flight": "X", "parcels": {"k": 1}}]})
@@ -249,8 +249,8 @@ def review(task): ...
 order = sagas.Saga("order")
 @order.approval(for_each="parcels")
 def check(task): ...
-order.step(external=True, name="ship", for_each="parcels")
-@order.approval(needs=["ship"], for_each="parcels")
+ship = order.step(external=True, name="ship", for_each="parcels")
+@order.approval(needs=[ship], for_each="parcels")
 def sign(task): ...
 @order.approval(for_each="legs", name="hotel-pay")
 def leg(task): ...
@@ -266,7 +266,7 @@ def test_approvals_of_items_and_of_included_sagas(tmp_path: pathlib.Path) -> Non
     (tmp_path / "shop.py").write_text(ASKING)
     approver, operator = (token(tmp_path, role, role) for role in ("approver", "operator"))
     options = ("--token-file", str(tmp_path / "tokens.toml"))
-    with served(tmp_path, {"one.toml": ONE}, "--app", "shop:store", *options) as service:
+    with served(tmp_path, {"one.toml": ONE_STEP}, "--app", "shop:store", *options) as service:
         with service.client(approver) as client, service.client(operator) as boss:
             start(boss, "order", "k", {"parcels": [1, 2], "legs": []})
             for step, status in (
@@ -296,10 +296,12 @@ def test_an_approval_of_a_definition_that_is_elsewhere(tmp_path: pathlib.Path, u
     approver, operator = (token(tmp_path, role, role) for role in ("approver", "operator"))
     options = ("--token-file", str(tmp_path / "tokens.toml"))
     (tmp_path / "other").mkdir()
-    with served(tmp_path, {"one.toml": ONE}, "--app", "shop:store", *options, store=url) as one:
-        with one.client(operator) as boss:
+    with served(
+        tmp_path, {"one.toml": ONE_STEP}, "--app", "shop:store", *options, store=url
+    ) as service:
+        with service.client(operator) as boss:
             start(boss, "order", "k", {"parcels": [1], "legs": []})
-    with served(tmp_path / "other", {"one.toml": ONE}, *options, store=url) as other:
+    with served(tmp_path / "other", {"one.toml": ONE_STEP}, *options, store=url) as other:
         with other.client(approver) as client:
             answer = client.post("/v1/sagas/k/steps/check-0/complete", json={"result": 1})
             assert (answer.status_code, error_of(answer)) == (403, "Forbidden")
@@ -335,15 +337,15 @@ def test_a_worker_asks_for_results_as_in_a_store(tmp_path: pathlib.Path, parcels
     room, ship, hotel, sure = (names[name] for name in ("room", "ship", "hotel", "near"))
     wrong: list[str] = []
 
-    def result_or_error(task: sagas.Task[Any], step: Any) -> Any:
+    def result_or_error(task: sagas.Task[Any], step: Any, **default: Any) -> Any:
         try:
-            return task.result_of(step)
-        except (KeyError, sagas.StepFailed, sagas.ResultNotSerializable) as error:
+            return task.result_of(step, **default)
+        except (sagas.ProgramError, sagas.StepFailed, sagas.ResultNotSerializable) as error:
             wrong.append(str(error))
             return type(error).__name__
 
     with served(
-        tmp_path, {"one.toml": ONE}, "--app", "shop:store"
+        tmp_path, {"one.toml": ONE_STEP}, "--app", "shop:store"
     ) as service, service.client() as client:
         worker = sagas.Worker(service.url, wait=1.0)
 
@@ -360,8 +362,8 @@ def test_a_worker_asks_for_results_as_in_a_store(tmp_path: pathlib.Path, parcels
         @worker.step("trip", "tag")
         def _tag(task: sagas.Task[Any]) -> Any:
             return [
-                repr(result_or_error(task, one))
-                for one in (ship.each, ship, "ship", sagas.collect(ship))
+                repr(result_or_error(task, selector))
+                for selector in (ship.each, ship, "ship", sagas.collect(ship))
             ]
 
         @worker.step("trip", "room")
@@ -387,7 +389,8 @@ def test_a_worker_asks_for_results_as_in_a_store(tmp_path: pathlib.Path, parcels
                 room,
                 sagas.collect(ship),
             ]
-            return [repr(result_or_error(task, one)) for one in steps]
+            results = [repr(result_or_error(task, step)) for step in steps]
+            return [*results, result_or_error(task, ship.each, default="hidden")]
 
         with working(worker):
             start(client, "trip", "k", {"parcels": parcels, "stays": ["x", "y"]})
@@ -409,15 +412,16 @@ def test_a_worker_asks_for_results_as_in_a_store(tmp_path: pathlib.Path, parcels
         repr(near),
         repr(near),
         "'x'",
-        "'KeyError'",
-        "'KeyError'",
+        "'ProgramError'",
+        "'ProgramError'",
         collected,
+        "ProgramError",
     ]
     assert [results[f"hotel-{number}-key"] for number in (0, 1)] == [
-        ["x", "KeyError"],
-        ["y", "KeyError"],
+        ["x", "ProgramError"],
+        ["y", "ProgramError"],
     ]
-    assert any("is a step of saga" in one and "booking" in one for one in wrong)
+    assert any("is a step of saga" in text and "booking" in text for text in wrong)
 
 
 UNDOING = """
@@ -438,7 +442,7 @@ def test_a_worker_asks_for_the_result_that_it_undoes(tmp_path: pathlib.Path) -> 
     exec(UNDOING, names := dict[str, Any]())
     seen: list[Any] = []
     with served(
-        tmp_path, {"one.toml": ONE}, "--app", "shop:store"
+        tmp_path, {"one.toml": ONE_STEP}, "--app", "shop:store"
     ) as service, service.client() as client:
         worker = sagas.Worker(service.url, wait=1.0)
         worker.step("fair", "stall/ship")(lambda task: task.item * 2)

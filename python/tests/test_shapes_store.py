@@ -20,7 +20,7 @@ from shaped import Hotel, Order, Package, Parcel, Trip, booking, order, parcels,
 
 import sagas
 from sagas.cli import store_command
-from sagas.core.shard import ShardDefinitions
+from sagas.core.shard.driver import ShardDefinitions
 from sagas.definition.capacity import MAX_ADDED
 from sagas.runtime import shard_runner
 from sagas.storage import admin
@@ -34,9 +34,9 @@ def rows(location: str, query: str) -> list[Any]:
         return [tuple(row) for row in link.ask(query)]
 
 
-async def ended(store: sagas.Store, saga: sagas.Saga, key: str, given: Any) -> sagas.SagaResult:
+async def ended(store: sagas.Store, saga: sagas.Saga, key: str, value: Any) -> sagas.SagaResult:
     """Run a saga to its end."""
-    return await (await store.start(saga, key, given)).wait(120)
+    return await (await store.start(saga, key, value)).wait(120)
 
 
 def is_good(verdicts: dict[str, str]) -> bool:
@@ -47,15 +47,15 @@ def is_good(verdicts: dict[str, str]) -> bool:
 def test_many_shapes_among_fixed_sagas(location: str) -> None:
     """After a restart, each end is the same as before."""
 
-    async def one(store: sagas.Store, number: int) -> sagas.SagaResult:
+    async def start_and_wait(store: sagas.Store, number: int) -> sagas.SagaResult:
         if number % 4 == 3:
             return await ended(store, plain, f"p{number}", None)
-        given = parcels(number, 1 if number % 4 == 1 else None)
-        return await ended(store, order, f"o{number}", given)
+        value = parcels(number, 1 if number % 4 == 1 else None)
+        return await ended(store, order, f"o{number}", value)
 
     async def main() -> None:
         async with sagas.open(location, ALL) as store:
-            ends = await asyncio.gather(*(one(store, number) for number in range(60)))
+            ends = await asyncio.gather(*(start_and_wait(store, number) for number in range(60)))
             for number, end in enumerate(ends):
                 if number % 4 == 3:
                     assert end.results == {"one": 1, "two": 2}
@@ -181,10 +181,10 @@ def test_each_its_own_definition(location: str) -> None:
 
     async def main() -> None:
         async with sagas.open(location, [order]) as store:
-            given = [Order([Parcel("a", number)] * 3, number=number) for number in range(150)]
+            orders = [Order([Parcel("a", number)] * 3, number=number) for number in range(150)]
             ends = await asyncio.gather(
-                *(ended(store, order, f"k{number}", one) for number, one in enumerate(given)),
-                *(ended(store, order, f"t{number}", one) for number, one in enumerate(given)),
+                *(ended(store, order, f"k{number}", value) for number, value in enumerate(orders)),
+                *(ended(store, order, f"t{number}", value) for number, value in enumerate(orders)),
             )
             assert all(end.ok for end in ends) and is_good(await store.audit())
 
@@ -213,8 +213,8 @@ def test_definitions_start_no_further_engine(
 
             async def lane() -> None:
                 for number in numbers:
-                    given = Order([Parcel("a")] * (number % 3), number=number)
-                    assert (await ended(store, order, f"k{number}", given)).ok
+                    value = Order([Parcel("a")] * (number % 3), number=number)
+                    assert (await ended(store, order, f"k{number}", value)).ok
 
             await asyncio.gather(*(lane() for _ in range(6)))
             assert is_good(await store.audit())
@@ -260,21 +260,21 @@ def test_invalid_starts_start_nothing(location: str) -> None:
 
 
 def test_a_limit_holds_over_all_items(location: str) -> None:
-    saga, now, most = sagas.Saga("limited"), 0, 0
+    saga, now, highest = sagas.Saga("limited"), 0, 0
 
     @saga.step(for_each="n", concurrency=3)
     async def work(task: sagas.Task[Any]) -> None:
-        nonlocal now, most
+        nonlocal now, highest
         now += 1
-        most = max(most, now)
+        highest = max(highest, now)
         await asyncio.sleep(0.002)
         now -= 1
 
     async def main() -> None:
         async with sagas.open(location, [saga]) as store:
-            given = {"n": [0] * 7}
-            ends = await asyncio.gather(*(ended(store, saga, f"k{n}", given) for n in range(4)))
-            assert all(end.ok for end in ends) and most == 3
+            value = {"n": [0] * 7}
+            ends = await asyncio.gather(*(ended(store, saga, f"k{n}", value) for n in range(4)))
+            assert all(end.ok for end in ends) and highest == 3
 
     run(main())
 
@@ -338,14 +338,14 @@ def test_engines_are_killed_while_definitions_come(location: str) -> None:
                             runner.engine.process.kill()
                             kills += 1
 
-            async def one(number: int) -> sagas.SagaResult:
+            async def start_and_wait(number: int) -> sagas.SagaResult:
                 await asyncio.sleep(draw.uniform(0, 2))
                 bad = 1 if number % 3 == 1 else None
-                given = parcels(3, bad, lambda item: number * 3 + item)
-                return await surely_ended(store, order, f"o{number}", given)
+                value = parcels(3, bad, lambda item: number * 3 + item)
+                return await surely_ended(store, order, f"o{number}", value)
 
             killer = asyncio.create_task(kill())
-            ends = await asyncio.gather(*(one(number) for number in range(40)))
+            ends = await asyncio.gather(*(start_and_wait(number) for number in range(40)))
             killer.cancel()
             assert kills > 3
             assert all(end.ok == (number % 3 != 1) for number, end in enumerate(ends))
@@ -373,13 +373,13 @@ def test_an_engine_refuses_definitions_while_sagas_of_them_are_opened(
     async def main() -> None:
         async with sagas.open(location, [order, plain]) as store:
 
-            async def one(number: int) -> sagas.SagaResult:
+            async def start_and_wait(number: int) -> sagas.SagaResult:
                 await asyncio.sleep(number // 10 / 10)
                 bad = 1 if number % 3 == 1 else None
-                given = parcels(number % 7 + 2, bad, lambda item: number * 9 + item)
-                return await surely_ended(store, order, f"o{number}", given)
+                value = parcels(number % 7 + 2, bad, lambda item: number * 9 + item)
+                return await surely_ended(store, order, f"o{number}", value)
 
-            ends = await asyncio.gather(*(one(number) for number in range(100)))
+            ends = await asyncio.gather(*(start_and_wait(number) for number in range(100)))
             assert refused
             assert all(end.ok == (number % 3 != 1) for number, end in enumerate(ends))
             assert is_good(await store.audit())
@@ -441,7 +441,7 @@ def other_code(
     "function, message",
     [
         (lambda input: input["gone"], "for_each= raised KeyError"),
-        (lambda input: (int(f"x{one}") for one in input["items"]), "for_each= raised ValueError"),
+        (lambda input: (int(f"x{item}") for item in input["items"]), "for_each= raised ValueError"),
     ],
 )
 def test_a_start_that_raises_in_the_node_is_refused(url: str, function: Any, message: str) -> None:

@@ -12,9 +12,9 @@ from cases import ended, run, until
 from core_world import Engine
 
 import sagas
-from sagas.core.effects import EngineDisagrees
-from sagas.core.shard import ShardDefinitions, ShardDriver, ShardIdentity
-from sagas.core.saga_instance import SagaInstance
+from sagas.core.protocol import EngineDisagrees
+from sagas.core.shard.driver import ShardDefinitions, ShardDriver, ShardIdentity
+from sagas.core.attempt.instance import SagaInstance
 from sagas.core.states import ShardState
 from sagas.definition.compiled import CompiledDefinition
 
@@ -34,8 +34,8 @@ def kind(name: str) -> CompiledDefinition:
 def engine(folder: pathlib.Path, kinds: Sequence[CompiledDefinition]) -> Iterator[Engine]:
     """Run `sagas drive --lines` with these definitions."""
     paths = [folder / f"{number}.toml" for number in range(len(kinds))]
-    for path, one in zip(paths, kinds):
-        path.write_text(one.text)
+    for path, kind in zip(paths, kinds):
+        path.write_text(kind.text)
     started = Engine(paths, None)
     try:
         yield started
@@ -88,8 +88,8 @@ def test_the_first_definition_is_known_before_a_saga_of_it_is_opened(
 
 
 def test_no_saga_is_opened_with_another_definition(tmp_path: pathlib.Path) -> None:
-    """The engine gives a definition another slot: its replies about it do not count, and the shard
-    requests an engine that begins with all definitions.
+    """The engine assigns a definition another slot: its replies about it do not count, and the
+    shard requests an engine that begins with all definitions.
     """
     first, second, third = map(kind, ("first", "second", "third"))
     driver, definitions = driver_of([first])

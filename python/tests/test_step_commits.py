@@ -70,7 +70,7 @@ async def write(task: Task, name: str) -> str:
 
 
 def three(timeout: float | None = None) -> sagas.Saga:
-    """Return three steps inside, in a row, the last of which fails if the input says so; each can
+    """Return three steps inside, in a row, and the last fails if the input says so; each can
     be undone.
     """
     kind, last = sagas.Saga("three"), None
@@ -186,8 +186,8 @@ def test_the_answer_to_the_commit_is_lost(postgresql: Server, url: str) -> None:
         calls.append(task.attempt_id)
         return await write(task, task.step)
 
-    one = kind.step(name="one", transaction=True)(book)
-    two = kind.step(name="two", transaction=True, needs=[one])(book)
+    first_step = kind.step(name="one", transaction=True)(book)
+    two = kind.step(name="two", transaction=True, needs=[first_step])(book)
     kind.step(name="three", transaction=True, needs=[two])(book)
 
     async def main() -> None:
@@ -326,12 +326,12 @@ def test_a_record_needs_no_setting(url: str) -> None:
     prepare(url, "CREATE SCHEMA mine", "CREATE TABLE mine.saw(said text)", look, trigger)
     kind = sagas.Saga("two")
 
-    @kind.step(transaction=True)
-    async def one(task: Task) -> None:
+    @kind.step(name="one", transaction=True)
+    async def first(task: Task) -> None:
         await task.connection.execute("SET search_path = mine, public")
         await write(task, "one")
 
-    @kind.step(transaction=True, needs=[one])
+    @kind.step(transaction=True, needs=[first])
     async def two(task: Task) -> None:
         await write(task, "two")
 
@@ -358,7 +358,7 @@ def test_a_record_needs_no_setting(url: str) -> None:
 @pytest.mark.parametrize("in_thread", [False, True])
 def test_a_step_cannot_spoil_its_connection(url: str, in_thread: bool, setting: str) -> None:
     """The next one has a fresh connection; a step that ends its transaction and continues in
-    another one has an error.
+    another one is parked at once: each call would commit again.
     """
     prepare(url)
     kind, seen = sagas.Saga("one"), list[Any]()
@@ -371,7 +371,7 @@ def test_a_step_cannot_spoil_its_connection(url: str, in_thread: bool, setting: 
 
     if in_thread:
 
-        @kind.step(transaction=True)
+        @kind.step(transaction=True, tries=1)
         def book(task: Task) -> None:
             for text in before(task):
                 task.connection.execute(text)
@@ -379,7 +379,7 @@ def test_a_step_cannot_spoil_its_connection(url: str, in_thread: bool, setting: 
 
     else:
 
-        @kind.step(name="book", transaction=True)
+        @kind.step(name="book", transaction=True, tries=1)
         async def book_in_loop(task: Task) -> None:
             for text in before(task):
                 await task.connection.execute(text)
@@ -387,17 +387,19 @@ def test_a_step_cannot_spoil_its_connection(url: str, in_thread: bool, setting: 
 
     async def main() -> None:
         async with sagas.open(url, [kind]) as store:
-            for given in ("", "sets", ""):
-                assert (await ended(store, kind, f"k{len(seen)}", given)).ok
-            assert "may end it" in (
-                (await ended(store, kind, "chains", "chains")).errors["book"] or ""
-            )
+            for value in ("", "sets", ""):
+                assert (await ended(store, kind, f"k{len(seen)}", value)).ok
+            await store.start(kind, "chains", "chains")
+            await until(store.attention)
+            (held,) = await store.attention()
+            assert held.why == "program_error" and "may end it" in (held.detail or "")
+            await store.fail("chains", "book", "it was undone by hand")
             assert (await ended(store, kind, "behind", "")).ok
 
     run(main())
-    first, sets, second, behind = seen
+    first, sets, second, third = seen
     assert sets == {"process": first[0], "timeout": "777ms"}
-    assert first == second and first[1] == behind[1] == "0" and first[0] != behind[0]
+    assert first == second and first[1] == third[1] == "0" and first[0] != third[0]
 
 
 def test_idle_connections_are_closed() -> None:
@@ -442,7 +444,7 @@ def test_few_statements_are_kept(url: str, monkeypatch: pytest.MonkeyPatch) -> N
     """Commits of many forms continue over one connection, which frees its prepared statements
     before they are too many for the server.
     """
-    monkeypatch.setattr("sagas.storage.postgresql.wire.MOST", 3)
+    monkeypatch.setattr("sagas.storage.postgresql.wire.MAX_PREPARED", 3)
     prepare(url)
     kind = three()
 
@@ -511,15 +513,15 @@ def test_prepared_statements_are_gone(url: str, in_thread: bool, text: str) -> N
 
 def test_prepared_statements_are_reused() -> None:
     """At first it pauses for a second, and for ten minutes at most, if servers do not know it."""
-    one, pauses = Prepares(""), list[float]()
-    assert one.works
+    prepares, pauses = Prepares(""), list[float]()
+    assert prepares.works
     for _ in range(12):
-        one.refused()
-        assert not one.works
-        pauses.append(round(one.until - time.monotonic()))
+        prepares.refused()
+        assert not prepares.works
+        pauses.append(round(prepares.until - time.monotonic()))
     assert pauses == [1, 2, 4, 8, 16, 32, 64, 128, 256, 512, 600, 600]
-    one.until = time.monotonic()
-    assert one.works
+    prepares.until = time.monotonic()
+    assert prepares.works
 
 
 class Undone(Exception):
@@ -579,12 +581,12 @@ def test_a_rollback_with_prepared_statements(url: str, in_thread: bool, way: str
         async with sagas.open(
             url, [kind], on_event=lambda event: event_names.append(event.name)
         ) as store:
-            for number, given in enumerate((None, way, None, way, None)):
-                end = await ended(store, kind, f"k{number}", given)
-                assert end.ok is not (given == "rolls back")
+            for number, value in enumerate((None, way, None, way, None)):
+                end = await ended(store, kind, f"k{number}", value)
+                assert end.ok is not (value == "rolls back")
             for key in ("first", "second"):  # in parallel with another one, each commits by itself
-                given = {0: None, 1: way, 2: None}
-                ends = [ended(store, kind, f"{key} {at}", one) for at, one in given.items()]
+                values = {0: None, 1: way, 2: None}
+                ends = [ended(store, kind, f"{key} {at}", value) for at, value in values.items()]
                 await asyncio.gather(*ends)
             await audited(store)
 
@@ -627,7 +629,7 @@ KILLED = """
 def test_a_kill_at_the_commit(
     url: str, tmp_path: pathlib.Path, method: str, is_there: bool
 ) -> None:
-    """Before it was sent there is no effect; after its report there is all of it, and nothing is
+    """Before it was sent, nothing has an effect; after its report, all of it has, and nothing is
     called again.
     """
     prepare(url)
@@ -654,8 +656,8 @@ def test_a_kill_at_the_commit(
         calls.append(task.step)
         return await write(task, task.step)
 
-    one = kind.step(name="one", transaction=True)(again)
-    kind.step(name="two", transaction=True, needs=[one])(again)
+    first_step = kind.step(name="one", transaction=True)(again)
+    kind.step(name="two", transaction=True, needs=[first_step])(again)
 
     async def main() -> None:
         async with sagas.open(url, [kind], node="killed") as store:
@@ -682,9 +684,9 @@ def gated(gate: asyncio.Event) -> sagas.Saga:
     async def unbook(task: Task) -> None:
         await write(task, f"un{task.step}")
 
-    one = kind.step(name="one", transaction=True)(book)
-    one.compensation(unbook)
-    two = kind.step(name="two", transaction=True, needs=[one])(book)
+    first_step = kind.step(name="one", transaction=True)(book)
+    first_step.compensation(unbook)
+    two = kind.step(name="two", transaction=True, needs=[first_step])(book)
     two.compensation(unbook)
     kind.step(name="three", transaction=True, needs=[two])(book)
     return kind

@@ -23,12 +23,25 @@ from typing import Any
 import psycopg
 import pytest
 import records
-from cases import HOUR, QUICK, Task, attempts_to_report, ended, hears, run, simple, until
+from cases import (
+    HOUR,
+    QUICK,
+    Task,
+    attempts_to_report,
+    ended,
+    hears,
+    run,
+    simple,
+    stuck_keys,
+    unknown_attempts,
+    until,
+)
 from kills import children
 
 import sagas
 import sagas.testing
-from sagas.core import protocol as lines, shard
+from sagas.core import protocol
+from sagas.definition.capacity import HEADER
 from sagas.engine import process
 from sagas.base import program
 from sagas.runtime import calls as calls_module
@@ -37,7 +50,7 @@ from sagas.storage.sqlite import writer as writer_module
 
 
 def row(gate: asyncio.Event | None = None) -> sagas.Saga:
-    """Return three steps in a row, the last of which fails if the input says so."""
+    """Return three steps in a row, and the last fails if the input says so."""
     row = sagas.Saga("row")
 
     @row.step
@@ -78,14 +91,14 @@ def test_start_with_an_existing_key(location: str) -> None:
 
     async def main() -> None:
         async with sagas.open(location, kinds) as store:
-            first = await ended(store, kinds[0], given={"a": 1, "b": [2]})
-            assert await ended(store, kinds[0], given={"b": [2], "a": 1}) == first
-            for saga, given in ((kinds[0], {"a": 2}), (kinds[1], {"a": 1, "b": [2]})):
+            first = await ended(store, kinds[0], value={"a": 1, "b": [2]})
+            assert await ended(store, kinds[0], value={"b": [2], "a": 1}) == first
+            for saga, value in ((kinds[0], {"a": 2}), (kinds[1], {"a": 1, "b": [2]})):
                 with pytest.raises(sagas.KeyConflict):
-                    await store.start(saga, key="k", input=given)
+                    await store.start(saga, key="k", input=value)
             starts = [
-                store.start(kinds[0], key="k", input=given)
-                for given in ({"a": 2}, {"a": 1, "b": [2]})
+                store.start(kinds[0], key="k", input=value)
+                for value in ({"a": 2}, {"a": 1, "b": [2]})
             ]
             results = await asyncio.gather(
                 *starts, store.wait("k"), store.abort("k"), return_exceptions=True
@@ -98,7 +111,7 @@ def test_start_with_an_existing_key(location: str) -> None:
             same = await asyncio.gather(*(ended(store, kinds[0], "many") for _ in range(20)))
             assert len({end.key for end in same}) == 1
         async with sagas.open(location, kinds) as store:
-            assert await ended(store, kinds[0], given={"a": 1, "b": [2]}) == first
+            assert await ended(store, kinds[0], value={"a": 1, "b": [2]}) == first
             with pytest.raises(sagas.KeyConflict):
                 await store.start(kinds[1], key="k")
             with pytest.raises(sagas.NotSerializable):
@@ -123,12 +136,12 @@ def test_an_invalid_key(location: str) -> None:
                 assert (
                     isinstance(error.value, sagas.NotSerializable) and len(str(error.value)) < 180
                 )
-            for given, text in (
+            for value, text in (
                 ({"a": {1, object()}}, r'input\["a"\]: object is not JSON'),
                 ([0.0, float("nan")], r"input\[1\]: NaN"),
             ):
                 with pytest.raises(sagas.NotSerializable, match=text):
-                    await store.start(saga, "k", given)
+                    await store.start(saga, "k", value)
 
     run(main())
 
@@ -150,7 +163,7 @@ class Order:
 
 
 @pytest.mark.parametrize(
-    "given, text",
+    "value, text",
     [
         (None, "input: Order requires an object$"),
         ({}, "input: missing 'amount', which Order requires$"),
@@ -164,7 +177,7 @@ class Order:
         ),
     ],
 )
-def test_an_input_that_the_first_step_cannot_read(location: str, given: Any, text: str) -> None:
+def test_an_input_that_the_first_step_cannot_read(location: str, value: Any, text: str) -> None:
     """The error has its location, and no saga is started; an existing saga is found by its key
     anyway.
     """
@@ -177,11 +190,11 @@ def test_an_input_that_the_first_step_cannot_read(location: str, given: Any, tex
 
     async def main() -> None:
         async with sagas.open(location, [loose]) as store:
-            assert (await ended(store, loose, "old", given)).ok
+            assert (await ended(store, loose, "old", value)).ok
         async with sagas.open(location, [strict]) as store:
             with pytest.raises(sagas.InvalidInput, match=f"saga 'order', step 'charge': {text}"):
-                await store.start(strict, "new", given)
-            assert await store.get("new") is None and (await ended(store, strict, "old", given)).ok
+                await store.start(strict, "new", value)
+            assert await store.get("new") is None and (await ended(store, strict, "old", value)).ok
             for well in (Order(4), {"amount": 4, "more": 1}):
                 assert (await ended(store, strict, f"well-{type(well)}", well)).results == {
                     "charge": 4
@@ -189,7 +202,7 @@ def test_an_input_that_the_first_step_cannot_read(location: str, given: Any, tex
 
     run(main())
     with pytest.raises(sagas.InvalidInput, match=text):
-        sagas.testing.run(strict, given)
+        sagas.testing.run(strict, value)
 
 
 def test_results(location: str) -> None:
@@ -248,7 +261,7 @@ def test_abort(location: str) -> None:
     run(main())
 
 
-@pytest.mark.parametrize("error", [ValueError, TimeoutError], ids=["backoff", "unknown"])
+@pytest.mark.parametrize("error", [sagas.Retry, TimeoutError], ids=["backoff", "unknown"])
 def test_a_held_step_takes_no_slot_and_keeps_nothing_from_draining(
     location: str, error: type[Exception]
 ) -> None:
@@ -271,7 +284,7 @@ def test_a_held_step_takes_no_slot_and_keeps_nothing_from_draining(
 
             async def is_held() -> bool:
                 missed = any(event.event == "missed" for event in await slow.log())
-                return missed or bool(await store.unknown())
+                return missed or bool(await unknown_attempts(store))
 
             await until(is_held)
             assert (await ended(store, saga, "quick")).ok
@@ -323,16 +336,16 @@ def test_functions_know_nothing_of_each_other(location: str) -> None:
 
 def test_no_more_than_its_concurrency(location: str) -> None:
     """Over all steps and sagas, in the loop and in threads; and all its slots are used."""
-    inside, most = set[str](), 0
+    inside, highest = set[str](), 0
     gate = threading.Event()
-    one, other = sagas.Saga("one"), sagas.Saga("other")
+    first, other = sagas.Saga("one"), sagas.Saga("other")
 
     def enter(task: Task) -> None:
-        nonlocal most
+        nonlocal highest
         inside.add(task.key)
-        most = max(most, len(inside))
+        highest = max(highest, len(inside))
 
-    @one.step
+    @first.step
     async def a(task: Task) -> None:
         enter(task)
         while not gate.is_set():
@@ -346,9 +359,9 @@ def test_no_more_than_its_concurrency(location: str) -> None:
         inside.discard(task.key)
 
     async def main() -> None:
-        async with sagas.open(location, [one, other], concurrency=3) as store:
+        async with sagas.open(location, [first, other], concurrency=3) as store:
             work = [
-                asyncio.create_task(ended(store, (one, other)[number % 2], f"k{number}"))
+                asyncio.create_task(ended(store, (first, other)[number % 2], f"k{number}"))
                 for number in range(12)
             ]
             await until(lambda: len(inside) == 3)
@@ -357,18 +370,18 @@ def test_no_more_than_its_concurrency(location: str) -> None:
             assert all(end.ok for end in await asyncio.gather(*work))
 
     run(main())
-    assert most == 3
+    assert highest == 3
 
 
 def test_a_limit_does_not_delay_other_steps(location: str) -> None:
     """At most two of the slow step run at once, over all sagas; the quick ones run past them."""
-    running, most, gate = Counter[str](), Counter[str](), asyncio.Event()
+    running, highest, gate = Counter[str](), Counter[str](), asyncio.Event()
     slow, quick = sagas.Saga("slow"), sagas.Saga("quick")
 
     @slow.step(concurrency=2)
     async def a(task: Task) -> None:
         running["a"] += 1
-        most["a"] = max(most["a"], running["a"])
+        highest["a"] = max(highest["a"], running["a"])
         await gate.wait()
         running["a"] -= 1
 
@@ -382,10 +395,10 @@ def test_a_limit_does_not_delay_other_steps(location: str) -> None:
             await asyncio.gather(*(ended(store, quick, f"q{number}") for number in range(20)))
             assert running["a"] == 2
             gate.set()
-            await asyncio.gather(*(one.wait() for one in held))
+            await asyncio.gather(*(wait.wait() for wait in held))
 
     run(main())
-    assert most["a"] == 2
+    assert highest["a"] == 2
 
 
 # -- waits, approvals, external work
@@ -410,7 +423,7 @@ def test_wait(location: str, how: str) -> None:
     async def main() -> None:
         async with sagas.open(location, [saga]) as store:
             began = time.time()
-            end = await ended(store, saga, given=0.3)
+            end = await ended(store, saga, value=0.3)
             assert (
                 end.results["wait"] >= (at.timestamp() if how == "datetime" else began + 0.3) - 0.01
             )
@@ -418,44 +431,47 @@ def test_wait(location: str, how: str) -> None:
     run(main())
 
 
-def test_a_wait_whose_time_cannot_be_computed(location: str) -> None:
-    """Each try computes it again, also in the next program; its function is not called before its
-    time, and after its tries it has failed.
-    """
-    computed: list[tuple[str, int]] = []
+def test_a_wait_without_a_time(location: str) -> None:
+    """Its attempt waits as a bug of the program, and the next program computes the time again."""
+    computed: list[str] = []
     times: list[float] = []
     called: list[float] = []
-    saga = sagas.Saga("late")
+    saga, fixed = sagas.Saga("late"), asyncio.Event()
 
     def when(task: Task) -> Any:
-        computed.append((task.key, task.attempt))
-        if task.key == "never" or task.attempt == 1:
+        computed.append(task.key)
+        if task.key == "never" or not fixed.is_set():
             return task.input
         times.append(time.time())
         return datetime.timedelta(seconds=0.2)
 
-    @saga.wait(until=when, tries=3, backoff=sagas.Backoff(initial=0.1, maximum=0.1))
+    @saga.wait(until=when)
     def wait(task: Task) -> None:
         called.append(time.time())
+
+    async def needing(store: sagas.Store) -> list[str]:
+        entries = await store.attention()
+        assert all(entry.why == "program_error" for entry in entries)
+        return sorted(entry.key for entry in entries)
+
+    async def is_needing(store: sagas.Store, *keys: str) -> bool:
+        return await needing(store) == [*keys]
 
     async def first() -> None:
         async with sagas.open(location, [saga]) as store:
             await store.start(saga, "never", "2030-01-01T00:00:00+00:00")
             await store.start(saga, "later")
-            await until(lambda: {("never", 1), ("later", 1)} <= {*computed})
+            await until(lambda: is_needing(store, "later", "never"))
 
     async def second() -> None:
+        fixed.set()
         async with sagas.open(location, [saga]) as store:
-            end = await store.wait("never")
-            assert (
-                end.states == {"wait": "failed"} and "datetime.fromisoformat" in end.errors["wait"]
-            )
             assert (await store.wait("later")).ok
-            assert held(location) == []
+            await until(lambda: computed.count("never") == 2)
+            await until(lambda: is_needing(store, "never"))
 
     run(first())
     run(second())
-    assert [attempt for key, attempt in computed if key == "never"] == [1, 2, 3]
     assert len(called) == 1 and called[0] >= times[0] + 0.19
 
 
@@ -475,7 +491,7 @@ def test_a_wait_does_not_repeat_after_its_time(location: str) -> None:
     def wait(task: Task) -> int:
         calls.append(task.attempt)
         if len(calls) < 3:
-            raise sagas.Unknown("?") if len(calls) == 1 else ValueError("no")
+            raise sagas.Unknown("?") if len(calls) == 1 else sagas.Retry("no")
         return 1
 
     async def first() -> None:
@@ -493,26 +509,26 @@ def test_a_wait_does_not_repeat_after_its_time(location: str) -> None:
     assert computed == [1] and calls == [1, 1, 2]
 
 
-@pytest.mark.parametrize("how", ["undone", "for good"])
+@pytest.mark.parametrize("how", ["undone", "permanently"])
 def test_a_saga_that_is_over_waits_for_nothing(location: str, how: str) -> None:
     """The stored row of its wait is gone: its saga was undone in the meantime, or its function
     failed, and the remaining tries were given up.
     """
     saga = sagas.Saga("late")
 
-    @saga.wait(until=datetime.timedelta(seconds=0 if how == "for good" else 3600))
+    @saga.wait(until=datetime.timedelta(seconds=0 if how == "permanently" else 3600))
     def wait(task: Task) -> None:
         raise sagas.Fail("no")
 
     @saga.step(tries=2, backoff=QUICK)
     def fails(task: Task) -> None:
         if how == "undone":
-            raise ValueError("no")
+            raise sagas.Retry("no")
 
     async def main() -> None:
         async with sagas.open(location, [saga]) as store:
             assert (await ended(store, saga)).states["wait"] == (
-                "failed" if how == "for good" else "waiting"
+                "failed" if how == "permanently" else "waiting"
             )
             assert held(location) == []
 
@@ -547,7 +563,7 @@ def test_approval(location: str, answer: str) -> None:
             if answer == "yes":
                 await store.complete("k", sign, {"by": "Ada"})
             elif answer == "no":
-                await store.fail("k", sign, "too dear")
+                await store.fail("k", sign, "too expensive")
             return await store.wait("k")
 
     run(first())
@@ -615,7 +631,7 @@ def test_a_compensation_with_an_unknown_outcome(location: str) -> None:
     async def a(task: Task) -> int:
         return 1
 
-    @a.compensation(max_unknown=0)
+    @a.compensation(max_unknown=1)
     async def not_a(task: Task) -> None:
         raise sagas.Unknown("was it undone?")
 
@@ -648,11 +664,11 @@ def test_full_logs_are_audited_and_closed(location: str, monkeypatch: pytest.Mon
     saga, right, audits = row(), program.run, Counter[str]()
 
     def counting(
-        command: str, texts: Sequence[str], where: str | None = None
+        command: str, texts: Sequence[str], sagas_file: str | None = None
     ) -> subprocess.CompletedProcess[str]:
         if command == "audit":
             audits[texts[0]] += 1
-        return right(command, texts, where)
+        return right(command, texts, sagas_file)
 
     monkeypatch.setattr("sagas.base.program.run", counting)
 
@@ -676,7 +692,7 @@ def test_full_logs_are_audited_and_closed(location: str, monkeypatch: pytest.Mon
 
     run(main())
     closed = [
-        lines.HEADER + "".join(text for _, text in log.chunks)
+        HEADER + "".join(text for _, text in log.chunks)
         for log in records.read(location).logs.values()
         if log.closed
     ]
@@ -872,7 +888,7 @@ def test_a_log_with_waiting_sagas_frees_its_engine(location: str) -> None:
     others = set(children(os.getpid()))  # servers that other tests use
 
     async def main() -> None:
-        async with sagas.open(location, [saga], idle=0.1) as store:
+        async with sagas.open(location, [saga], settings=sagas.Settings(idle=0.1)) as store:
             going = await store.start(saga, key="k")
             assert len(set(children(os.getpid())) - others) == 1
             await until(lambda: not set(children(os.getpid())) - others)
@@ -897,13 +913,13 @@ def lives(pid: int) -> bool:
 def test_few_children_for_many_logs(location: str, monkeypatch: pytest.MonkeyPatch) -> None:
     """Sagas in many logs share two engines, also after a restart."""
     monkeypatch.setattr("sagas.definition.registry.SHARD_CAPACITY", 7)
-    gate, most = asyncio.Event(), 0
+    gate, highest = asyncio.Event(), 0
     saga = row(gate)
     others = set(children(os.getpid()))  # servers that other tests use
 
     def look() -> None:
-        nonlocal most
-        most = max(most, sum(map(lives, set(children(os.getpid())) - others)))
+        nonlocal highest
+        highest = max(highest, sum(map(lives, set(children(os.getpid())) - others)))
 
     async def watched(work: Any) -> Any:
         task = asyncio.ensure_future(work)
@@ -913,14 +929,18 @@ def test_few_children_for_many_logs(location: str, monkeypatch: pytest.MonkeyPat
         return await task
 
     async def first() -> None:
-        async with sagas.open(location, [saga], engine_processes=2, shutdown_timeout=0.0) as store:
+        async with sagas.open(
+            location, [saga], settings=sagas.Settings(engine_processes=2), shutdown_timeout=0.0
+        ) as store:
             await watched(
                 asyncio.gather(*(store.start(saga, key=f"k{number}") for number in range(60)))
             )
 
     async def second() -> None:
         gate.set()
-        async with sagas.open(location, [saga], engine_processes=2) as store:
+        async with sagas.open(
+            location, [saga], settings=sagas.Settings(engine_processes=2)
+        ) as store:
             ends = await watched(
                 asyncio.gather(*(store.wait(f"k{number}") for number in range(60)))
             )
@@ -929,7 +949,7 @@ def test_few_children_for_many_logs(location: str, monkeypatch: pytest.MonkeyPat
     run(first())
     assert len(records.read(location).logs) > 4
     run(second())
-    assert 1 <= most <= 3  # two that drive, and one that audits
+    assert 1 <= highest <= 3  # two that drive, and one that audits
 
 
 def test_one_slot_for_many_logs(location: str, monkeypatch: pytest.MonkeyPatch) -> None:
@@ -946,7 +966,9 @@ def test_one_slot_for_many_logs(location: str, monkeypatch: pytest.MonkeyPatch) 
         return 2
 
     async def main() -> None:
-        async with sagas.open(location, [saga], concurrency=1, engine_processes=2) as store:
+        async with sagas.open(
+            location, [saga], concurrency=1, settings=sagas.Settings(engine_processes=2)
+        ) as store:
             for turn in range(6):
                 ends = await asyncio.gather(
                     *(ended(store, saga, f"k{turn}-{number}") for number in range(30))
@@ -998,14 +1020,14 @@ def test_one_transaction_takes_what_all_logs_have(
             runners = store._coordinator.shards.runners.values()
             await until(
                 lambda: len(runners) == 8
-                and not any(one.driver.commits_in_flight for one in runners)
+                and not any(runner.driver.commits_in_flight for runner in runners)
             )
-            before = store.commits
+            before = store._commits
             with locked(location):
                 gate.set()
-                await until(lambda: all(one.driver.commits_in_flight for one in runners))
-            assert all(end.ok for end in await asyncio.gather(*(one.wait() for one in runs)))
-            assert store.commits - before <= 2
+                await until(lambda: all(runner.driver.commits_in_flight for runner in runners))
+            assert all(end.ok for end in await asyncio.gather(*(run.wait() for run in runs)))
+            assert store._commits - before <= 2
 
     run(main())
 
@@ -1028,26 +1050,29 @@ def test_a_file_is_synced_at_each_commit(tmp_path: pathlib.Path) -> None:
 def test_commits_in_the_loop_and_in_the_thread(
     tmp_path: pathlib.Path, monkeypatch: pytest.MonkeyPatch, at_once: float
 ) -> None:
-    """All commits are made in the thread, or most of them where they are requested: the same is
+    """All commits are made in the thread, or most of them at their requests: the same is
     stored, and the WAL is moved into the file now and then.
     """
     monkeypatch.setattr(writer_module, "AT_ONCE", at_once)
-    saga, most = row(), 0
+    saga, highest = row(), 0
 
     async def main() -> None:
-        nonlocal most
+        nonlocal highest
         async with sagas.open(tmp_path / "store.db", [saga], concurrency=600) as store:
             ends = await asyncio.gather(
-                *(ended(store, saga, f"k{number}") for number in range(2 * shard.MAX_REPORTS + 100))
+                *(
+                    ended(store, saga, f"k{number}")
+                    for number in range(2 * protocol.MAX_REPORTS + 100)
+                )
             )
             for number in range(400):
                 ends.append(await ended(store, saga, f"one-{number}"))
-                most = max(most, (tmp_path / "store.db-wal").stat().st_size)
+                highest = max(highest, (tmp_path / "store.db-wal").stat().st_size)
             assert all(end.ok for end in ends)
             assert all(verdict.startswith("yes") for verdict in (await store.audit()).values())
 
     run(main())
-    assert most < 16 << 20
+    assert highest < 16 << 20
 
 
 @pytest.mark.parametrize("wait", [0, 50])
@@ -1062,11 +1087,11 @@ def test_answers_that_are_waited_for_and_others(
     async def main() -> None:
         async with sagas.open(location, [saga]) as store:
             for number in range(12):
-                given = "fails" if number % 4 == 3 else None
-                end = await ended(store, saga, f"k{number}", given)
+                value = "fails" if number % 4 == 3 else None
+                end = await ended(store, saga, f"k{number}", value)
                 assert (
-                    end.ok == (given is None)
-                    and not (await store.start(saga, f"k{number}", given)).new
+                    end.ok == (value is None)
+                    and not (await store.start(saga, f"k{number}", value)).new
                 )
             ends = await asyncio.gather(
                 *(ended(store, saga, f"more-{number}") for number in range(40))
@@ -1107,7 +1132,7 @@ def test_each_type_is_tried_with_an_input_of_its_own(location: str) -> None:
 
     async def main() -> None:
         async with sagas.open(location, [saga]) as store:
-            assert (await ended(store, saga, given={"data": {"kind": "x"}})).results == {
+            assert (await ended(store, saga, value={"data": {"kind": "x"}})).results == {
                 "a": "x",
                 "b": "x",
                 "c": 1,
@@ -1153,7 +1178,7 @@ def test_steps_give_the_loop_a_turn(
         async def step(task: Task) -> None:
             seen.append(turns)
 
-        saga.step(name=f"s{number}", needs=[f"s{number - 1}"] if number else [])(step)
+        saga.step(name=f"s{number}", needs=saga.steps[-1:])(step)
 
     async def main() -> None:
         nonlocal turns
@@ -1170,19 +1195,19 @@ def test_steps_give_the_loop_a_turn(
 
 def test_tasks_of_a_reply() -> None:
     """They are read without a parser, unless there is a plan among them."""
-    one = '{"attempt":1,"name":"hotel","saga":0,"step":1,"task":"run"}'
-    two = '{"attempt":12,"name":"a-b_c","saga":999,"step":65535,"task":"undo"}'
+    run_line = '{"attempt":1,"name":"hotel","saga":0,"step":1,"task":"run"}'
+    undo_line = '{"attempt":12,"name":"a-b_c","saga":999,"step":65535,"task":"undo"}'
     plan = '{"answer":{"cost":1,"kept":[],"kind":"plan"},"phase":"going","saga":0,"task":"plan"}'
     expected = [(0, 1, "run", 1), (999, 65535, "undo", 12)]
-    assert lines.tasks_in(f'{{"tasks":[{one}]}}') == expected[:1]
-    assert lines.tasks_in(f'{{"tasks":[{one},{two}]}}') == expected
-    assert lines.tasks_in(f'{{"settled":false,"tasks":[{two}]}}') == expected[1:]
+    assert protocol.tasks_in(f'{{"tasks":[{run_line}]}}') == expected[:1]
+    assert protocol.tasks_in(f'{{"tasks":[{run_line},{undo_line}]}}') == expected
+    assert protocol.tasks_in('{"settled":true,"tasks":[]}') == []
+    assert protocol.tasks_in(f'{{"settled":false,"tasks":[{undo_line}]}}') == expected[1:]
     for other in (
-        f'{{"tasks":[{one},{plan}]}}',
+        f'{{"tasks":[{run_line},{plan}]}}',
         f'{{"tasks":[{plan}]}}',
-        '{"settled":true,"tasks":[]}',
     ):
-        assert lines.tasks_in(other) is None
+        assert protocol.tasks_in(other) is None
 
 
 def test_a_commit_in_the_loop_does_not_block(
@@ -1235,7 +1260,7 @@ def test_texts_are_no_statements(location: str, caplog: pytest.LogCaptureFixture
     async def a(task: Task) -> Any:
         return task.input
 
-    @hazy.step(max_unknown=0)
+    @hazy.step(max_unknown=1)
     async def b(task: Task) -> None:
         raise sagas.Unknown(task.input)
 
@@ -1251,16 +1276,16 @@ def test_texts_are_no_statements(location: str, caplog: pytest.LogCaptureFixture
                     await store.start(saga, text, ODD)
                 events = await store.log(text)
                 assert await store.list(saga=text) == []
-                assert [one.value for one in events if one.event == "commit"] == [{text: ODD}]
-            assert [one.key for one in await store.list()] == TEXTS
+                assert [event.value for event in events if event.event == "commit"] == [{text: ODD}]
+            assert [summary.key for summary in await store.list()] == TEXTS
             await store.start(hazy, "hazy", ODD)
-            (held,) = await until(store.unknown)
-            assert "DROP TABLE" in (held.error or "")
+            (held,) = await until(lambda: unknown_attempts(store))
+            assert "DROP TABLE" in str(held)
             await store.complete("hazy", "b", ODD, by=ODD, note=ODD)
             assert (await store.wait("hazy")).results == {"b": ODD}
             assert (await ended(store, must, "must", ODD)).errors == {"c": f"sagas.Fail: {ODD}"}
             await store.resolve("must", ODD)
-            assert [one.key for one in await store.list(phase="resolved")] == ["must"]
+            assert [summary.key for summary in await store.list(phase="resolved")] == ["must"]
 
     run(main())
     assert set(records.read(location).sagas) == {*TEXTS, "hazy", "must"}
@@ -1285,19 +1310,23 @@ def test_questions(location: str) -> None:
             assert end.phase == "stuck" and end.blocking_steps == ["must"]
             assert await store.get("none") is None and await store.get("b") is not None
             listed = await store.list(phase="completed", saga=good)
-            assert [one.key for one in listed] == ["g0", "g2", "g3", "g4"]
+            assert [summary.key for summary in listed] == ["g0", "g2", "g3", "g4"]
             (planned,) = await store.list(phase="recovered")
             assert (planned.key, planned.phase) == ("g1", "recovered")
-            assert [one.phase == "recovered" for one in await store.list()] == [False, True] + [
-                False
-            ] * 4
+            assert [summary.phase == "recovered" for summary in await store.list()] == [
+                False,
+                True,
+            ] + [False] * 4
             page = await store.list(limit=2)
-            assert [one.key for one in await store.list(limit=2, after=page[-1].id)] == ["g2", "g3"]
+            assert [summary.key for summary in await store.list(limit=2, after=page[-1].id)] == [
+                "g2",
+                "g3",
+            ]
             wrong: list[Any] = [{"after": "g1"}, {"limit": "all"}, {"limit": 0}, {"phase": "over"}]
             for options in wrong:
                 with pytest.raises((TypeError, ValueError), match=f"{[*options][0]}="):
                     await store.list(**options)
-            assert [one.key for one in await store.stuck()] == ["b"]
+            assert await stuck_keys(store) == ["b"]
             for note in ("", " ", None):
                 with pytest.raises((TypeError, ValueError), match="what was done about it"):
                     await store.resolve("b", note)  # type: ignore[arg-type]
@@ -1305,7 +1334,7 @@ def test_questions(location: str) -> None:
                 await store.fail("b", "a", 5)  # type: ignore[arg-type]
             await store.resolve("b", "seen to")
             (resolved,) = await store.list(phase="resolved")
-            assert await store.stuck() == [] and resolved.note == "seen to"
+            assert await stuck_keys(store) == [] and resolved.note == "seen to"
             events = await store.log("g1")
             options = [event.event for event in events]
             assert (
@@ -1335,7 +1364,7 @@ def test_events_and_logging(location: str, caplog: pytest.LogCaptureFixture) -> 
 
     async def main() -> None:
         async with sagas.open(location, [saga], on_event=hook) as store:
-            await ended(store, saga, given="fails")
+            await ended(store, saga, value="fails")
 
     with caplog.at_level(logging.INFO, "sagas"):
         run(main())
@@ -1349,7 +1378,8 @@ def test_events_and_logging(location: str, caplog: pytest.LogCaptureFixture) -> 
     )
     assert names["step_started"] == 5 and names["step_succeeded"] == 4
     assert all(
-        (event.seconds is not None) == (event.name in ("step_succeeded", "step_failed"))
+        (event.seconds is not None)
+        == (event.name in ("step_succeeded", "step_failed", "saga_ended", "saga_stuck"))
         for event in events
     )
     kept = [
@@ -1360,17 +1390,17 @@ def test_events_and_logging(location: str, caplog: pytest.LogCaptureFixture) -> 
     assert kept and getattr(kept[0], "sagas")["key"] == "k"
 
 
-@pytest.mark.parametrize("how", ["refused", "late", "for good"])
+@pytest.mark.parametrize("how", ["refused", "late", "permanently"])
 def test_a_final_failure_is_reported_once(location: str, how: str) -> None:
     """It is `step_failed`, though the step had tries left; these are not reported."""
     events: list[tuple[str, str | None]] = []
     saga = sagas.Saga("signed")
 
-    if how == "for good":
+    if how == "permanently":
 
         @saga.step(tries=9)
         def sign(task: Task) -> None:
-            raise sagas.Fail("too dear")
+            raise sagas.Fail("too expensive")
 
     else:
 
@@ -1388,7 +1418,7 @@ def test_a_final_failure_is_reported_once(location: str, how: str) -> None:
             if how == "refused":
                 while not await store.waits_for("k"):
                     await asyncio.sleep(0.005)
-                await run.fail(sign, "too dear")
+                await run.fail(sign, "too expensive")
             assert (await run.wait()).states == {"sign": "failed"}
 
     run(main())
@@ -1396,9 +1426,9 @@ def test_a_final_failure_is_reported_once(location: str, how: str) -> None:
         (
             "step_failed",
             {
-                "refused": "too dear",
-                "late": "nobody approved it in time",
-                "for good": "sagas.Fail: too dear",
+                "refused": "too expensive",
+                "late": "it was not approved in time",
+                "permanently": "sagas.Fail: too expensive",
             }[how],
         )
     ]
@@ -1408,9 +1438,9 @@ def test_a_log_line_is_one_line(location: str, caplog: pytest.LogCaptureFixture)
     """Keys and details are quoted unless they are one plain word; line ends in them are escaped."""
 
     def fails(task: Task) -> None:
-        raise ValueError('a "b"\nc\x85=ü')
+        raise sagas.Retry('a "b"\nc\x85=ü')
 
-    saga = simple(fails)
+    saga = simple(fails, tries=1)
 
     async def main() -> None:
         async with sagas.open(location, [saga]) as store:
@@ -1419,7 +1449,7 @@ def test_a_log_line_is_one_line(location: str, caplog: pytest.LogCaptureFixture)
 
     with caplog.at_level(logging.WARNING, "sagas"):
         run(main())
-    detail = r'"ValueError: a \"b\"\nc\u0085=ü"'
+    detail = r'"sagas.Retry: a \"b\"\nc\u0085=ü"'
     assert [record.getMessage() for record in caplog.records if record.name == "sagas"] == [
         f"step_failed key={key} saga=simple step=a attempt=1 detail={detail}"
         for key in ('"order/2026 ü"', "order-1")
@@ -1442,7 +1472,7 @@ def test_without_async(location: str) -> None:
         for thread in threads:
             thread.join()
         assert len(ends) == 4 and len({end.key for end in ends}) == 1
-        assert [one.key for one in store.list()] == ["good", "bad", "one"] and store.get(
+        assert [summary.key for summary in store.list()] == ["good", "bad", "one"] and store.get(
             "none"
         ) is None
         assert all(verdict.startswith("yes") for verdict in store.audit().values())
@@ -1477,13 +1507,13 @@ def test_a_wait_that_takes_too_long(location: str) -> None:
 
     async def main() -> None:
         async with sagas.open(location, [saga]) as store:
-            one = await store.start(saga, "two")
+            run = await store.start(saga, "two")
             with pytest.raises(TimeoutError, match="'two' is still open after 0.01 s"):
-                await one.wait(timeout=0.01)
-            while not any("approval" in one for one in await store.waits_for("two")):
+                await run.wait(timeout=0.01)
+            while not any("approval" in wait for wait in await store.waits_for("two")):
                 await asyncio.sleep(0.005)
-            await one.complete(sign)
-            assert (await one.wait(timeout=60)).ok
+            await run.complete(sign)
+            assert (await run.wait(timeout=60)).ok
 
     asyncio.run(main())
 
@@ -1518,15 +1548,16 @@ def test_a_step_calls_a_store_without_async(tmp_path: pathlib.Path) -> None:
     inner = sagas.Saga("inner")
     inner.step(name="a")(lambda task: 1)
 
-    @other.step
+    @other.step(max_unknown=1)
     async def a(task: Task) -> None:
         store.list()
 
     with sagas.open_sync(tmp_path / "store.db", [saga, inner, other]) as store:
         assert store.start(saga, "outer").wait(60).results == {"a": 1}
-        assert "Make the function a plain def" in (
-            store.start(other, "k").wait(60).errors["a"] or ""
-        )
+        store.start(other, "k")
+        (held,) = run(until(store.attention))
+        assert held.why == "unknown"
+        assert "Make the function a plain def" in (held.detail or "")
 
 
 def held(location: str) -> list[tuple[Any, ...]]:
@@ -1550,9 +1581,9 @@ def test_nothing_is_kept_of_a_wait_after_its_sagas_end(location: str, reopened: 
     @saga.wait(until=datetime.timedelta(seconds=0.01), tries=3, backoff=QUICK)
     async def late(task: Task) -> None:
         await comes(task)
-        raise ValueError("not yet")
+        raise sagas.Retry("not yet")
 
-    @saga.step
+    @saga.step(tries=1)
     async def bad(task: Task) -> None:
         await until(lambda: "late" in inside)
         await comes(task)
@@ -1608,7 +1639,7 @@ def test_keys_that_are_no_texts(location: str) -> None:
             async with asyncio.timeout(60):
                 keys: list[Any] = [*wrong, "k", "other"]
                 results = await asyncio.gather(*(store.get(key) for key in keys))
-                assert [one is not None for one in results] == [False] * 4 + [True, False]
+                assert [result is not None for result in results] == [False] * 4 + [True, False]
                 for call in (store.wait, store.abort, store.log):
                     with pytest.raises(sagas.NoSuchSaga, match="no saga has the key 42"):
                         await call(42)  # type: ignore[arg-type]

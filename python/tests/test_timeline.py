@@ -19,33 +19,35 @@ from sagas.inspection.question import StoreReader
 
 @pytest.fixture(scope="module")
 def service(tmp_path_factory: pytest.TempPathFactory, store: str | None) -> Iterator[Served]:
-    with served(tmp_path_factory.mktemp("service"), store=store) as one:
-        yield one
+    with served(tmp_path_factory.mktemp("service"), store=store) as service:
+        yield service
 
 
 @pytest.fixture
 def client(service: Served) -> Iterator[httpx.Client]:
-    with service.client() as one:
-        yield one
+    with service.client() as client:
+        yield client
 
 
 def attempts(client: httpx.Client, key: str) -> list[dict[str, Any]]:
     """Return the attempts of a saga, whose parts follow one another without gaps."""
     listed: list[dict[str, Any]] = client.get(f"/v1/sagas/{key}/timeline").json()["attempts"]
-    for one in listed:
-        spans = one["spans"]
-        assert one["ready"] <= one["began"] and spans[0]["began"] in (
-            one["ready"],
-            one["began"],
-        ), one
-        assert all(first["ended"] == then["began"] for first, then in zip(spans, spans[1:])), one
-        assert spans[-1]["ended"] == one["ended"], one
+    for summary in listed:
+        spans = summary["spans"]
+        assert summary["ready"] <= summary["began"] and spans[0]["began"] in (
+            summary["ready"],
+            summary["began"],
+        ), summary
+        assert all(
+            first["ended"] == then["began"] for first, then in zip(spans, spans[1:])
+        ), summary
+        assert spans[-1]["ended"] == summary["ended"], summary
     return listed
 
 
-def states_of(one: dict[str, Any]) -> list[tuple[str, str | None]]:
+def states_of(entry: dict[str, Any]) -> list[tuple[str, str | None]]:
     """Return the parts from the begin on."""
-    return [(span["state"], span["why"]) for span in one["spans"] if span["state"] != "queued"]
+    return [(span["state"], span["why"]) for span in entry["spans"] if span["state"] != "queued"]
 
 
 def test_workers_people_and_pauses(client: httpx.Client) -> None:
@@ -103,14 +105,17 @@ def test_workers_people_and_pauses(client: httpx.Client) -> None:
     body = {"result": "booked", "note": "they say so"}
     assert client.post("/v1/sagas/t/steps/tour/complete", json=body).status_code == 200
     assert client.get("/v1/sagas/t/wait").json()["phase"] == "completed"
-    one, two = attempts(client, "t")[-2:]
-    assert (one["attempt"], one["outcome"], one["error"]) == (1, "retried", "closed today")
-    assert (two["attempt"], two["outcome"], two["unknown_outcomes"]) == (2, "succeeded", 1)
-    assert states_of(two)[-1] == ("waiting", "person")
-    assert ("running", "worker") in states_of(two) and two["spans"][-1][
+    first, second = attempts(client, "t")[-2:]
+    assert (first["attempt"], first["outcome"], first["error"]) == (1, "retried", "closed today")
+    assert (second["attempt"], second["outcome"], second["unknown_outcomes"]) == (2, "succeeded", 1)
+    assert states_of(second)[-1] == ("waiting", "person")
+    assert ("running", "worker") in states_of(second) and second["spans"][-1][
         "detail"
     ] == "the line went dead"
-    assert (two["decision"]["command"], two["decision"]["note"]) == ("complete", "they say so")
+    assert (second["decision"]["command"], second["decision"]["note"]) == (
+        "complete",
+        "they say so",
+    )
     (done,) = client.get("/v1/sagas/t/timeline").json()["decisions"]
     assert (done["command"], done["step"], done["accepted"]) == ("complete", "tour", True)
 
@@ -154,7 +159,7 @@ def test_functions(location: str) -> None:
     @shop.step(needs=[plain], tries=2, backoff=sagas.Backoff(1.0, 1.0))
     async def again(task: sagas.Task[Any]) -> None:
         if task.attempt == 1:
-            raise RuntimeError("not yet")
+            raise sagas.Retry("not yet")
 
     @shop.step(needs=[again])
     async def last(task: sagas.Task[Any]) -> None:
@@ -173,17 +178,17 @@ def test_functions(location: str) -> None:
         async with sagas.open(location, [shop]) as store:
             run = await store.start(shop, "one")
             assert (await run.wait()).ok
-            reader = StoreReader(store.reader())
+            reader = StoreReader(store._reader())
             view = reader.ask(one_saga.view("one"))
             reader.close()
             assert view and len(view.noted.spans) == 2
-            return timeline.of(view, store.now())
+            return timeline.of(view, store._now())
 
     asyncio.run(first())
-    by_attempt = {(one.step, one.attempt): one for one in asyncio.run(then())}
+    by_attempt = {(row.step, row.attempt): row for row in asyncio.run(then())}
     spans = {
-        at: [(span.state, span.why) for span in one.spans if span.state != "queued"]
-        for at, one in by_attempt.items()
+        at: [(span.state, span.why) for span in row.spans if span.state != "queued"]
+        for at, row in by_attempt.items()
     }
     assert spans == {
         ("plain", 1): [("running", None)],
@@ -193,7 +198,7 @@ def test_functions(location: str) -> None:
     }
     assert by_attempt["last", 1].spans[-1].detail == timeline.CALLED_AGAIN
     assert (
-        by_attempt["again", 1].error == "RuntimeError: not yet"
+        by_attempt["again", 1].error == "sagas.Retry: not yet"
         and by_attempt["again", 2].seconds(0.0)["backoff"] > 0.03
     )
 
@@ -202,11 +207,11 @@ def test_a_call_after_the_last_attempt(location: str) -> None:
     """It waits for its pause, as one after an attempt of the definition."""
     shop, calls = sagas.Saga("shop"), list[int]()
 
-    @shop.step(on_exhausted="retry", backoff=sagas.Backoff(0.5, 0.5))
+    @shop.step(on_exhausted="retry", backoff=sagas.Backoff(0.5, 0.5), tries=1)
     async def plain(task: sagas.Task[Any]) -> None:
         calls.append(task.attempt)
         if len(calls) == 1:
-            raise RuntimeError("not yet")
+            raise sagas.Retry("not yet")
 
     async def main() -> None:
         async with sagas.open(location, [shop]) as store:
@@ -221,15 +226,15 @@ def test_a_call_after_the_last_attempt(location: str) -> None:
             assert states == [("running", None), ("backoff", None), ("running", None)]
 
     def seen(store: sagas.Store) -> list[tuple[str, str | None]]:
-        reader = StoreReader(store.reader())
+        reader = StoreReader(store._reader())
         view = reader.ask(one_saga.view("one"))
         reader.close()
         assert view
-        timelines = timeline.of(view, store.now())
+        timelines = timeline.of(view, store._now())
         return [
             (span.state, span.why)
-            for one in timelines
-            for span in one.spans
+            for timeline in timelines
+            for span in timeline.spans
             if span.state != "queued"
         ]
 

@@ -18,14 +18,14 @@ import pytest
 import sagas
 import sagas.testing
 from cases import Task, run
-from sagas.core.external_work import Order
+from sagas.core.attempt.external_work import Order
 from sagas.definition import tracing
 from sagas.runtime.calls import Calls
 from serving import Served, served, take
 
 HERE = pathlib.Path(__file__).resolve().parent
 TRACE, PARENT = "0af7651916cd43dd8448eb211c80319c", "b7ad6b7169203331"
-GIVEN = f"00-{TRACE}-{PARENT}-01"
+TRACEPARENT = f"00-{TRACE}-{PARENT}-01"
 MODULES = ("opentelemetry", "opentelemetry.trace")
 
 
@@ -64,24 +64,24 @@ def context_of(span: Any) -> str:
 @pytest.mark.parametrize(
     "text, read",
     [
-        (GIVEN, GIVEN),
-        (f" {GIVEN}\t", GIVEN),
-        (GIVEN[:-2] + "00", GIVEN[:-2] + "00"),
+        (TRACEPARENT, TRACEPARENT),
+        (f" {TRACEPARENT}\t", TRACEPARENT),
+        (TRACEPARENT[:-2] + "00", TRACEPARENT[:-2] + "00"),
         (
-            GIVEN[:-2] + "ff",
-            GIVEN[:-2] + "03",
+            TRACEPARENT[:-2] + "ff",
+            TRACEPARENT[:-2] + "03",
         ),  # flags that the standard does not know are not passed on
-        (f"cc-{TRACE}-{PARENT}-01", GIVEN),  # of a later version the known parts are read
-        (f"cc-{TRACE}-{PARENT}-01-what-follows", GIVEN),
+        (f"cc-{TRACE}-{PARENT}-01", TRACEPARENT),  # of a later version the known parts are read
+        (f"cc-{TRACE}-{PARENT}-01-what-follows", TRACEPARENT),
         (f"cc-{TRACE}-{PARENT}-01.what-follows", None),
         (f"ff-{TRACE}-{PARENT}-01", None),
-        (GIVEN + "-more", None),
-        (GIVEN.upper(), None),
-        (GIVEN.replace(TRACE, "0" * 32), None),
-        (GIVEN.replace(PARENT, "0" * 16), None),
-        (GIVEN[:-1], None),
-        (f"{GIVEN},{GIVEN}", None),
-        (f"{GIVEN}\n", None),
+        (TRACEPARENT + "-more", None),
+        (TRACEPARENT.upper(), None),
+        (TRACEPARENT.replace(TRACE, "0" * 32), None),
+        (TRACEPARENT.replace(PARENT, "0" * 16), None),
+        (TRACEPARENT[:-1], None),
+        (f"{TRACEPARENT},{TRACEPARENT}", None),
+        (f"{TRACEPARENT}\n", None),
         ("", None),
     ],
 )
@@ -119,9 +119,11 @@ def test_without_the_api_a_context_is_kept(location: str, without: None) -> None
     async def main() -> None:
         assert tracing.tracer() is None
         async with sagas.open(location, [saga]) as store:
-            for key, given in (("with", GIVEN), ("without", None)):
-                await (await store.start(saga, key, traceparent=given)).wait(60)
-            again = await store.start(saga, "with", traceparent=GIVEN.replace(PARENT, "1" * 16))
+            for key, traceparent in (("with", TRACEPARENT), ("without", None)):
+                await (await store.start(saga, key, traceparent=traceparent)).wait(60)
+            again = await store.start(
+                saga, "with", traceparent=TRACEPARENT.replace(PARENT, "1" * 16)
+            )
             assert not again.new
             for wrong, error in (("00-1", ValueError), (7, TypeError)):
                 with pytest.raises(error, match="traceparent"):
@@ -129,7 +131,7 @@ def test_without_the_api_a_context_is_kept(location: str, without: None) -> None
             assert await store.get("wrong") is None
 
     run(main())
-    assert heard == [GIVEN, None]
+    assert heard == [TRACEPARENT, None]
 
 
 def test_a_context_outlives_the_program(location: str, without: None) -> None:
@@ -141,14 +143,14 @@ def test_a_context_outlives_the_program(location: str, without: None) -> None:
 
     async def main() -> None:
         async with sagas.open(location, [saga]) as store:
-            await store.start(saga, "k", traceparent=GIVEN)
+            await store.start(saga, "k", traceparent=TRACEPARENT)
         heard.append("the second program")
         async with sagas.open(location, [saga]) as store:
             await store.complete("k", "asked")
             await store.wait("k", 60)
 
     run(main())
-    assert heard == ["the second program", GIVEN]
+    assert heard == ["the second program", TRACEPARENT]
 
 
 def test_a_child_is_in_the_trace_of_its_parent(location: str, without: None) -> None:
@@ -159,10 +161,10 @@ def test_a_child_is_in_the_trace_of_its_parent(location: str, without: None) -> 
 
     async def main() -> None:
         async with sagas.open(location, [saga, child]) as store:
-            await (await store.start(saga, "k", traceparent=GIVEN)).wait(60)
+            await (await store.start(saga, "k", traceparent=TRACEPARENT)).wait(60)
 
     run(main())
-    assert heard == [GIVEN]
+    assert heard == [TRACEPARENT]
 
 
 def test_a_client_s_start_has_it(url: str, without: None) -> None:
@@ -174,26 +176,26 @@ def test_a_client_s_start_has_it(url: str, without: None) -> None:
 
     async def main() -> None:
         async with sagas.open(url, [saga]), sagas.Client(url) as client:
-            await (await client.start(saga, "k", traceparent=GIVEN)).wait(60)
+            await (await client.start(saga, "k", traceparent=TRACEPARENT)).wait(60)
             with pytest.raises(ValueError, match="traceparent"):
                 await client.start(saga, "wrong", traceparent="00-1")
             assert await client.get("wrong") is None
 
     run(main())
-    assert heard == [GIVEN]
+    assert heard == [TRACEPARENT]
 
 
 def test_a_message_has_it() -> None:
     """An order goes to a worker of a queue as JSON, and arrives unchanged."""
-    order = Order("one", 1, "k", "log", 0, "a", "run", 1, 1, "null", {}, None, None, GIVEN)
-    assert Order.read(order.written()) == order and order.written()["traceparent"] == GIVEN
+    order = Order("one", 1, "k", "log", 0, "a", "run", 1, 1, "null", {}, None, None, TRACEPARENT)
+    assert Order.read(order.written()) == order and order.written()["traceparent"] == TRACEPARENT
 
 
 # -- with the API
 
 
 def trip(seen: list[tuple[str, str | None]], api: Any) -> sagas.Saga:
-    """Return steps of all kinds, the last of which fails permanently."""
+    """Return steps of all kinds, and the last fails permanently."""
     trip = sagas.Saga("trip")
 
     def look(task: Task) -> None:
@@ -212,7 +214,7 @@ def trip(seen: list[tuple[str, str | None]], api: Any) -> sagas.Saga:
     def car(task: Task) -> str:
         look(task)
         if task.attempt == 1:
-            raise OSError("no cars yet")
+            raise sagas.Retry("no cars yet")
         return "c"
 
     @car.compensation
@@ -256,7 +258,7 @@ def test_each_attempt_has_a_span(location: str, api: Any) -> None:
         "undo trip/flight",
     ]
     assert seen == [(span.attributes["sagas.attempt_id"], context_of(span)) for span in spans]
-    assert all(span.ends == 1 and context_of_parent(span) == GIVEN for span in spans)
+    assert all(span.ends == 1 and context_of_parent(span) == TRACEPARENT for span in spans)
     flight, first, second, tour, no_car, no_flight = spans
     left = dict(flight.attributes)
     assert left.pop("code.function.name").endswith("trip.<locals>.flight") and left.pop(
@@ -279,8 +281,9 @@ def test_each_attempt_has_a_span(location: str, api: Any) -> None:
         first.status.status_code,
         first.attributes["sagas.outcome"],
         first.attributes["error.type"],
-    ) == (api.StatusCode.ERROR, "failed", "OSError")
-    assert isinstance(first.errors[0], OSError) and "no cars yet" in first.status.description
+    ) == (api.StatusCode.ERROR, "failed", "Retry")
+    assert isinstance(first.errors[0], sagas.Retry)
+    assert first.status.description == "sagas.Retry: no cars yet"
     assert (tour.attributes["sagas.outcome"], tour.attributes["error.type"]) == (
         "failed_permanently",
         "failed_permanently",
@@ -345,7 +348,7 @@ def test_a_timeout_and_an_abort_in_spans(tmp_path: pathlib.Path, api: Any) -> No
     """An unknown outcome is an error of the span; a cancelled one has ended too."""
     saga = sagas.Saga("slow")
 
-    @saga.step(timeout=0.05, max_unknown=0)
+    @saga.step(timeout=0.05, max_unknown=1)
     async def a(task: Task) -> None:
         await asyncio.Event().wait()
 
@@ -379,8 +382,8 @@ def test_programs_without_async(tmp_path: pathlib.Path, api: Any) -> None:
     with sagas.open_sync(str(tmp_path / "store.db"), [saga]) as store:
         with api.use_span(span := api.get_tracer("caller", "1").start_span("caller")):
             store.start(saga, "k").wait(60)
-        store.start(saga, "given", traceparent=GIVEN).wait(60)
-    assert heard == [context_of(span), GIVEN]
+        store.start(saga, "given", traceparent=TRACEPARENT).wait(60)
+    assert heard == [context_of(span), TRACEPARENT]
 
 
 def test_errors_of_an_exporter_do_not_reach_a_saga(
@@ -395,15 +398,15 @@ def test_errors_of_an_exporter_do_not_reach_a_saga(
 
     async def main() -> None:
         async with sagas.open(location, [saga]) as store:
-            for where, name in ((api.Tracer, "start_span"), (api.Span, "end")):
+            for owner, name in ((api.Tracer, "start_span"), (api.Span, "end")):
                 with monkeypatch.context() as patch:
-                    patch.setattr(where, name, broken)
-                    await (await store.start(saga, name, traceparent=GIVEN)).wait(60)
+                    patch.setattr(owner, name, broken)
+                    await (await store.start(saga, name, traceparent=TRACEPARENT)).wait(60)
 
     run(main())
     assert (
-        seen == [GIVEN, GIVEN]
-        and [one.message for one in caplog.records].count(
+        seen == [TRACEPARENT, TRACEPARENT]
+        and [record.message for record in caplog.records].count(
             "a span could not be written: RuntimeError: no exporter"
         )
         == 1
@@ -424,10 +427,10 @@ def test_without_a_tracer_functions_are_called_in_a_row(
 
     async def main() -> None:
         async with sagas.open(location, [saga]) as store:
-            await (await store.start(saga, "k", traceparent=GIVEN)).wait(60)
+            await (await store.start(saga, "k", traceparent=TRACEPARENT)).wait(60)
 
     run(main())
-    assert calls == [1] and heard == [GIVEN]
+    assert calls == [1] and heard == [TRACEPARENT]
 
 
 # -- over HTTP
@@ -435,25 +438,25 @@ def test_without_a_tracer_functions_are_called_in_a_row(
 FILES = {
     "one.toml": (
         'format = 2\nname = "one"\n[[step]]\nname = "a"\nkeep = 9\nundo = 1\n[[step]]\nname ='
-        ' "b"\nneeds = ["a"]\nundo = "never"\n'
+        ' "b"\nneeds = ["a"]\nundo = "never"\ntries = 1\n'
     )
 }
 
 
 @pytest.fixture(scope="module")
 def service(tmp_path_factory: pytest.TempPathFactory, store: str | None) -> Iterator[Served]:
-    with served(tmp_path_factory.mktemp("tracing"), FILES, store=store) as one:
-        yield one
+    with served(tmp_path_factory.mktemp("tracing"), FILES, store=store) as service:
+        yield service
 
 
 def test_the_header_of_a_start_goes_to_workers(service: Served) -> None:
     """It is stored with the saga; an invalid or repeated one is ignored, and is not an error."""
     with service.client() as client:
         for key, headers, header in (
-            ("valid", [("traceparent", GIVEN)], GIVEN),
+            ("valid", [("traceparent", TRACEPARENT)], TRACEPARENT),
             ("none", [], None),
             ("wrong", [("traceparent", "00-1")], None),
-            ("twice", [("traceparent", GIVEN), ("traceparent", GIVEN)], None),
+            ("twice", [("traceparent", TRACEPARENT), ("traceparent", TRACEPARENT)], None),
         ):
             answer = client.post(
                 "/v1/sagas", json={"definition": "one", "key": key}, headers=httpx.Headers(headers)
@@ -483,7 +486,7 @@ def test_client_and_worker_of_python(service: Served, api: Any) -> None:
     @worker.step("one", "b")
     async def b(task: sagas.Task[Any]) -> None:
         seen.append(context_of(api.get_current_span()))
-        raise sagas.Fail("no") if task.attempt > 1 else ValueError("not yet")
+        raise sagas.Retry("not yet")
 
     thread = threading.Thread(target=worker.run)
     thread.start()
@@ -496,17 +499,17 @@ def test_client_and_worker_of_python(service: Served, api: Any) -> None:
         worker.stop()
         thread.join()
     spans = api.ENDED
-    assert [one.name for one in spans] == ["run one/a", "run one/b", "undo one/a"]
-    assert {context_of_parent(one) for one in spans} == {context_of(span)} and seen == [
-        context_of(one) for one in spans
+    assert [span.name for span in spans] == ["run one/a", "run one/b", "undo one/a"]
+    assert {context_of_parent(span) for span in spans} == {context_of(span)} and seen == [
+        context_of(span) for span in spans
     ]
-    assert [one.attributes["sagas.outcome"] for one in spans] == [
+    assert [span.attributes["sagas.outcome"] for span in spans] == [
         "succeeded",
         "failed",
         "succeeded",
     ]
     assert (
-        spans[1].attributes["error.type"] == "ValueError"
-        and spans[1].status.description == "ValueError: not yet"
+        spans[1].attributes["error.type"] == "Retry"
+        and spans[1].status.description == "sagas.Retry: not yet"
     )
     assert links_of(spans[2]) == [context_of(spans[0])]

@@ -44,7 +44,7 @@ def bank(in_thread: bool) -> sagas.Saga:
         def book(task: Task) -> str:
             task.connection.execute(text, (task.key, "book", task.idempotency_key))
             if task.input == "once" and task.attempt == 1:
-                raise ValueError("the first try fails behind its row")
+                raise ValueError("the first try fails after its row")
             return "booked"
 
         @book.compensation(tries=2, backoff=QUICK)
@@ -57,14 +57,14 @@ def bank(in_thread: bool) -> sagas.Saga:
         async def book(task: Task) -> str:
             await task.connection.execute(text, (task.key, "book", task.idempotency_key))
             if task.input == "once" and task.attempt == 1:
-                raise ValueError("the first try fails behind its row")
+                raise ValueError("the first try fails after its row")
             return "booked"
 
         @book.compensation(tries=2, backoff=QUICK)
         async def unbook(task: Task) -> None:
             await task.connection.execute(text, (task.key, "unbook", task.idempotency_key))
 
-    @bank.step(needs=["book"])
+    @bank.step(needs=bank.steps[:1])
     async def check(task: Task) -> str:
         if task.input == "fails":
             raise sagas.Fail("no")
@@ -300,7 +300,7 @@ def test_no_node_takes_a_log_during_a_step_commit(url: str, in_thread: bool) -> 
 def test_a_forgotten_await_in_a_transaction(url: str, in_thread: bool) -> None:
     """An awaitable that an async function returns is awaited within its transaction.
 
-    A plain function that returns one has failed: it cannot be awaited there.
+    A plain function that returns one has a bug: it cannot be awaited there.
     """
     prepare(url)
     kind = sagas.Saga("one")
@@ -316,19 +316,18 @@ def test_a_forgotten_await_in_a_transaction(url: str, in_thread: bool) -> None:
 
     kind.step(name="charge", transaction=True)((lambda task: book(task)) if in_thread else charge)
 
-    async def main() -> sagas.SagaResult:
+    async def main() -> None:
         async with sagas.open(url, [kind]) as store:
-            return await ended(store, kind, "k")
+            started = await store.start(kind, "k")
+            if not in_thread:
+                assert (await started.wait()).results == {"charge": "booked"}
+                return
+            (entry,) = await until(store.attention)
+            assert entry.why == "program_error"
+            assert "Declare it with async def" in (entry.detail or "")
 
-    end = run(main())
-    if in_thread:
-        assert (
-            end.states == {"charge": "failed"}
-            and "Declare it with async def" in end.errors["charge"]
-            and booked(url) == {}
-        )
-    else:
-        assert end.results == {"charge": "booked"} and booked(url) == {("k", "book"): 1}
+    run(main())
+    assert booked(url) == ({} if in_thread else {("k", "book"): 1})
 
 
 KILLED = """
@@ -390,7 +389,7 @@ def test_a_file_has_no_transactions(tmp_path: pathlib.Path) -> None:
 
     @plain.step
     def a(task: Task) -> Any:
-        with pytest.raises(RuntimeError, match="transaction=True"):
+        with pytest.raises(sagas.ProgramError, match="transaction=True"):
             task.connection
         refused.append("a")
 
@@ -450,8 +449,8 @@ def test_a_refusal_of_the_server_is_a_failed_attempt(url: str, in_thread: bool) 
             run = await store.start(shop, "k", "k")
             assert (await asyncio.wait_for(run.wait(), 60)).ok
         assert [
-            next(word for word in ("ForeignKey", "commit()", "InFailedSql") if word in one)
-            for one in details
+            next(word for word in ("ForeignKey", "commit()", "InFailedSql") if word in detail)
+            for detail in details
         ] == ["ForeignKey", "commit()", "InFailedSql"]
 
     run(main())
@@ -475,7 +474,7 @@ def test_the_function_cannot_end_its_transaction(url: str, in_thread: bool) -> N
             with task.connection.transaction():
                 task.connection.execute(text, (task.key,))
             if task.attempt == 1:
-                raise ValueError("behind its block")
+                raise ValueError("after its block")
 
     else:
 
@@ -486,7 +485,7 @@ def test_the_function_cannot_end_its_transaction(url: str, in_thread: bool) -> N
             async with task.connection.transaction():
                 await task.connection.execute(text, (task.key,))
             if task.attempt == 1:
-                raise ValueError("behind its block")
+                raise ValueError("after its block")
 
     async def main() -> None:
         async with sagas.open(url, [kind]) as store:
@@ -519,14 +518,14 @@ def test_a_transaction_that_is_over_before_its_step(url: str, in_thread: bool) -
             calls[task.attempt] += 1
             link = task.connection
             link.execute(text, (task.key,))
-            if task.attempt == 1:
+            if calls[1] == 1:
                 link.execute("ROLLBACK")
-            if task.attempt == 2:
+            if calls[1] == 2 and task.attempt == 1:
                 link.close()
-            if calls[3] == 1:
+            if calls[2] == 1:
                 link.execute(rests)
                 time.sleep(0.5)
-            if calls[3] == 2:
+            if calls[2] == 2:
                 link.pgconn.finish()
 
     else:
@@ -536,14 +535,14 @@ def test_a_transaction_that_is_over_before_its_step(url: str, in_thread: bool) -
             calls[task.attempt] += 1
             link = task.connection
             await link.execute(text, (task.key,))
-            if task.attempt == 1:
+            if calls[1] == 1:
                 await link.execute("ROLLBACK")
-            if task.attempt == 2:
+            if calls[1] == 2 and task.attempt == 1:
                 await link.close()
-            if calls[3] == 1:
+            if calls[2] == 1:
                 await link.execute(rests)
                 await asyncio.sleep(0.5)
-            if calls[3] == 2:
+            if calls[2] == 2:
                 link.pgconn.finish()
 
     events: list[tuple[str, str]] = []
@@ -557,14 +556,16 @@ def test_a_transaction_that_is_over_before_its_step(url: str, in_thread: bool) -
             going = await store.start(kind, "k")
             for number in range(5):
                 assert (await ended(store, other, f"k{number}")).ok
+            await until(store.attention)
+            await store.retry("k", "book")  # by an operator, since a program error parks it
             assert (await going.wait()).ok
 
     run(main())
-    assert calls == {1: 1, 2: 1, 3: 3} and booked(url) == {("k", "book"): 1}
+    assert calls == {1: 2, 2: 3} and booked(url) == {("k", "book"): 1}
     details = [
         detail
         for name, detail in events
-        if name in ("step_retrying", "step_unknown", "commit_failed")
+        if name in ("step_program_error", "step_retrying", "step_unknown", "commit_failed")
     ]
     assert [
         next(
@@ -576,9 +577,9 @@ def test_a_transaction_that_is_over_before_its_step(url: str, in_thread: bool) -
                 "it is closed",
                 "?",
             )
-            if word in f"{one}?"
+            if word in f"{detail}?"
         )
-        for one in details
+        for detail in details
     ] == [
         "no statement of the function",
         "close()",
@@ -695,8 +696,8 @@ def test_a_first_statement_that_fails(url: str, in_thread: bool) -> None:
 
 
 def test_a_first_statement_that_is_abandoned(url: str) -> None:
-    """The function gives up on it, and continues: its connection is of no use any more, nothing of
-    it is stored, and it is called again.
+    """The function does not wait for it, and continues: its connection is of no use any more,
+    nothing of it is stored, and it is called again.
     """
     prepare(url)
     kind, calls = sagas.Saga("one"), []
@@ -721,7 +722,7 @@ def test_a_first_statement_that_is_abandoned(url: str) -> None:
     assert booked(url) == {("k", "book"): 1}
 
 
-def test_connections_are_handed_out(postgresql: Server, url: str) -> None:
+def test_connections_are_passed_on(postgresql: Server, url: str) -> None:
     """There is a limit; a waiting caller gets the next one; one that broke while it was idle is not
     passed out; a caller that gave up has none.
     """
@@ -860,14 +861,14 @@ def test_a_function_that_asks_late(url: str) -> None:
 
     @kind.step(transaction=True)
     async def book(task: Task) -> None:
-        async def behind() -> None:
+        async def follow() -> None:
             await asyncio.sleep(0.05)
-            with pytest.raises(RuntimeError, match="no transaction"):
+            with pytest.raises(sagas.ProgramError, match="no transaction"):
                 task.connection
             left.append(task.key)
 
         if task.input == "leaves":
-            left.append(asyncio.create_task(behind()))
+            left.append(asyncio.create_task(follow()))
             return
         await asyncio.sleep(0.05)
         await task.connection.execute(
@@ -908,22 +909,22 @@ def test_a_short_function_returns_its_connection(url: str) -> None:
             raise sagas.Fail("at once")
         elif task.input == "asks and raises":
             raise sagas.Fail(str(task.connection.closed))
-        elif task.input == "gives":
+        elif task.input == "returns":
             return row()
         return task.input
 
     async def main() -> None:
         async with sagas.open(url, [kind], concurrency=2) as store:
-            for way in ("asks", "raises", "asks and raises", "nothing", "gives"):
+            for way in ("asks", "raises", "asks and raises", "nothing", "returns"):
                 ends = await asyncio.gather(
                     *(ended(store, kind, f"{way} {number}", way) for number in range(20))
                 )
                 states = {end.states["book"] for end in ends}
                 assert states == ({"failed"} if "raises" in way else {"committed"}), way
-                assert way != "gives" or {end.result_of(book) for end in ends} == {"late"}
+                assert way != "returns" or {end.result_of(book) for end in ends} == {"late"}
 
     run(main())
-    assert booked(url) == {(f"gives {number}", "book"): 1 for number in range(20)}
+    assert booked(url) == {(f"returns {number}", "book"): 1 for number in range(20)}
 
 
 NODE, OTHERS = 7, "other"
@@ -936,7 +937,7 @@ class Count:
     """The most connections of an application that the server had at once."""
 
     def __init__(self, url: str, name: str) -> None:
-        self.most = self.looks = 0
+        self.highest = self.looks = 0
         self._url, self._name = f"{url}?application_name={OTHERS}", name
         self._is_over = threading.Event()
         self._thread = threading.Thread(target=self._look)
@@ -953,7 +954,7 @@ class Count:
         with psycopg.connect(self._url, autocommit=True) as link:
             while not self._is_over.wait(0.002):
                 ((count,),) = link.execute(text, (self._name,)).fetchall()
-                self.most, self.looks = max(self.most, count), self.looks + 1
+                self.highest, self.looks = max(self.highest, count), self.looks + 1
 
     def __exit__(self, *_: object) -> None:
         self._is_over.set()
@@ -1020,14 +1021,14 @@ def test_how_many_connections_a_node_has(url: str) -> None:
                         *(client.start(mixed, f"c{number}") for number in range(60)),
                     )
                     gate.set()
-                    reads = (store.list, store.stuck, store.unknown) * 20
+                    reads = (store.list, store.attention) * 30
                     logs = [store.log(f"k{number}") for number in range(20)]
                     await asyncio.gather(*(ask() for ask in reads), *logs)
                     ends = await asyncio.gather(*(run.wait() for run in runs))
                     assert all(end.ok for end in ends)
                     keys = [f"held {number}" for number in range(8)]
                     await asyncio.gather(*(surely_finished(client, key) for key in keys))
-        assert concurrency < count.most <= concurrency + NODE and count.looks > 20
+        assert concurrency < count.highest <= concurrency + NODE and count.looks > 20
 
     run(main())
 

@@ -18,12 +18,12 @@ from serving import error_of, served, start, token
 from test_children import Backwards
 from test_command import Shell
 from test_service_webhooks import Receiver, table, written
-from test_service_workers import ONE
+from test_service_workers import ONE_STEP
 
 import sagas
 import sagas.testing
 from sagas.core import reports
-from sagas.definition import children
+from sagas.definition import child_sagas
 from sagas.storage import admin, archive
 from sagas.storage.filters import Scope
 
@@ -65,7 +65,7 @@ class Family:
         """Return what needs an operator about the parent."""
 
         async def entries() -> list[sagas.Attention]:
-            return [one for one in await store.attention() if one.key == key]
+            return [entry for entry in await store.attention() if entry.key == key]
 
         (entry,) = await until(entries)
         assert isinstance(entry, sagas.Attention)
@@ -87,12 +87,12 @@ def test_an_undo_saga_is_not_aborted(location: str, capsys: pytest.CaptureFixtur
             ):
                 await store.abort("t/:kid:undo", by="ann")
             assert world.child.name in [
-                one.saga for one in await store.list(labels={"customer": "7"})
+                summary.saga for summary in await store.list(labels={"customer": "7"})
             ]
             arguments = ("abort", "--all", "--label", "customer=7")
             assert (
-                await asyncio.to_thread(shell, *arguments)
-                == "1 saga: --yes aborts it\n1 saga skipped, because it undoes a child\n"
+                await asyncio.to_thread(shell, *arguments) == "1 saga: --yes aborts it\n"
+                "1 saga skipped, because it undoes a child or calls on_end\n"
             )
             assert await asyncio.to_thread(shell.json, *arguments) == {"count": 1, "undoing": 1}
             result = await store.abort_all(labels={"customer": "7"}, by="ann")
@@ -104,12 +104,12 @@ def test_an_undo_saga_is_not_aborted(location: str, capsys: pytest.CaptureFixtur
             )
             assert (
                 await asyncio.to_thread(shell, *arguments, "--yes")
-                == "t/:kid:undo: skipped, because it undoes a child\n"
+                == "t/:kid:undo: skipped, because it undoes a child or calls on_end\n"
             )
             refusal = {
                 "key": "t/:kid:undo",
                 "asked": "abort",
-                "answer": "skipped, because it undoes a child",
+                "answer": "skipped, because it undoes a child or calls on_end",
             }
             assert await asyncio.to_thread(shell.json, *arguments, "--yes") == [refusal]
             assert await asyncio.to_thread(shell, "abort", "t/:kid:undo", status=1) == ""
@@ -134,9 +134,9 @@ def test_a_client_or_another_node_cannot_abort_an_undo(url: str) -> None:
             started = await store.start(world.top, "t")
             await until(lambda: world.done == ["c", "b"])
             async with sagas.open(url, world.all, node="two") as other:
-                for one in (client, other):
+                for caller in (client, other):
                     with pytest.raises(sagas.NotAbortable):
-                        await one.abort("t/:kid:undo")
+                        await caller.abort("t/:kid:undo")
             assert (await client.abort_all(saga="child-undo")).undoing == ["t/:kid:undo"]
             world.gate.set()
             assert (await started.wait(60)).states["kid"] == "undone"
@@ -231,7 +231,7 @@ def test_an_undone_grandchild_stays_undone(location: str) -> None:
             started = await store.start(top, "t")
 
             async def exhausted_keys() -> list[str]:
-                return [one.key for one in await store.attention()]
+                return [entry.key for entry in await store.attention()]
 
             await until(exhausted_keys)
             assert await exhausted_keys() == ["t/:kid:undo"]
@@ -242,7 +242,7 @@ def test_an_undone_grandchild_stays_undone(location: str) -> None:
             broken.clear()
             await store.retry("t", "kid", undo=True)
             assert (await started.wait(60)).states == {"kid": "undone", "fin": "failed"}
-            keys = {one.key for one in await store.list()}
+            keys = {summary.key for summary in await store.list()}
             assert {"t/:kid:undo/:below", "t/:kid:undo/2", "t/:kid:undo/2/:below"} <= keys
 
     run(main())
@@ -279,7 +279,11 @@ def test_undone_compensations_are_not_requested_again(location: str) -> None:
             await until(lambda: store.active_attempts("t/:kid:undo"))
             await store.complete("t/:kid:undo", "b")
             await until(
-                lambda: [one for one in store.active_attempts("t") if one.waits == "exhausted"]
+                lambda: [
+                    attempt
+                    for attempt in store.active_attempts("t")
+                    if attempt.waits == "exhausted"
+                ]
             )
             broken.clear()
             await store.retry("t", "kid", undo=True)
@@ -323,7 +327,11 @@ class Hand:
 
     async def started_and_waiting(self, store: sagas.Store) -> sagas.Run:
         run = await store.start(self.top, "t", "fails")
-        await until(lambda: [one for one in store.active_attempts("t") if one.waits == "exhausted"])
+        await until(
+            lambda: [
+                attempt for attempt in store.active_attempts("t") if attempt.waits == "exhausted"
+            ]
+        )
         return run
 
 
@@ -377,7 +385,7 @@ def test_a_child_step_is_completed_with_a_childs_result(
             arguments = ("complete", "t", "kid", "--result")
             for wrong in (None, result("good/:kid")):
                 assert await asyncio.to_thread(shell, *arguments, json.dumps(wrong), status=1) == ""
-            assert [one.waits for one in store.active_attempts("t")] == ["exhausted"]
+            assert [attempt.waits for attempt in store.active_attempts("t")] == ["exhausted"]
             right = result(None)
             assert (
                 await asyncio.to_thread(shell, *arguments, json.dumps(right))
@@ -406,7 +414,11 @@ def test_the_rest_of_its_child_is_undone(location: str) -> None:
             await store.retry("t", "kid")
             await until(lambda: store.get("t/:kid/2"))
             await until(
-                lambda: [one for one in store.active_attempts("t") if one.waits == "exhausted"]
+                lambda: [
+                    attempt
+                    for attempt in store.active_attempts("t")
+                    if attempt.waits == "exhausted"
+                ]
             )
             await store.complete("t", "kid", result("t/:kid"))
         async with sagas.open(location, world.all) as store:
@@ -434,12 +446,12 @@ def test_a_wrong_stored_result_needs_an_operator(
             async def entries() -> list[sagas.Attention]:
                 return await store.attention()
 
-            (one,) = await until(entries)
-            assert (one.key, one.step, one.undo) == (
+            (entry,) = await until(entries)
+            assert (entry.key, entry.step, entry.undo) == (
                 "t",
                 "kid",
                 True,
-            ) and "no key of a child" in str(one.detail)
+            ) and "no key of a child" in str(entry.detail)
             await store.complete("t", "kid", undo=True)
             assert (await started.wait(60)).states["kid"] == "undone"
 
@@ -480,7 +492,7 @@ def test_attributes_that_an_undo_has_of_its_child(location: str) -> None:
     those that undo them.
     """
     calls, gate = list[str](), asyncio.Event()
-    child, top = sagas.Saga("child", fair_by=lambda given: given["number"]), sagas.Saga("top")
+    child, top = sagas.Saga("child", fair_by=lambda input: input["number"]), sagas.Saga("top")
 
     def room(task: sagas.Task[Account]) -> None:
         ...
@@ -510,20 +522,24 @@ def test_attributes_that_an_undo_has_of_its_child(location: str) -> None:
             await until(lambda: len(calls) == 2)
             held = "t" if "s/:kid" in calls else "s"
             await until(
-                lambda: [one for one in store.active_attempts(f"{held}/:kid:undo") if one.waits]
+                lambda: [
+                    attempt
+                    for attempt in store.active_attempts(f"{held}/:kid:undo")
+                    if attempt.waits
+                ]
             )
             (waits,) = await store.waits_for(f"{held}/:kid:undo")
             assert waits == "room waits for a slot of its concurrency"
             tenants = {
-                key: one.tenant
-                for key, one in store._coordinator.sagas.by_key.items()
-                if children.undoes_child(key)
+                key: instance.tenant
+                for key, instance in store._coordinator.sagas.by_key.items()
+                if child_sagas.undoes_child(key)
             }
             assert tenants == {"s/:kid:undo": '"7"', "t/:kid:undo": '"7"', "u/:kid:undo": '"8"'}
             assert await store.count(saga="child-undo", labels={"of": "7"}) == 2
             gate.set()
-            for one in undone_sagas:
-                assert (await one.wait(60)).states["kid"] == "undone"
+            for undone_saga in undone_sagas:
+                assert (await undone_saga.wait(60)).states["kid"] == "undone"
 
     run(main())
 
@@ -568,7 +584,7 @@ def test_scopes() -> None:
         ("t:undo", False),
         ("t:undo/:kid", False),
     ):
-        assert scope.has_saga("leaf-undo", key) == children.undoes_child(key) == sees
+        assert scope.has_saga("leaf-undo", key) == child_sagas.undoes_child(key) == sees
         assert scope.has_saga("leaf", key) and not scope.has_saga("other-undo", key)
     assert not Scope(frozenset({"leaf"}), frozenset({"s"})).has_saga("leaf-undo", "t/:kid:undo")
     assert Scope().has_saga("any", None) and not scope.has_saga("leaf-undo", None)
@@ -584,8 +600,8 @@ import sagas
 leaf, plain = sagas.Saga("leaf"), sagas.Saga("plain")
 room = leaf.step(lambda task: 1, name="room", keep=9)
 def closed(task):
-    raise ValueError("closed")
-room.compensation(closed)
+    raise sagas.Retry("closed")
+room.compensation(tries=1)(closed)
 def no(task):
     raise sagas.Fail("no")
 plain.step(no, name="first")
@@ -620,7 +636,9 @@ def test_over_http(tmp_path: pathlib.Path) -> None:
         "--local-webhooks",
     )
     path = f"/v1/sagas/{quote(undo, safe='')}"
-    with served(tmp_path, {"one.toml": ONE}, *options) as service, service.client(every) as client:
+    with served(tmp_path, {"one.toml": ONE_STEP}, *options) as service, service.client(
+        every
+    ) as client:
         assert (
             start(client, "top", "t").status_code == start(client, "hand", "h").status_code == 201
         )
@@ -653,10 +671,11 @@ def test_over_http(tmp_path: pathlib.Path) -> None:
                 ("?definition=leaf", {"t/:kid"}),
             ):
                 assert {
-                    one["key"] for one in owner.get(f"/v1/sagas{query}").json()["sagas"]
+                    saga["key"] for saga in owner.get(f"/v1/sagas{query}").json()["sagas"]
                 } == keys
             assert [
-                one["key"] for one in owner.get("/v1/attention?kind=exhausted").json()["entries"]
+                entry["key"]
+                for entry in owner.get("/v1/attention?kind=exhausted").json()["entries"]
             ] == [undo]
             assert error_of(stranger.get("/v1/sagas?definition=leaf-undo")) == "Forbidden"
             assert stranger.get("/v1/attention?kind=exhausted").json()["entries"] == []
@@ -771,7 +790,7 @@ def test_in_a_simulation() -> None:
     """
     child, top = sagas.Saga("child"), sagas.Saga("top")
     step = child.step(lambda task: 1, name="room", keep=9)
-    step.compensation(on_exhausted="fail")(lambda task: None)
+    step.compensation(on_exhausted="fail", tries=1)(lambda task: None)
     kid = top.child(child, name="kid", input=lambda task: 1, on_exhausted="ask", keep=9)
     last = top.step(lambda task: None, name="fin", needs=[kid])
     for answers, state in (({}, "undo_failed"), ({kid: None}, "undone")):
@@ -779,7 +798,9 @@ def test_in_a_simulation() -> None:
             top, fail={last: sagas.Fail("no")}, fail_undo={step: 1}, answers=answers
         )
         assert trial.states["kid"] == state
-    trial = sagas.testing.run(top, fail={kid: 1, last: 1}, answers={kid: result(None)})
+    trial = sagas.testing.run(
+        top, fail={kid: sagas.Retry, last: sagas.Fail}, answers={kid: result(None)}
+    )
     assert trial.states["kid"] == "undone" and not trial.children
     world = Hand()
     trial = sagas.testing.run(

@@ -21,7 +21,7 @@ from selenium.webdriver.common.by import By
 from serving import Served, served, start, take
 from shaped import Hotel, Package, Trip, parcels
 from test_service_page import CONTRAST, Browser
-from test_service_workers import ONE
+from test_service_workers import ONE_STEP
 
 import sagas
 from sagas.cli.store_command import main
@@ -30,13 +30,14 @@ from sagas.inspection import layout, picture, saga as one_saga
 from sagas.inspection.picture import MAX_ITEMS, StepDisplay, boxes_of
 from sagas.inspection.question import StoreReader
 from sagas.inspection.views import SagaView
+from sagas.server.auth import Principal
 from sagas.server import declared_steps, json_views
 from sagas.server.routes import saga_pages
 from sagas.server.table_rows import FEW
 
 DONE = StepDisplay("done", "", False, "committed", "committed")
 FAILED = StepDisplay("failed", "no", False, "failed", "failed")
-GIVEN = Trip(Package(Hotel("Rome", ["a", "b"], True), ["vw", "bmw"]))
+INPUT = Trip(Package(Hotel("Rome", ["a", "b"], True), ["vw", "bmw"]))
 SHOP = pathlib.Path(__file__).with_name("unfolding_shop.py")
 
 
@@ -48,7 +49,7 @@ def steps_of(text: str) -> list[tuple[str, list[str]]]:
 
 def test_the_groups_of_a_definition() -> None:
     """Inclusions two deep, an inclusion for each item, and items; a single one is not a group."""
-    groups = Groups.read(shaped.trip.toml(GIVEN))
+    groups = Groups.read(shaped.trip.toml(INPUT))
     titles = {name: group.title for name, group in groups.by_name.items()}
     assert titles == {
         "p": "p: 7 steps",
@@ -59,14 +60,14 @@ def test_the_groups_of_a_definition() -> None:
 
     def shown(*unfold: str) -> list[Any]:
         blocks = groups.blocks(len(groups.origins), unfold)
-        return [one.group.name if one.group else one.steps[0] for one in blocks]
+        return [block.group.name if block.group else block.steps[0] for block in blocks]
 
     assert shown() == [0, "p", 8]
     assert shown("p") == [0, "p/hotel", "p/car", 8] == shown("p", "nobody")
     assert shown("p", "p/hotel", "p/car") == [0, 1, "p/hotel/room", 4, 5, 6, 7, 8]
     assert shown(ALL) == [*range(9)]
-    one = Groups.read(shaped.order.toml(parcels(1)))
-    assert one.by_name == {} and len(one.origins) == 4
+    row = Groups.read(shaped.order.toml(parcels(1)))
+    assert row.by_name == {} and len(row.origins) == 4
     assert Groups.read(shaped.plain.toml()).origins == []
 
 
@@ -120,14 +121,14 @@ def test_the_boxes_of_items() -> None:
 
 def test_drawings_for_graphviz(tmp_path: pathlib.Path, capsys: Any) -> None:
     """Of a definition, and of a saga with its plan, also by the command; each may be unfolded."""
-    given = parcels(4, 1)
-    assert '  "ship" [shape=box label="ship ×4\\nundo 10"];' in shaped.order.draw(given)
-    assert '  "mail" -> "label";' in shaped.order.draw(given)
-    whole = shaped.order.draw(given, unfold=["*"])
+    value = parcels(4, 1)
+    assert '  "ship" [shape=box label="ship ×4\\nundo 10"];' in shaped.order.draw(value)
+    assert '  "mail" -> "label";' in shaped.order.draw(value)
+    whole = shaped.order.draw(value, unfold=["*"])
     assert '"ship-3"' in whole and '"ship"' not in whole
     location = str(tmp_path / "store.db")
     with sagas.open_sync(location, [shaped.order]) as store:
-        assert store.start(shaped.order, "k", given).wait().phase == "recovered"
+        assert store.start(shaped.order, "k", value).wait().phase == "recovered"
         assert r'label="ship ×4\n3 committed, kept\n1 failed\nundo 10"' in store.draw("k")
         some = store.draw("k", unfold=["ship"])
         assert '  "ship-1" [shape=octagon' in some and '  "label" -> "ship-1";' in some
@@ -149,12 +150,12 @@ def test_drawings_for_graphviz(tmp_path: pathlib.Path, capsys: Any) -> None:
 
 def test_declared_steps() -> None:
     """Also of a saga whose steps come from its input: names, needs, and costs that come from it."""
-    by_name = {one.name: one for one in declared_steps.of(shaped.trip)}
+    by_name = {step.name: step for step in declared_steps.of(shaped.trip)}
     assert by_name["p/hotel/room"].needs == ["p/hotel/book"] and by_name["p/hotel/room"].for_each
     assert by_name["p/car/take"].needs == ["p/hotel/confirm"]
     assert by_name["tour"].needs == ["p/car/take"] and not by_name["tour"].for_each
     assert by_name["p/hotel/breakfast"].note == "for some inputs"
-    costs = {one.name: one.costs for one in declared_steps.of(shaped.order)}
+    costs = {step.name: step.costs for step in declared_steps.of(shaped.order)}
     assert costs["ship"] == {"run": 0, "undo": 10, "skip": 0, "keep": "input"}
     assert costs["mail"]["skip"] == "input" and costs["reserve"]["keep"] == 0
 
@@ -171,13 +172,15 @@ def test_a_definition_is_read_once(tmp_path: pathlib.Path, monkeypatch: pytest.M
         async with sagas.open(str(tmp_path / "store.db"), [shaped.order]) as store:
             await store.start(shaped.order, "k", parcels(5, 2))
             assert (await store.wait("k")).phase == "recovered"
-            with contextlib.closing(StoreReader(store.reader())) as looks:
+            with contextlib.closing(StoreReader(store._reader())) as looks:
                 monkeypatch.setattr(tomllib, "loads", counted)
                 return looks.ask(one_saga.view("k"))
 
     view = asyncio.run(main())
     assert view and view.plan
-    page = saga_pages.template_values(view, lambda name, text: set(), time.time(), "*")
+    page = saga_pages.template_values(
+        view, Principal("ann", frozenset({"operator"})), lambda name, text: set(), time.time(), "*"
+    )
     assert [*page["choices"]] == [step.name for step in view.steps] and page["attempts"].shown
     assert json_views.timeline(view, time.time())["attempts"]
     assert len(texts) <= 1
@@ -194,8 +197,8 @@ def shots(tmp_path_factory: pytest.TempPathFactory) -> pathlib.Path:
 @pytest.fixture(scope="module")
 def service(shots: pathlib.Path) -> Iterator[Served]:
     (shots / "shop.py").write_text(SHOP.read_text())
-    with served(shots, {"one.toml": ONE}, "--app", "shop:store") as one:
-        with one.client() as client:
+    with served(shots, {"one.toml": ONE_STEP}, "--app", "shop:store") as service:
+        with service.client() as client:
             for count in (0, 1, 3, 50, 500):
                 parcels: Any = [f"t{number}" for number in range(count)]
                 if count == 50:
@@ -207,7 +210,7 @@ def service(shots: pathlib.Path) -> Iterator[Served]:
                 take(client, "order/mail")
             assert client.get("/v1/sagas/of-50/wait?seconds=60").json()["phase"] == "recovered"
             assert client.get("/v1/sagas/trip/wait?seconds=60").json()["phase"] == "completed"
-        yield one
+        yield service
 
 
 def rows(text: str, table: str = "Steps") -> list[tuple[str, str]]:
@@ -215,7 +218,7 @@ def rows(text: str, table: str = "Steps") -> list[tuple[str, str]]:
     part = text[text.index(f'aria-label="{table}"') :]
     part = part[: part.index("</table>")]
     matches = re.findall(r'<th scope="row"[^>]*>(.*?)</th><td>(.*?)</td>', part, re.S)
-    plain = [tuple(html.unescape(re.sub(r"<[^>]*>", "", one)) for one in row) for row in matches]
+    plain = [tuple(html.unescape(re.sub(r"<[^>]*>", "", cell)) for cell in row) for row in matches]
     return [(name, state) for name, state in plain]
 
 
@@ -264,16 +267,16 @@ def test_reads_do_not_wait_for_pages(service: Served) -> None:
                 pages.append(len(page(client, "/ui/sagas/of-500")))
 
     people = [threading.Thread(target=looks) for _ in range(5)]
-    for one in people:
-        one.start()
+    for thread in people:
+        thread.start()
     reads = 0
     with service.client() as client:
-        while len(pages) < 20 and all(one.is_alive() for one in people):
+        while len(pages) < 20 and all(thread.is_alive() for thread in people):
             assert client.get("/v1/sagas?limit=1").status_code == 200
             reads += 1
     is_over.set()
-    for one in people:
-        one.join()
+    for thread in people:
+        thread.join()
     assert len(pages) >= 20 and reads > 20, reads
 
 
@@ -332,7 +335,10 @@ def test_the_service_has_the_same_in_its_api(service: Served) -> None:
         assert "ship: 38 more" in client.get("/v1/sagas/of-50/picture.svg?unfold=ship").text
         assert "ship ×50" not in client.get("/v1/sagas/of-50/picture.svg?unfold=*").text
         definitions = client.get("/v1/definitions").json()["definitions"]
-        steps = {one["name"]: {step["name"]: step for step in one["steps"]} for one in definitions}
+        steps = {
+            definition["name"]: {step["name"]: step for step in definition["steps"]}
+            for definition in definitions
+        }
         ship, room = steps["order"]["ship"], steps["trip"]["stay/room"]
         assert (ship["for_each"], ship["computed"], ship["keep"]) == (True, ["keep"], None)
         assert (room["needs"], room["for_each"], room["conditional"]) == (

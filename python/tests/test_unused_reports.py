@@ -40,7 +40,7 @@ def order(
     def refund(task: Task) -> None:
         if left[0]:
             left[0] -= 1
-            raise ValueError("not now")
+            raise sagas.Retry("not now")
         calls.append(
             (
                 "refund",
@@ -62,7 +62,9 @@ async def aborted(store: Any, saga: sagas.Saga, gate: asyncio.Event, key: str = 
     """Return a saga that has ended without a report that was accepted."""
     gate.clear()
     begun = await store.start(saga, key, {"n": 1})
-    await until(lambda: [one for one in store.active_attempts(key) if one.step == "reserve"])
+    await until(
+        lambda: [attempt for attempt in store.active_attempts(key) if attempt.step == "reserve"]
+    )
     await store.complete(key, "pay", RESULT, by="ada")
     await store.fail(key, "other", "no")
     await store.complete(key, "sign", True)
@@ -85,11 +87,11 @@ def test_an_operator_has_it_compensated(location: str, capsys: pytest.CaptureFix
     saga = order(calls, gate, faults=2)
 
     async def main() -> None:
-        heard = lambda one: events.append(one.name)
+        heard = lambda event: events.append(event.name)
         async with sagas.open(location, [saga], on_event=heard) as store:
             await aborted(store, saga, gate)
-            (one,) = await store.attention()
-            assert (one.key, one.why, one.step, one.undo, one.by) == (
+            (entry,) = await store.attention()
+            assert (entry.key, entry.why, entry.step, entry.undo, entry.by) == (
                 "k",
                 AttentionReason.UNUSED_REPORT,
                 "pay",
@@ -97,7 +99,7 @@ def test_an_operator_has_it_compensated(location: str, capsys: pytest.CaptureFix
                 "ada",
             )
             assert (
-                json.loads(one.detail or "") == RESULT and events.count("saga_unused_report") == 1
+                json.loads(entry.detail or "") == RESULT and events.count("saga_unused_report") == 1
             )
             output = await asyncio.to_thread(shell, "attention")
             assert "unused report" in output and '{"euros":40} by ada' in output
@@ -129,9 +131,11 @@ def test_an_operator_has_it_compensated(location: str, capsys: pytest.CaptureFix
                 await store.resolve("k", "by hand")
             assert all(verdict.startswith("yes") for verdict in (await store.audit()).values())
         notes = [
-            one for one in await asyncio.to_thread(shell.json, "log", "k") if one["event"] == "note"
+            event
+            for event in await asyncio.to_thread(shell.json, "log", "k")
+            if event["event"] == "note"
         ]
-        assert any("compensate" in str(one) and "bob" in str(one) for one in notes)
+        assert any("compensate" in str(note) and "bob" in str(note) for note in notes)
 
     run(main())
     assert "child    k/:pay:undo (completed)" in shell("show", "k")
@@ -155,9 +159,13 @@ def test_an_operator_resolves_it(location: str, capsys: pytest.CaptureFixture[st
             with pytest.raises(sagas.StepNotWaiting, match="resolved already"):
                 await store.compensate("k", "pay")
             assert "l: resolved" in await asyncio.to_thread(shell, "resolve", "l", "--note", "too")
-            assert [one.key for one in await store.attention()] == ["m"]
+            assert [entry.key for entry in await store.attention()] == ["m"]
             assert (await store.resolve_all("all")).done == ["m"]
-            assert {one.key for one in await store.list(phase="resolved")} == {"k", "l", "m"}
+            assert {summary.key for summary in await store.list(phase="resolved")} == {
+                "k",
+                "l",
+                "m",
+            }
             assert await store.attention() == [] and calls == ["release"] * 3
 
     run(main())
@@ -172,8 +180,8 @@ def test_compensation_without_an_operator_over_a_kill(location: str) -> None:
             gate = asyncio.Event()
             saga = order([], gate, early_unused="compensate")
 
-            def heard(one: Any) -> None:
-                if one.name == "saga_unused_report":
+            def heard(event: Any) -> None:
+                if event.name == "saga_unused_report":
                     os.kill(os.getpid(), signal.SIGKILL)
 
             async def first() -> None:
@@ -239,7 +247,7 @@ def test_over_a_kill_between_the_start_and_the_acknowledgement(location: str) ->
             await until(lambda: store.get("k/:pay:undo"))
             assert (await store.wait("k/:pay:undo", 60)).ok
             done = [*calls]
-            assert [one.step for one in await store.attention()] == ["pay"]
+            assert [entry.step for entry in await store.attention()] == ["pay"]
             await store.compensate("k", "pay")
             assert await store.attention() == [] and calls == done and len(calls) <= 1
 
@@ -287,8 +295,8 @@ def test_with_items_a_codec_and_blobs(location: str, tmp_path: Any) -> None:
             await store.abort("k")
             gate.set()
             await begun.wait(60)
-            (one,) = await store.attention()
-            assert (one.step, one.by, json.loads(one.detail or "")) == ("pay-1", None, large)
+            (entry,) = await store.attention()
+            assert (entry.step, entry.by, json.loads(entry.detail or "")) == ("pay-1", None, large)
             ((stored,),) = await store._access.coordinator.store.read(
                 "SELECT detail FROM suspensions WHERE number = 0"
             )
@@ -318,7 +326,9 @@ def test_a_worker_compensates_an_item_of_an_included_saga(location: str) -> None
         async with store:
             begun = await store.start(outer, "k", {"items": {"a": 1, "b": 2}})
             await until(
-                lambda: [one for one in store.active_attempts("k") if one.waits == "approval"]
+                lambda: [
+                    attempt for attempt in store.active_attempts("k") if attempt.waits == "approval"
+                ]
             )
             await store.complete("k", "part-pay-1", RESULT)
             await store.abort("k")
@@ -334,7 +344,7 @@ def test_a_worker_compensates_an_item_of_an_included_saga(location: str) -> None
                 RESULT,
             )
             assert (task.input, json.loads(leased.given)) == ({"items": {"a": 1, "b": 2}}, "done")
-            fields = task.plain
+            fields = task._plain
             assert (fields["item"], fields["item_key"], fields["shape"]["saga"]) == (
                 2,
                 "b",
@@ -358,7 +368,7 @@ def test_a_compensation_of_an_unused_report_fails(location: str) -> None:
         await gate.wait()
 
     pay = saga.step(name="pay", external=True, needs=[hold], keep=9)
-    pay.compensation(lambda task: 1 / 0)
+    pay.compensation(tries=1, no_effect=(ZeroDivisionError,))(lambda task: 1 / 0)
     saga.step(name="ship", external=True, needs=[hold])
 
     async def main() -> None:
@@ -375,12 +385,16 @@ def test_a_compensation_of_an_unused_report_fails(location: str) -> None:
             await store.compensate("k", "pay")
             await until(
                 lambda: [
-                    one for one in store.active_attempts("k/:pay:undo") if one.waits == "exhausted"
+                    attempt
+                    for attempt in store.active_attempts("k/:pay:undo")
+                    if attempt.waits == "exhausted"
                 ]
             )
 
             async def asks() -> bool:
-                entries = {(one.key, one.step, one.why.value) for one in await store.attention()}
+                entries = {
+                    (entry.key, entry.step, entry.why.value) for entry in await store.attention()
+                }
                 return entries == {
                     ("k", "ship", "unused_report"),
                     ("k/:pay:undo", "pay", "exhausted"),
@@ -407,7 +421,7 @@ def test_from_elsewhere(url: str, capsys: pytest.CaptureFixture[str]) -> None:
         output = await asyncio.to_thread(shell, "compensate", "l", "pay", "--timeout", "0")
         assert "requested" in output
         async with sagas.open(url, [saga], node="two") as store, sagas.Client(url) as client:
-            assert {one.key for one in await client.attention()} >= {"k"}
+            assert {entry.key for entry in await client.attention()} >= {"k"}
             await client.compensate("k", "pay", by="cleo")
             await client.compensate("k", "pay", by="cleo")
             await until(lambda: store.get("l/:pay:undo"))

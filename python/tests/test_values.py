@@ -2,6 +2,7 @@
 
 from __future__ import annotations
 
+import collections
 import collections.abc
 import dataclasses
 import datetime
@@ -19,7 +20,7 @@ from cases import run, simple
 from hypothesis import given, strategies as st
 
 import sagas
-from sagas.definition import decoders, serialization, type_checks
+from sagas.definition import decoders, serialization
 from sagas.definition.type_checks import Mismatch
 
 JSON = st.recursive(
@@ -129,7 +130,7 @@ class SeatBox(Box[Seat]):
 
 @dataclasses.dataclass
 class Columns(Generic[typing.Unpack[Ts]]):
-    """A class whose variable stands for several types."""
+    """A class whose variable has several types."""
 
     rows: list[tuple[typing.Unpack[Ts]]]
 
@@ -251,10 +252,77 @@ def test_dataclasses() -> None:
     ],
 )
 def test_types(value: Any, hint: Any) -> None:
-    """The check at a start accepts the value, too."""
+    """A value is the same after it was stored."""
     assert there_and_back(value, hint) == value
-    if check := type_checks.check(hint):
-        check(serialization.read(serialization.write(value)))
+
+
+class Sku(str):
+    """A class that is stored as a text."""
+
+
+class Span(NamedTuple):
+    """A field of it was added."""
+
+    first: int
+    last: int = 9
+
+
+WRONG = object()
+
+
+@pytest.mark.parametrize(
+    "value, hint, expected",
+    [
+        (5, float, 5.0),
+        (5, Optional[float], 5.0),
+        (5, int | float, 5),
+        (5.5, int | float, 5.5),
+        (5.0, int, 5),
+        (5.5, int, WRONG),
+        (2**60, float, 2.0**60),
+        (2**60 + 1, float, WRONG),
+        (10**400, float, WRONG),
+        (1e300, int, WRONG),
+        (True, int, WRONG),
+        (True, int | str, WRONG),
+        (1, bool, WRONG),
+        (0, None, WRONG),
+        ("5", int | None, WRONG),
+        ("5", decimal.Decimal | str, decimal.Decimal("5")),
+        ("x", decimal.Decimal | str, "x"),
+        ("red", typing.Literal[Colour.RED], Colour.RED),
+        (1, typing.Literal[True], WRONG),
+        (3, Size, Size.LARGE),
+        (3.0, Size, WRONG),
+        ([1], Span, Span(1)),
+        ([], Span, WRONG),
+        ("x", Sku, Sku("x")),
+        (5, Sku, WRONG),
+        ("x", bytes, WRONG),
+        ({"a": 1}, collections.OrderedDict, collections.OrderedDict(a=1)),
+        ({"a": 1}, collections.defaultdict[str, int], {"a": 1}),
+        ({"a": "1"}, collections.defaultdict[str, int], WRONG),
+        ([["a", 1]], dict[str, int], WRONG),
+        ({"1": 1}, list[int], WRONG),
+        ([1, 2, 3], tuple[int, int], WRONG),
+        ([[1]], set[Any], WRONG),
+        ("2026-01-02", datetime.datetime, WRONG),
+        ("2026-01-02T03:04", datetime.date, WRONG),
+        (5, uuid.UUID, WRONG),
+        (5, Any, 5),
+        (5, object, 5),
+        (5, collections.abc.Hashable, 5),
+    ],
+)
+def test_a_value_is_read_as_another_type_only_if_nothing_is_lost(
+    value: Any, hint: Any, expected: Any
+) -> None:
+    if expected is WRONG:
+        with pytest.raises(Mismatch):
+            there_and_back(value, hint)
+    else:
+        read = there_and_back(value, hint)
+        assert read == expected and isinstance(read, type(expected))
 
 
 def test_a_decimal_is_the_number_that_is_written() -> None:
@@ -263,7 +331,7 @@ def test_a_decimal_is_the_number_that_is_written() -> None:
     """
     decoder = decoders.decoder(decimal.Decimal)
     assert decoder
-    assert [decoder(one) for one in ("19.90", 19.99, 7)] == [
+    assert [decoder(value) for value in ("19.90", 19.99, 7)] == [
         decimal.Decimal(text) for text in ("19.90", "19.99", "7")
     ]
     for wrong in (True, [0, [1], 0], "x", None):
@@ -311,13 +379,11 @@ def test_another_input_of_a_union_is_another_start(location: str) -> None:
     run(main())
 
 
-def test_a_key_that_is_not_of_its_hint() -> None:
-    """It stays the text that it is: the stored value may be older than the hint."""
-    decoder = decoders.decoder(dict[int, datetime.date])
-    assert decoder and decoder({"7": "2026-01-02", "seven": "2026-01-03"}) == {
-        7: datetime.date(2026, 1, 2),
-        "seven": datetime.date(2026, 1, 3),
-    }
+@pytest.mark.parametrize("hint", [int, float, bool, Colour, datetime.date, typing.Literal["a"]])
+def test_a_key_that_is_not_of_its_hint(hint: Any) -> None:
+    """The path of the error names the key."""
+    with pytest.raises(Mismatch, match=r"\.seven: "):
+        there_and_back({"seven": 1}, dict[hint, int])
 
 
 def test_models() -> None:
@@ -381,14 +447,15 @@ def test_hints_of_functions() -> None:
     def nowhere(task: NoSuchName) -> int:
         ...  # type: ignore[name-defined,empty-body]
 
-    given, returned = decoders.hints(function)
+    decode_input, returned = decoders.input_decoder(function), decoders.result_decoder(function)
     assert (
-        given
+        decode_input
         and returned
-        and given({"row": 1, "colour": "red"}) == Seat(1, Colour.RED)
+        and decode_input({"row": 1, "colour": "red"}) == Seat(1, Colour.RED)
         and returned("red") is Colour.RED
     )
-    assert decoders.hints(plain) == (None, None) == decoders.hints(nowhere)
+    for untyped in (plain, nowhere):
+        assert decoders.input_decoder(untyped) is None is decoders.result_decoder(untyped)
 
 
 def test_hints_of_callable_objects() -> None:
@@ -405,17 +472,18 @@ def test_hints_of_callable_objects() -> None:
             ...  # type: ignore[empty-body]
 
     part = functools.partial(function, [1], size=Size.LARGE)
-    for one in (
+    for function_kind in (
         part,
         functools.partial(part),
         Charge(),
         Charge().method,
         functools.partial(Charge()),
     ):
-        given, returned = decoders.hints(one)
+        decode_input = decoders.input_decoder(function_kind)
+        returned = decoders.result_decoder(function_kind)
         assert (
-            given
+            decode_input
             and returned
-            and given({"row": 1, "colour": "red"}) == SEAT
+            and decode_input({"row": 1, "colour": "red"}) == SEAT
             and returned("red") is Colour.RED
         )

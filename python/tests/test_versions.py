@@ -12,6 +12,7 @@ import threading
 import time
 import urllib.parse
 from collections.abc import Iterator
+from typing import Any
 
 import psycopg
 import pytest
@@ -54,16 +55,39 @@ def test_a_program_that_is_older_than_the_tables(
     assert store_command.main([location, "migrate"]) == 4
 
 
+def test_the_version_of_a_saga_is_shown(location: str, capsys: pytest.CaptureFixture[str]) -> None:
+    """A list, a saga and its export have it. A key keeps the version with which it started."""
+    kinds = [sagas.Saga("lease", version=version) for version in (1, 2)]
+    for kind in kinds:
+        kind.step(name="sign", external=True)
+
+    async def main() -> None:
+        async with sagas.open(location, kinds, shutdown_timeout=0.0) as store:
+            for kind in kinds:
+                await store.start(kind, f"k{kind.version}")
+            assert not (await store.start(kinds[1], "k1")).new
+            assert [saga.version for saga in await store.list()] == [1, 2]
+
+    def shown(*options: str) -> Any:
+        assert store_command.main([location, *options, "--json"]) == 0
+        return json.loads(capsys.readouterr().out)
+
+    run(main())
+    assert [row["version"] for row in shown("list")] == [1, 2]
+    for word in ("show", "export"):
+        assert [shown(word, key)["version"] for key in ("k1", "k2")] == [1, 2]
+
+
 def test_two_programs_migrate_at_once(url: str) -> None:
     """They take an advisory lock: the tables are made once."""
     saga = simple(lambda task: 7)
 
-    async def one(number: int) -> None:
+    async def start_and_wait(number: int) -> None:
         async with sagas.open(url, [saga]) as store:
             assert (await ended(store, saga, f"k{number}")).ok
 
     async def main() -> None:
-        await asyncio.gather(*(one(number) for number in range(4)))
+        await asyncio.gather(*(start_and_wait(number) for number in range(4)))
 
     run(main())
 
@@ -236,9 +260,9 @@ def test_a_password_is_in_nothing_that_the_command_prints(
 def test_an_unreachable_server(monkeypatch: pytest.MonkeyPatch) -> None:
     """The client reports why it cannot connect, as the node does, once it has tried for a while."""
     monkeypatch.setattr(connections, "CONNECT", 0.1)
-    with socket.socket() as one:
-        one.bind(("127.0.0.1", 0))
-        url = f"postgresql://a@127.0.0.1:{one.getsockname()[1]}/c"
+    with socket.socket() as connection:
+        connection.bind(("127.0.0.1", 0))
+        url = f"postgresql://a@127.0.0.1:{connection.getsockname()[1]}/c"
         with pytest.raises(sagas.StoreUnavailable, match="[Rr]efused"), sagas.SyncClient(url):
             pass
 
@@ -287,11 +311,11 @@ def test_a_client_that_is_never_let_in(postgresql: Server, url: str) -> None:
     with lets_in(postgresql, "host all keyed 127.0.0.1/32 scram-sha-256"):
         for name, text in is_approval_pending:
             begun = time.monotonic()
-            with pytest.raises(sagas.StoreUnavailable, match=text) as error, sagas.SyncClient(name):
-                pass
-            assert time.monotonic() - begun < connections.CONNECT and "wrong" not in str(
-                error.value
-            )
+            for opened in (sagas.SyncClient(name), sagas.open_sync(name, [simple(print)])):
+                with pytest.raises(sagas.InvalidStore, match=text) as error, opened:
+                    pass
+                assert time.monotonic() - begun < connections.CONNECT
+                assert "wrong" not in str(error.value)
         with pytest.raises(sagas.InvalidStore, match="no tables yet"), sagas.SyncClient(
             url.replace("owner", "keyed:right")
         ):
@@ -322,12 +346,12 @@ def test_commits_wait_for_the_disk(url: str, setting: str) -> None:
 
     async def settings_of_commits() -> list[str]:
         async with connections.pool(url, 1) as some, some.connection() as pooled:
-            own = await connections.connect(url)
+            own_connection = await connections.connect(url)
             shown = [
                 await (await link.execute("SHOW synchronous_commit")).fetchone()
-                for link in (pooled, own)
+                for link in (pooled, own_connection)
             ]
-            await own.close()
+            await own_connection.close()
         with connections.connect_now(url) as now:
             shown.append(now.execute("SHOW synchronous_commit").fetchone())
         return [str(row[0]) for row in shown if row]

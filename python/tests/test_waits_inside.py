@@ -144,7 +144,7 @@ def test_sagas_that_wait_for_each_other(location: str) -> None:
         async with sagas.open(location, [saga]) as store:
             stores.append(store)
             runs = [await store.start(saga, key) for key in "abc"]
-            assert all([(await one.wait(timeout=60)).ok for one in runs])
+            assert all([(await run.wait(timeout=60)).ok for run in runs])
 
     run(main())
     assert len(errors) == 1 and errors[0].count("which waits for saga") == 2
@@ -184,19 +184,27 @@ def test_parents_that_take_all_slots(location: str, plain: bool) -> None:
 
     async def main() -> None:
         async with sagas.open(
-            location, [parent, child], concurrency=2, idle=0.1, shutdown_timeout=1
+            location,
+            [parent, child],
+            concurrency=2,
+            settings=sagas.Settings(idle=0.1),
+            shutdown_timeout=1,
         ) as store:
             stores.append(store)
             runs = [await store.start(parent, f"p{number}") for number in range(4)]
-            assert all([(await one.wait(timeout=60)).ok for one in runs])
+            assert all([(await run.wait(timeout=60)).ok for run in runs])
 
     def plainly() -> None:
         with sagas.open_sync(
-            location, [parent, child], concurrency=2, idle=0.1, shutdown_timeout=1
+            location,
+            [parent, child],
+            concurrency=2,
+            settings=sagas.Settings(idle=0.1),
+            shutdown_timeout=1,
         ) as store:
             stores.append(store)
             runs = [store.start(parent, f"p{number}") for number in range(4)]
-            assert all(one.wait(timeout=60).ok for one in runs)
+            assert all(run.wait(timeout=60).ok for run in runs)
 
     plainly() if plain else run(main())
     assert errors and "all 2 slots of the store's concurrency are taken" in errors[0]
@@ -222,7 +230,11 @@ def test_parents_of_children_that_need_no_slot(location: str) -> None:
 
     async def main() -> None:
         async with sagas.open(
-            location, [parent, child], concurrency=2, idle=0.1, shutdown_timeout=1
+            location,
+            [parent, child],
+            concurrency=2,
+            settings=sagas.Settings(idle=0.1),
+            shutdown_timeout=1,
         ) as store:
             stores.append(store)
             await store.start(child, "p0-child")
@@ -249,7 +261,7 @@ def small(task: Task) -> Any:
     """Approve small inputs."""
     if task.input == "small":
         return sagas.Approved({"by": "rule"})
-    return sagas.Rejected("too dear") if task.input == "dear" else None
+    return sagas.Rejected("too expensive") if task.input == "expensive" else None
 
 
 async def small_async(task: Task) -> Any:
@@ -271,20 +283,24 @@ def test_an_approval_that_decides_itself(location: str, function: Callable[[Task
 
     async def main() -> None:
         async with sagas.open(location, [saga]) as store:
-            given = await (await store.start(saga, "small", "small")).wait(timeout=60)
-            assert given.ok and given.results == {"ok": {"by": "rule"}}
-            refused = await (await store.start(saga, "dear", "dear")).wait(timeout=60)
-            assert refused.states == {"ok": "failed"} and refused.errors == {"ok": "too dear"}
+            end = await (await store.start(saga, "small", "small")).wait(timeout=60)
+            assert end.ok and end.results == {"ok": {"by": "rule"}}
+            refused = await (await store.start(saga, "expensive", "expensive")).wait(timeout=60)
+            assert refused.states == {"ok": "failed"} and refused.errors == {"ok": "too expensive"}
             started = await store.start(saga, "asked")
             await until(
-                lambda: [one for one in store.active_attempts("asked") if one.waits == "approval"]
+                lambda: [
+                    attempt
+                    for attempt in store.active_attempts("asked")
+                    if attempt.waits == "approval"
+                ]
             )
             await started.complete("ok", "yes")
             assert (await started.wait(timeout=60)).results == {"ok": "yes"}
 
     run(main())
     assert sagas.testing.run(saga, "small").results == {"ok": {"by": "rule"}}
-    assert sagas.testing.run(saga, "dear").states == {"ok": "failed"}
+    assert sagas.testing.run(saga, "expensive").states == {"ok": "failed"}
     assert sagas.testing.run(saga, answers={"ok": 1}).results == {"ok": 1}
 
 
@@ -315,9 +331,9 @@ def test_an_approval_that_finishes_itself(location: str) -> None:
     saga = asking(ask_plainly)
     with sagas.open_sync(location, [saga], shutdown_timeout=1) as store:
         stores.append(store)
-        one = store.start(saga, "plain")
-        one.complete("ok")
-        assert one.wait(timeout=60).ok
+        plain_run = store.start(saga, "plain")
+        plain_run.complete("ok")
+        assert plain_run.wait(timeout=60).ok
     assert len(errors) == 2 and all(
         "Return sagas.Approved(result) or sagas.Rejected(why)" in text for text in errors
     )

@@ -14,13 +14,18 @@ from typing import Any
 
 import psycopg
 import pytest
-from cases import HOUR, run, until
+from cases import (
+    HOUR,
+    run,
+    unknown_attempts,
+    until,
+)
 from relay import Relay, relaying
 from server import Server
 
 import sagas
 from sagas.base.events import Event
-from sagas.core.batch import Batch, Withdrawal
+from sagas.core.shard.batch import Batch, Withdrawal
 from sagas.definition.capacity import SHARD_CAPACITY
 from sagas.runtime import external_queue
 from sagas.storage.postgresql import commit_statement
@@ -35,7 +40,7 @@ ROWS = (
 def trip(**pay: Any) -> sagas.Saga:
     """Return a saga of two parallel steps that workers do."""
     saga = sagas.Saga("trip")
-    saga.step(name="pay", external=True, undo=sagas.NEVER, **pay)
+    saga.step(name="pay", external=True, undo=sagas.NEVER, **{"tries": 1, **pay})
     saga.step(name="hold", external=True, undo=sagas.NEVER)
     return saga
 
@@ -125,7 +130,7 @@ def test_the_reply_to_a_withdrawal_counts_only_under_its_epoch(
     offered again. A worker that claimed it keeps it.
     """
     saga = sagas.Saga("trip")
-    saga.step(name="pay", external=True, undo=sagas.NEVER)
+    saga.step(name="pay", external=True, undo=sagas.NEVER, tries=1)
 
     async def main(relay: Relay) -> None:
         async with two(postgresql, url, saga, relay, lease=30.0) as (slow, other, events):
@@ -170,16 +175,16 @@ def test_an_unknown_attempt_is_not_given_up(url: str, cause: str, waits: str) ->
 
     It may be done, so that it is called again, or an operator reports its outcome.
     """
-    saga = trip(tries=2, backoff=HOUR, max_unknown=9 if waits == "backoff" else 0)
+    saga = trip(tries=2, backoff=HOUR, max_unknown=9 if waits == "backoff" else 1)
 
     async def main() -> None:
-        async with opened(url, saga, "one") as one, opened(url, saga, "other") as other:
-            running = await one.start(saga, "k")
+        async with opened(url, saga, "one") as first, opened(url, saga, "other") as other:
+            running = await first.start(saga, "k")
             (task,) = await other.workers.claim(PAY, wait=60, lease=600)
             assert await other.workers.report(
                 task.attempt_id, task.lease, unknown="the line was cut"
             )
-            await until(lambda: _is_unknown(one))
+            await until(lambda: _is_unknown(first))
             if cause == "abort":
                 assert await running.abort()
             else:
@@ -200,7 +205,7 @@ def test_an_unknown_attempt_is_not_given_up(url: str, cause: str, waits: str) ->
 
 
 async def _is_unknown(store: sagas.Store) -> bool:
-    return any(attempt.step == "pay" for attempt in await store.unknown())
+    return any(attempt.step == "pay" for attempt in await unknown_attempts(store))
 
 
 @pytest.mark.parametrize(
@@ -309,7 +314,7 @@ def test_nothing_of_a_drain_is_done_before_its_commit(postgresql: Server, url: s
     """
     saga, tasks, gate = sagas.Saga("trip"), list[sagas.Task[Any]](), asyncio.Event()
     saga.approval(name="review")(lambda task: None)
-    saga.step(name="pay", external=True, undo=sagas.NEVER)
+    saga.step(name="pay", external=True, undo=sagas.NEVER, tries=1)
 
     @saga.step(undo=sagas.NEVER)
     async def watch(task: sagas.Task[Any]) -> None:
@@ -322,13 +327,16 @@ def test_nothing_of_a_drain_is_done_before_its_commit(postgresql: Server, url: s
             running = await store.start(saga, "k")
             await until(
                 lambda: tasks
-                and {one.waits for one in store.active_attempts("k")} == {"", "worker", "approval"}
+                and {attempt.waits for attempt in store.active_attempts("k")}
+                == {"", "worker", "approval"}
             )
             relay.unanswered = b"the bank is closed"
             failing = asyncio.create_task(store.fail("k", "pay", "the bank is closed"))
             await until(relay.owes.is_set)
             await asyncio.sleep(0.3)  # time for what is done too early
-            early = tasks[0].cancelled.is_set(), {one.waits for one in store.active_attempts("k")}
+            early = tasks[0].cancelled.is_set(), {
+                attempt.waits for attempt in store.active_attempts("k")
+            }
             relay.answer()
             await failing
             assert early == (False, {"", "approval"})

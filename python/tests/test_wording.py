@@ -39,18 +39,18 @@ VALUES: list[Any] = [
 ]
 
 
-def whole(value: Any, most: int) -> str:
+def whole(value: Any, width: int) -> str:
     """Return the output of `pretty`, by the whole text."""
     text = json.dumps(value, indent=2, ensure_ascii=False)
-    return text if len(text) <= most else text[:most] + "\n… (shortened; see the saga's log)"
+    return text if len(text) <= width else text[:width] + "\n… (shortened; see the saga's log)"
 
 
-def line(value: Any, most: int) -> str:
+def line(value: Any, width: int) -> str:
     """Return the output of `short`, by the whole text."""
     if isinstance(value, dict) and isinstance(value.get("error"), str):
         value = value["error"]
     text = wording.one_line(value)
-    return text if len(text) <= most else text[: most - 1] + "…"
+    return text if len(text) <= width else text[: width - 1] + "…"
 
 
 @pytest.mark.parametrize("value", VALUES, ids=range(len(VALUES)))
@@ -59,13 +59,15 @@ def test_a_value_is_cut_where_its_text_is(value: Any) -> None:
     text = serialization.write(value)
     kept = stored(text)
     assert isinstance(kept, StoredValue) == (len(text) >= 10_000)
-    for most in SIZES:
-        assert wording.pretty(value, most) == whole(value, most)
-        assert wording.short(value, most) == line(value, most)
+    for width in SIZES:
+        assert wording.pretty(value, width) == whole(value, width)
+        assert wording.short(value, width) == line(value, width)
         ordered = json.loads(text)
-        assert wording.pretty({"step": kept}, most) == whole({"step": ordered}, most)
-        if not isinstance(kept, StoredValue) or len(line(ordered, most)) == most:  # it was cut off
-            assert wording.short(kept, most) == line(ordered, most)
+        assert wording.pretty({"step": kept}, width) == whole({"step": ordered}, width)
+        if (
+            not isinstance(kept, StoredValue) or len(line(ordered, width)) == width
+        ):  # it was cut off
+            assert wording.short(kept, width) == line(ordered, width)
 
 
 class Counted(list[int]):
@@ -74,17 +76,17 @@ class Counted(list[int]):
     written = 0
 
     def __iter__(self) -> Iterator[int]:
-        for one in super().__iter__():
+        for file in super().__iter__():
             self.written += 1
-            yield one
+            yield file
 
 
 def test_no_more_is_written_than_is_shown() -> None:
     """Of a value with very many members, on several lines and on one, also within another one."""
-    for show, most in ((wording.pretty, 20_000), (wording.short, 90)):
+    for show, width in ((wording.pretty, 20_000), (wording.short, 90)):
         some = Counted([7] * 200_000)
         show({"some": [some]})
-        assert 0 < some.written <= most
+        assert 0 < some.written <= width
 
 
 def test_a_deep_value_is_shown() -> None:

@@ -25,10 +25,10 @@ def test_a_mutant_of_the_coordinator_is_detected(name: str) -> None:
     module = importlib.import_module(f"wrong.{name}")
     faults: set[str] = set()
     for seed in range(4):
-        one = play(module.STRIKES, seed, 30, most=15, wrong=name, quiet=5)
-        faults |= one.verdict.names
-        if one.folder is not None:
-            shutil.rmtree(pathlib.Path(one.folder))
+        played = play(module.STRIKES, seed, 30, time_limit=15, wrong=name, quiet=5)
+        faults |= played.verdict.names
+        if played.folder is not None:
+            shutil.rmtree(pathlib.Path(played.folder))
         if module.FINDS in faults:
             return
     pytest.fail(f"{name} was not found by {module.FINDS}, but by {sorted(faults)}")

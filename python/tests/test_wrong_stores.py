@@ -31,7 +31,7 @@ def test_the_right_store_does_right(postgresql: Server, name: str) -> None:
 
 @pytest.mark.parametrize("name", NAMES)
 def test_a_mutant_of_the_store_is_detected(postgresql: Server, name: str) -> None:
-    """It is found by one of the names that it gives, and by the records of its nodes."""
+    """It is found by one of the names that it lists, and by the records of its nodes."""
     module = importlib.import_module(f"wrong_stores.{name}")
     names, faults = play(postgresql, module.MOMENT, name)
     assert names & module.FINDS, f"{name} was not found by {module.FINDS}, but by {faults}"

@@ -1,8 +1,8 @@
 """A witness outside of the program under test.
 
-Each note that it gets is a line in a file, synced before it replies. It stands for the services
-that steps call. The program under test can be killed, and its disk can be full, without the witness
-losing a line.
+Each note that it gets is a line in a file, synced before it replies. It takes the part of the
+services that steps call. The program under test can be killed, and its disk can be full, without
+the witness losing a line.
 """
 
 from __future__ import annotations
@@ -73,10 +73,10 @@ class Witness:
         self.socket.connect(address)
         self.lock = threading.Lock()
 
-    def note(self, **what: Any) -> None:
+    def note(self, **fields: Any) -> None:
         """Report a note to the witness, and wait until the witness has stored it."""
         with self.lock:
-            self.socket.sendall((json.dumps(what) + "\n").encode())
+            self.socket.sendall((json.dumps(fields) + "\n").encode())
             if not self.socket.recv(1):
                 raise ConnectionError("the witness is gone")
 

@@ -30,6 +30,7 @@ from collections.abc import Callable
 from typing import Any
 
 import psycopg
+from cases import unknown_attempts
 from witness import Witness
 
 import sagas
@@ -140,8 +141,42 @@ class OutsideReader:
         return any(f'{{"event":"abort","saga":{number}}}\n' in text for number, text in rows)
 
 
+class Refused(Exception):
+    """An exception that the steps declare to mean that there was no effect."""
+
+
+UNKNOWN_ERRORS = (
+    ConnectionError,
+    TimeoutError,
+    ValueError,
+    KeyError,
+    sagas.Unknown,
+    SystemExit,
+    asyncio.CancelledError,
+)
+"""Exceptions with which the outcome of a call is unknown."""
+
+
+def unknown_error() -> BaseException:
+    """Return an exception with which the outcome of a call is unknown."""
+    return random.choice(UNKNOWN_ERRORS)("outcome unknown")
+
+
+def failure(is_final: bool) -> Exception:
+    """Return an exception with which a call had no effect."""
+    if is_final:
+        return sagas.Fail("permanently")
+    return random.choice((sagas.Retry("fails"), sagas.RetryAfter(0.01), Refused("fails")))
+
+
 class World:
-    """The sagas, over a witness and a reader of the store."""
+    """The sagas, over a witness and a reader of the store.
+
+    Attributes:
+        has_bugs: Whether some calls have a bug of the program after their effect.
+    """
+
+    has_bugs = False
 
     def __init__(self, witness: Witness, reader: OutsideReader, inside: bool = False) -> None:
         self.witness, self.reader = witness, reader
@@ -161,7 +196,8 @@ class World:
             self.fail(task, failing)
         self.witness.note(what="effect", **call, **self.handed(task))
         if self.is_hazy(call, unknown):
-            raise ConnectionError("nobody knows")
+            is_bug = self.has_bugs and random.random() < 0.2
+            raise NameError("a bug") if is_bug else unknown_error()
         return expected(task.key, task.step)
 
     async def write(self, task: Any, failing: float) -> Any:
@@ -213,7 +249,7 @@ class World:
     def steps(self, task: Any) -> list[str]:
         """Return the names of the saga's steps in order.
 
-        If they come from its input, the input gives them.
+        If they come from its input, the input has them.
         """
         # also if no world was made
         at, names = (task.saga, task.input["i"]), self.__dict__.setdefault("names", {})
@@ -229,11 +265,7 @@ class World:
 
     def fail(self, task: Any, failing: float) -> None:
         """Fail a call, sometimes permanently."""
-        raise (
-            sagas.Fail("for good")
-            if chance(self.named(task)) < failing / 4
-            else ValueError("fails")
-        )
+        raise failure(chance(self.named(task)) < failing / 4)
 
     def handed(self, task: Any) -> dict[str, Any]:
         """Return the arguments of a call."""
@@ -257,7 +289,7 @@ class World:
         """Three steps in a row, with threads, failures and times."""
         chain = sagas.Saga("chain")
 
-        @chain.step(keep=9, undo=1)
+        @chain.step(tries=1, no_effect=(Refused,), keep=9, undo=1)
         async def reserve(task: Any) -> Any:
             await asyncio.sleep(0.001)
             return self.act(task, 0.05)
@@ -266,15 +298,15 @@ class World:
         async def release(task: Any) -> None:
             self.act(task, 0.3)
 
-        @chain.step(needs=[reserve], tries=3, backoff=QUICK, keep=9, undo=1)
+        @chain.step(no_effect=(Refused,), needs=[reserve], tries=3, backoff=QUICK, keep=9, undo=1)
         def charge(task: Any) -> Any:
             return self.act(task, 0.3, unknown=0.1)
 
-        @charge.compensation(backoff=QUICK, on_exhausted="fail")
+        @charge.compensation(tries=1, backoff=QUICK, on_exhausted="fail")
         def refund(task: Any) -> None:
             self.act(task, 0.05, unknown=0.1)
 
-        @chain.step(needs=[charge], tries=2, timeout=5, backoff=QUICK)
+        @chain.step(no_effect=(Refused,), needs=[charge], tries=2, timeout=5, backoff=QUICK)
         async def ship(task: Any) -> Any:
             return self.act(task, 0.4)
 
@@ -284,27 +316,27 @@ class World:
         """A diamond with costs: some of it is worth keeping."""
         trip = sagas.Saga("trip")
 
-        @trip.step
+        @trip.step(no_effect=(Refused,), tries=1)
         async def flight(task: Any) -> Any:
             return self.act(task, 0.1)
 
-        @trip.step(needs=[flight], keep=8, undo=2, backoff=QUICK)
+        @trip.step(tries=1, no_effect=(Refused,), needs=[flight], keep=8, undo=2, backoff=QUICK)
         async def hotel(task: Any) -> Any:
             return self.act(task, 0.2, unknown=0.1)
 
-        @hotel.compensation(on_exhausted="fail")
+        @hotel.compensation(tries=1, on_exhausted="fail")
         async def cancel_hotel(task: Any) -> None:
             self.act(task, 0.0)
 
-        @trip.step(needs=[flight], keep=8, undo=5, tries=2, backoff=QUICK)
+        @trip.step(no_effect=(Refused,), needs=[flight], keep=8, undo=5, tries=2, backoff=QUICK)
         def car(task: Any) -> Any:
             return self.act(task, 0.2)
 
-        @car.compensation(on_exhausted="fail")
+        @car.compensation(tries=1, on_exhausted="fail")
         def cancel_car(task: Any) -> None:
             self.act(task, 0.1)
 
-        @trip.step(needs=[hotel, car], skip=3)
+        @trip.step(tries=1, no_effect=(Refused,), needs=[hotel, car], skip=3)
         async def tour(task: Any) -> Any:
             return self.act(task, 0.3)
 
@@ -314,21 +346,21 @@ class World:
         """A saga that may be stuck."""
         must = sagas.Saga("must")
 
-        @must.step(skip=sagas.NEVER, tries=2, backoff=QUICK)
+        @must.step(no_effect=(Refused,), skip=sagas.NEVER, tries=2, backoff=QUICK)
         async def machine(task: Any) -> Any:
             return self.act(task, 0.4)
 
-        @must.step(needs=[machine], skip=sagas.NEVER)
+        @must.step(tries=1, no_effect=(Refused,), needs=[machine], skip=sagas.NEVER)
         async def licence(task: Any) -> Any:
             return self.act(task, 0.1)
 
         return must
 
     def late(self) -> sagas.Saga:
-        """A saga with a wait, an approval, and a step of which two run at once."""
+        """A saga with a wait, an approval, and a step with two running at once."""
         late = sagas.Saga("late")
 
-        @late.step(concurrency=2, keep=9, undo=1)
+        @late.step(tries=1, no_effect=(Refused,), concurrency=2, keep=9, undo=1)
         async def order(task: Any) -> Any:
             return self.act(task, 0.05, unknown=0.1)
 
@@ -344,7 +376,7 @@ class World:
         async def approve(task: Any) -> None:
             self.witness.note(what="asked", key=task.key)
 
-        @late.step(needs=[approve])
+        @late.step(tries=1, no_effect=(Refused,), needs=[approve])
         def go(task: Any) -> Any:
             return self.act(task, 0.3)
 
@@ -357,7 +389,7 @@ class World:
         """
         order, box = sagas.Saga("order"), self.box()
 
-        @order.step(keep=9, undo=1)
+        @order.step(tries=1, no_effect=(Refused,), keep=9, undo=1)
         async def collect(task: Any) -> Any:
             return self.act(task, 0.05)
 
@@ -366,6 +398,7 @@ class World:
             self.act(task, 0.2)
 
         @order.step(
+            no_effect=(Refused,),
             for_each=lambda input: {f"p {n}/": {"worth": n} for n in range(input["i"] % 4)},
             needs=[collect],
             tries=2,
@@ -381,14 +414,14 @@ class World:
             )
             return self.act(task, 0.15, unknown=0.1)
 
-        @send.compensation(backoff=QUICK, on_exhausted="fail")
+        @send.compensation(tries=1, backoff=QUICK, on_exhausted="fail")
         def call_back(task: Any) -> None:
             assert task.step == f"send-{task.item['worth']}"
             self.act(task, 0.1)
 
         first = order.include(box, name="box", needs=[send], when=lambda input: input["i"] % 3)
 
-        @order.step(needs=[first], skip=lambda input: input["i"])
+        @order.step(tries=1, no_effect=(Refused,), needs=[first], skip=lambda input: input["i"])
         async def mail(task: Any) -> Any:
             assert list(task.result_of(send)) == [f"p {n}/" for n in range(task.input["i"] % 4)]
             return self.act(task, 0.1)
@@ -399,15 +432,15 @@ class World:
         """A saga that is included: within it another one, for each item."""
         box, lid = sagas.Saga("box"), sagas.Saga("lid")
 
-        @lid.step(undo=2, keep=1)
+        @lid.step(tries=1, no_effect=(Refused,), undo=2, keep=1)
         async def close(task: Any) -> Any:
             return self.act(task, 0.05)
 
-        @close.compensation(on_exhausted="fail")
+        @close.compensation(tries=1, on_exhausted="fail")
         async def open(task: Any) -> None:
             self.act(task, 0.05)
 
-        @box.step(undo=0)
+        @box.step(tries=1, no_effect=(Refused,), undo=0)
         async def fold(task: Any) -> Any:
             return self.act(task, 0.05)
 
@@ -420,7 +453,7 @@ class World:
         """Three steps inside the database, in a row; the second has plain functions."""
         desk = sagas.Saga("desk")
 
-        @desk.step(transaction=True, tries=2, backoff=QUICK, keep=9, undo=1)
+        @desk.step(no_effect=(Refused,), transaction=True, tries=2, backoff=QUICK, keep=9, undo=1)
         async def enter(task: Any) -> Any:
             return await self.write(task, 0.2)
 
@@ -428,15 +461,30 @@ class World:
         async def strike(task: Any) -> None:
             await self.write(task, 0.2)
 
-        @desk.step(transaction=True, needs=[enter], tries=3, backoff=QUICK, keep=9, undo=1)
+        @desk.step(
+            no_effect=(Refused,),
+            transaction=True,
+            needs=[enter],
+            tries=3,
+            backoff=QUICK,
+            keep=9,
+            undo=1,
+        )
         def stamp(task: Any) -> Any:
             return self.write_in_thread(task, 0.3)
 
-        @stamp.compensation(backoff=QUICK, on_exhausted="fail")
+        @stamp.compensation(tries=1, backoff=QUICK, on_exhausted="fail")
         def unstamp(task: Any) -> None:
             self.write_in_thread(task, 0.05)
 
-        @desk.step(transaction=True, needs=[stamp], tries=2, timeout=30, backoff=QUICK)
+        @desk.step(
+            no_effect=(Refused,),
+            transaction=True,
+            needs=[stamp],
+            tries=2,
+            timeout=30,
+            backoff=QUICK,
+        )
         async def file(task: Any) -> Any:
             return await self.write(task, 0.4)
 
@@ -451,8 +499,10 @@ class World:
         pause = sagas.Backoff(initial=0.4, maximum=0.4)
         pay = far.step(name="pay", external=True, tries=2, backoff=pause, keep=9, undo=1)
         pay.compensation(external=True, tries=3, backoff=QUICK, on_exhausted="fail")
-        hold = far.step(name="hold", external=True, backoff=QUICK, undo=sagas.NEVER)
-        far.step(name="send", needs=[pay, hold], external=True, backoff=QUICK, undo=sagas.NEVER)
+        hold = far.step(tries=1, name="hold", external=True, backoff=QUICK, undo=sagas.NEVER)
+        far.step(
+            tries=1, name="send", needs=[pay, hold], external=True, backoff=QUICK, undo=sagas.NEVER
+        )
         return far
 
 
@@ -480,21 +530,27 @@ async def work(world: World, store: sagas.Store) -> None:
 
 def done(world: World, task: Any) -> dict[str, Any]:
     """Return a worker's report of a task."""
+    failing, unknown = FAR[task.step, "undo" if task.is_compensation else "run"]
+    return reported(lambda: world.act(task, failing, unknown))
+
+
+def reported(call: Callable[[], Any]) -> dict[str, Any]:
+    """Return a worker's report of a call: its result, or what its exception means."""
     try:
-        return {
-            "result": world.act(task, *FAR[task.step, "undo" if task.is_compensation else "run"])
-        }
-    except ConnectionError as error:
-        return {"unknown": str(error)}
-    except (ValueError, sagas.Fail) as error:
+        return {"result": call()}
+    except (sagas.Fail, sagas.Retry, Refused) as error:
         return {"error": str(error), "final": isinstance(error, sagas.Fail)}
+    except NameError as error:
+        return {"unknown": str(error), "program_error": True}
+    except BaseException as error:
+        return {"unknown": str(error)}
 
 
 async def abort_unknown(world: World, store: sagas.Store, run: sagas.Run) -> None:
     """Abort a saga as soon as one of its outcomes is unknown, if one is."""
     while True:
         with contextlib.suppress(sagas.StoreUnavailable):
-            if any(attempt.key == run.key for attempt in await store.unknown()):
+            if any(attempt.key == run.key for attempt in await unknown_attempts(store)):
                 if await run.abort():
                     world.witness.note(
                         what="aborted", key=run.key, there=world.reader.aborts(run.key)
@@ -516,16 +572,26 @@ async def approve_all(world: World, store: sagas.Store) -> None:
         await asyncio.sleep(0.05)
 
 
-async def started(store: sagas.Store, saga: sagas.Saga, key: str, given: Any) -> sagas.Run:
+async def retry_bugs(store: sagas.Store) -> None:
+    """Retry each attempt whose function had a bug, as after a deploy."""
+    while True:
+        with contextlib.suppress(sagas.SagasError):
+            for entry in await store.attention():
+                if entry.why is sagas.AttentionReason.PROGRAM_ERROR and entry.step:
+                    await store.retry(entry.key, entry.step, undo=entry.undo)
+        await asyncio.sleep(0.05)
+
+
+async def started(store: sagas.Store, saga: sagas.Saga, key: str, value: Any) -> sagas.Run:
     """Start a saga; repeat that while the store is unavailable."""
     while True:
         try:
-            return await store.start(saga, key=key, input=given)
+            return await store.start(saga, key=key, input=value)
         except sagas.StoreUnavailable:
             await asyncio.sleep(0.05)
 
 
-async def one(world: World, store: sagas.Store, number: int) -> None:
+async def start_and_wait(world: World, store: sagas.Store, number: int) -> None:
     """Run a saga to its end, and report each reply to the witness once the program has it."""
     key, note, reader = f"k{number}", world.witness.note, world.reader
     run = await started(store, world.sagas[number % len(world.sagas)], key, {"i": number})
@@ -565,11 +631,11 @@ async def every(world: World, store: sagas.Store, count: int) -> None:
     others = [number for number in range(count) if number not in inside]
     is_first = random.random() < 0.5
     if not is_first:
-        await asyncio.gather(*(one(world, store, number) for number in others))
+        await asyncio.gather(*(start_and_wait(world, store, number) for number in others))
     for number in inside:
-        await one(world, store, number)
+        await start_and_wait(world, store, number)
     if is_first:
-        await asyncio.gather(*(one(world, store, number) for number in others))
+        await asyncio.gather(*(start_and_wait(world, store, number) for number in others))
 
 
 async def opened(stack: contextlib.AsyncExitStack, make: Callable[[], sagas.Store]) -> sagas.Store:
@@ -590,6 +656,7 @@ async def main(options: argparse.Namespace) -> None:
         OutsideReader(options.reader or options.store),
         inside=options.node is not None,
     )
+    world.has_bugs = True
     if options.wrong:
         package = "wrong_stores" if options.node else "wrong"
         importlib.import_module(f"{package}.{options.wrong}").apply()
@@ -603,7 +670,7 @@ async def main(options: argparse.Namespace) -> None:
                 options.store,
                 world.sagas,
                 concurrency=options.concurrency,
-                engine_processes=children,
+                settings=sagas.Settings(engine_processes=children),
                 node=options.node,
                 lease=options.lease,
             )
@@ -613,6 +680,7 @@ async def main(options: argparse.Namespace) -> None:
         store = await opened(stack, make)
         others = [
             asyncio.create_task(approve_all(world, store)),
+            asyncio.create_task(retry_bugs(store)),
             *([asyncio.create_task(work(world, store))] if options.node else []),
         ]
         starting = asyncio.create_task(every(world, store, options.count))
@@ -634,7 +702,12 @@ def is_unexpected(record: logging.LogRecord) -> bool:
 
     A traceback would be the package's own.
     """
-    return getattr(record, "sagas", {}).get("name") not in ("step_retrying", "step_failed")
+    return getattr(record, "sagas", {}).get("name") not in (
+        "step_retrying",
+        "step_failed",
+        "step_unknown",
+        "step_program_error",
+    )
 
 
 if __name__ == "__main__":

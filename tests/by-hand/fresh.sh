@@ -1,6 +1,7 @@
 #!/usr/bin/env bash
 # Runs what the README says on a fresh machine: Debian 12 with git, python3 and python3-venv, and nothing else. First the quick start, and then
-# ./test --quick --install. Ends with their status. The checkout is a clone of HEAD in root's home folder.
+# ./test --quick --install. With the packages that this installs, `sagas demo` shows its first page, and leaves nothing when it ends; and the
+# test of a project of `sagas new` passes. Ends with their status. The checkout is a clone of HEAD in root's home folder.
 #   tests/by-hand/fresh.sh [FOLDER]   makes the machine in FOLDER, and keeps it there; else in a folder that is removed
 # Takes some 25 minutes, as root, with debootstrap. It is no part of `./test`.
 set -euo pipefail
@@ -25,6 +26,7 @@ if ! [ -e "$root/etc/debian_version" ]; then
     [ ! -f "$file" ] || cp "$file" "$root${file}"
   done
 fi
+chmod 755 "$root" # other users of the machine enter it
 mkdir -p "$root"/{proc,sys,dev}
 mount -t proc proc "$root/proc"
 mount -t sysfs sys "$root/sys"
@@ -50,4 +52,39 @@ begin=$SECONDS
 status=0
 as "./test --quick --install" || status=$?
 echo "fresh: ./test --quick --install took $(((SECONDS - begin) / 60)) minutes, and ended with status $status"
+
+# The demo and a new project, in an environment with Debian's packages of the service.
+cat >"$root/root/look.sh" <<'END'
+set -euo pipefail
+/usr/bin/python3 -m venv --system-site-packages ~/look
+. ~/look/bin/activate
+pip install -q './python[server]'
+cd ~
+rm -rf demo shop
+mkdir demo
+TMPDIR=$HOME/demo sagas demo --no-browser >address &
+until grep -q http address; do
+  kill -0 $!
+  sleep 0.1
+done
+python -c 'import sys, urllib.request; print(urllib.request.urlopen(sys.argv[1]).read().decode())' "$(grep -o 'http://[0-9.:]*' address)/ui" >page
+grep -q '<h1>Inbox' page
+kill -INT $!
+wait $!
+[ -z "$(ls -A demo)" ]
+if grep -lz "^TMPDIR=$HOME/demo$" /proc/[0-9]*/environ 2>/dev/null; then
+  echo "a process of the demo is left"
+  exit 1
+fi
+sagas new shop --language python
+cd shop
+python -m pytest -q
+END
+if as "bash ~/look.sh" >"$root/root/said" 2>&1; then
+  echo "fresh: the demo and a new project do what they should"
+else
+  cat "$root/root/said"
+  echo "fresh: the demo or a new project failed"
+  status=1
+fi
 exit "$status"

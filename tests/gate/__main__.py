@@ -243,7 +243,9 @@ def quick(tree: Tree, names: list[str], has_toolchain: bool) -> Tally:
     for name in names or scripts.names(tree.top):
         tally.add_script(scripts.run(tree.top, name, is_quick=True), may_skip=True)
     if not has_toolchain and not names:
-        tally.skipped[f"{len(tree.crates)} crates"] = "there is no toolchain (rt) to prove them"
+        tally.skipped[
+            f"{len(tree.crates)} crates"
+        ] = "the toolchain (rt), which proves them, is missing"
     return tally
 
 
@@ -314,7 +316,9 @@ def run_since(tree: Tree, toolchain: Toolchain | None, revision: str) -> Tally:
     print(f"test: scripts: {' '.join(needs.scripts) or 'none'}", flush=True)
     tally = Tally()
     if needs.crates and toolchain is None:
-        tally.skipped[f"{len(needs.crates)} crates"] = "there is no toolchain (rt) to prove them"
+        tally.skipped[
+            f"{len(needs.crates)} crates"
+        ] = "the toolchain (rt), which proves them, is missing"
     elif toolchain is not None and needs.crates:
         for name in since.tops(tree, needs.crates):
             status = subprocess.run([tree.top / "build", name]).returncode
@@ -393,10 +397,10 @@ def run(tree: Tree, options: argparse.Namespace) -> Tally:
     if toolchain is None:
         if options.mutants is not None:
             tally = Tally()
-            tally.fail("there is no toolchain (rt) on this machine, which mutants need")
+            tally.fail("the toolchain (rt), which mutants need, is missing")
             return tally
         print(
-            "test: there is no toolchain (rt): nothing is proved, and the scripts run over dist/",
+            "test: the toolchain (rt) is missing: nothing is proved; the scripts run over dist/",
             flush=True,
         )
         return quick(tree, [], False)

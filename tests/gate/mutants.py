@@ -236,7 +236,7 @@ def function_of(folder: Path, change: Change) -> Function | None:
     try:
         text = (folder / change.file).read_text(encoding="utf-8")
     except OSError:
-        raise InvalidMutant(f"there is no file {change.file}") from None
+        raise InvalidMutant(f"file {change.file} is missing") from None
     if text.count(change.old) != 1:
         count = text.count(change.old)
         raise InvalidMutant(f"an 'old:' text occurs in {change.file} {count} times, and not once")
@@ -257,7 +257,7 @@ def function_named(folder: Path, path: str) -> Function:
         for function in functions(str(file.relative_to(folder)), file.read_text(encoding="utf-8")):
             if function.path == path:
                 return function
-    raise InvalidMutant(f"there is no function {path}")
+    raise InvalidMutant(f"function {path} is missing")
 
 
 def read_all(tree: Tree, crate: str, suffix: str = ".edit") -> list[Mutant]:

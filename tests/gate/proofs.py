@@ -14,6 +14,9 @@ from costs import Cost, Watch
 from crates import Tree
 from mutants import used_seconds
 
+PROVED = re.compile(r"rt: (\w+) (?:proved\n|is kept: )")
+"""The line of a crate that `rt ci` proved in this run, or kept from an earlier one."""
+
 MEMORY = 4 * 1024 * 1024
 """The memory that a proof may take, in KiB.
 
@@ -76,7 +79,7 @@ class Proofs:
         assert self.child.stdout
         for line in self.child.stdout:
             print(line, end="", flush=True)
-            if proved := re.fullmatch(r"rt: (\w+) proved\n", line):
+            if proved := PROVED.match(line):
                 self.proved.add(proved[1])
                 self.wake()
             elif line.startswith("rt: FAILED: "):

@@ -8,6 +8,7 @@ import subprocess
 import threading
 from pathlib import Path
 
+import proofs
 import pytest
 import schedule
 import scripts
@@ -91,6 +92,21 @@ def test_a_script_that_hangs_fails(checkout: Path, monkeypatch: pytest.MonkeyPat
     monkeypatch.setattr(scripts, "LIMIT", 0.2)
     ran = scripts.run(checkout, "slow", is_quick=True)
     assert ran.status == 1 and "stopped" in ran.last
+
+
+@pytest.mark.parametrize(
+    "line, crate",
+    [
+        ("rt: saga_case proved\n", "saga_case"),
+        ("rt: saga_case is kept: an earlier run on this machine proved the same\n", "saga_case"),
+        ("rt: saga_case NOT PROVED\n", None),
+        ("rt: saga_case: its tests are proved\n", None),
+    ],
+)
+def test_a_crate_that_was_kept_is_proved(line: str, crate: str | None) -> None:
+    """A round of mutants waits for its crate, also for one that an earlier run proved."""
+    match = proofs.PROVED.match(line)
+    assert (match and match[1]) == crate
 
 
 def test_one_script_at_a_time_in_parallel_with_rounds(monkeypatch: pytest.MonkeyPatch) -> None:

@@ -119,6 +119,7 @@ EXAMPLES: list[tuple[str, int, str, str, int, list[str]]] = [
     ("audit", 0, "good", "Valid: every event was allowed", 0, []),
     ("audit", 1, "no", "Invalid: event 2, in line 4, was not allowed", 0, []),
     ("audit", 2, "bad", "The log cannot be read", 0, []),
+    ("replay", 0, "good", "The saga adopts a plan", 2, ["keep", "keep", "skip", "skip"]),
 ]
 
 
@@ -197,6 +198,16 @@ def test_faults_are_shown_at_their_field(
         assert repaired["kind"] == "good"
 
 
+def test_a_pasted_definition_is_planned_at_once(page: Chromium) -> None:
+    """Its steps are waiting. A case that was typed for it stays, also if it is wrong."""
+    page.show("plan", 0)
+    pasted = page.put({"definition": 'format = 1\nname = "other"\n[[step]]\nname = "one"\n'})
+    assert (json.loads(pasted["case"]), pasted["nodes"]) == ({"states": ["waiting"]}, 1)
+    assert pasted["verdict"].startswith("Plan of minimum cost 0")
+    assert json.loads(page.put({"case": " "})["case"]) == {"states": ["waiting"]}
+    assert page.put({"case": '{"states":[]}'})["checked"] == "sagas: case: wrong-length"
+
+
 def test_a_line_that_is_no_toml_is_named(page: Chromium) -> None:
     """The first one is named, also after a list of several lines and in a second definition.
 
@@ -229,6 +240,40 @@ def test_a_line_that_is_no_toml_is_named(page: Chromium) -> None:
         f"line {2 + TRIP.count(chr(10)) + TRIP.split(chr(10)).index('undo = 5')}:"
         in page_state["remedy"]
     ), page_state
+
+
+WRONG = [
+    ("undo = 5", "undo = 5\nundoo = 5", "undoo = 5", "unknown-key"),
+    ("undo = 5", "undo = 'five'", "undo = 'five'", "bad-type"),
+    ("undo = 5", "undo = 2000000000", "undo = 2000000000", "price-too-large"),
+    ("undo = 5", "undo = 5\ntries = 10", "tries = 10", "tries-out-of-range"),
+    ('name = "car"', 'name = "a car"', 'name = "a car"', "bad-name"),
+    ('name = "car"', 'name = "flight"', 'name = "flight"', "double-name"),
+    ('name = "car"\n', "", "[[step]]", "missing-key"),
+    ('needs = ["flight"]', 'needs = ["flght"]', 'needs = ["flght"]', "unknown-step"),
+    ('needs = ["flight"]', 'needs = [\n"flight", "flight",\n]', "needs = [", "double-need"),
+    ('needs = ["flight"]', 'needs = ["car"]', 'needs = ["car"]', "cycle"),
+    ("format = 2", "format = 7", "format = 7", "bad-format"),
+]
+
+
+@pytest.mark.parametrize(("good", "wrong", "line", "word"), WRONG, ids=[row[3] for row in WRONG])
+def test_the_line_of_an_error_is_named(
+    page: Chromium, good: str, wrong: str, line: str, word: str
+) -> None:
+    page.show("plan", 0)
+    start = TRIP.index(good)
+    text = TRIP[:start] + wrong + TRIP[start + len(good) :]
+    at = text.rindex(line, 0, start) if line == "[[step]]" else text.index(line, start)
+    number = text[:at].count("\n") + 1
+    page_state = page.put({"definition": text})
+    assert page_state["checked"] == f"sagas: definition: {word}"
+    assert page_state["verdict"] == f"The definition cannot be read: line {number}", text
+    shown = text.split("\n")[number - 1]
+    assert page_state["fault"].endswith(f"{number}: {shown}")
+    selected = "const it = document.getElementById('definition');"
+    selected += "return it.value.slice(it.selectionStart, it.selectionEnd)"
+    assert page.run(selected) == shown
 
 
 def test_faults_of_certificates_and_logs(page: Chromium) -> None:
@@ -294,6 +339,90 @@ def test_states_by_clicks_and_keys(page: Chromium) -> None:
         "states": ["waiting", "failed", "undone", "waiting"],
     }
     assert page_state["shall"] == ["skip"] * 4
+
+
+def moment(page: Chromium) -> tuple[str, str, list[str]]:
+    """The number of the event that is shown, its words, and the states of the steps."""
+    return tuple(
+        page.run(
+            """return [
+        document.getElementById('count').textContent,
+        document.getElementById('verdict').textContent,
+        [...document.querySelectorAll('#steps td.is')].map(cell => cell.textContent)]"""
+        )
+    )
+
+
+def otherwise(page: Chromium) -> list[str]:
+    """The costs of the other decisions, once all are computed."""
+    cells = "[...document.querySelectorAll('#steps td.otherwise')].map(cell => cell.textContent)"
+    page.until(f"return {cells}.every(text => text)")
+    texts: list[str] = page.run(f"return {cells}")
+    return texts
+
+
+def test_a_log_is_replayed_event_by_event(page: Chromium) -> None:
+    """By the buttons, the slider, the list and the keys; with the costs of other decisions."""
+    page.show("replay", 0)
+    done = ["done", "done", "failed", "waiting"]
+    assert moment(page) == ("12 of 12", "The saga adopts a plan", done)
+    assert otherwise(page) == ["not possible", "40", "not possible", "not possible"]
+    page.change("document.getElementById('first').click()")
+    assert moment(page) == ("0 of 12", "The saga is opened", ["waiting"] * 4)
+    page.change(
+        "const it = document.getElementById('moment'); it.value = '5';"
+        "it.dispatchEvent(new Event('input'))"
+    )
+    assert moment(page) == ("5 of 12", "Hotel starts", ["done", "done", "running", "waiting"])
+    assert otherwise(page) == ["not possible", "15", "38", "33"]
+    page.run("document.activeElement.blur()")
+    for key, count in ((Keys.ARROW_LEFT, 4), (Keys.END, 12), (Keys.ARROW_RIGHT, 12)):
+        before = page.run("return document.body.dataset.rounds")
+        page.driver.switch_to.active_element.send_keys(key)
+        page.until("return document.body.dataset.rounds !== arguments[0]", before)
+        assert moment(page)[0] == f"{count} of 12"
+    page.change("document.querySelectorAll('#events button')[2].click()")
+    assert moment(page)[1] == "Flight is done"
+    cut = (TOP / "examples" / "trip.log").read_text().replace('"event":"commit"', '"event":"fail"')
+    page.put({"log": cut})
+    assert moment(page)[:2] == ("2 of 2", "Flight has failed"), "the next event is not allowed"
+
+
+def test_an_export_is_dropped_and_linked(page: Chromium, served: str) -> None:
+    """A link has the export and the moment, and another browser shows the same."""
+    log = (TOP / "examples" / "trip.log").read_text()
+    drop = (
+        "const data = new DataTransfer(); data.items.add(new File([arguments[0]], 'saga.json'));"
+        "document.body.dispatchEvent("
+        "new DragEvent('drop', { dataTransfer: data, bubbles: true, cancelable: true }))"
+    )
+    page.show("plan", 1)
+    page.change(drop, json.dumps({"export": 1, "key": "x", "definition": TRIP, "log": log}))
+    page.until("return document.getElementById('count').textContent === '12 of 12'")
+    page.change("document.getElementById('previous').click()")
+    page.run("document.getElementById('link').click()")
+    page.until("return document.getElementById('link').textContent !== 'Copy link'")
+    link = page.run("return location.hash")
+    assert link.endswith("&moment=11") and len(link) > 500
+    page.go("about:blank")
+    page.open(served + link)
+    assert moment(page) == (
+        "11 of 12",
+        "The saga is planned",
+        ["done", "done", "failed", "waiting"],
+    )
+    assert all("replay" not in path for path in Quiet.requested)
+    for wrong in ("[]", "{", json.dumps({"definition": TRIP}), HOSTILE):
+        page_state = page.change(drop, wrong)
+        assert (page_state["faults"], page_state["verdict"]) == (
+            ["export"],
+            "The export cannot be read",
+        )
+    page.change(drop, json.dumps({"definition": TRIP, "log": HOSTILE}))
+    page.until("return document.getElementById('verdict').textContent === 'The log cannot be read'")
+    page.go("about:blank")
+    page.open(served + "#replay=%ff&moment=x")
+    assert page.shown()["verdict"] == "The export cannot be read"
 
 
 def test_by_the_keyboard_alone(page: Chromium) -> None:

@@ -52,9 +52,9 @@ func Plan(definition, sagaCase []byte) (Answer, error) {
 	if err != nil || !yes {
 		return answer, err
 	}
-	var told struct{ Cost int64 }
-	err = json.Unmarshal(text, &told)
-	answer.Cost = told.Cost
+	var planned struct{ Cost int64 }
+	err = json.Unmarshal(text, &planned)
+	answer.Cost = planned.Cost
 	return answer, err
 }
 

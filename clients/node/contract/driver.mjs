@@ -13,7 +13,7 @@ const workers = new Map();
 const counts = new Map();
 const released = new Map(); // of "key step": a promise and what resolves it
 
-const say = (told) => process.stdout.write(`${write(told)}\n`);
+const say = (reply) => process.stdout.write(`${write(reply)}\n`);
 
 function nameOf(error) {
   if (error instanceof Problem) return error.problem;
@@ -25,8 +25,8 @@ function nameOf(error) {
 
 const errorOf = (error) => ({ name: nameOf(error), status: error.status ?? 0, text: String(error.message) });
 
-const sagaOf = ({ key, definition, phase, over, aborted, input, states, results, errors }) =>
-  ({ key, definition, phase, over, aborted, input, states, results, errors });
+const sagaOf = ({ key, definition, version, phase, over, aborted, input, states, results, errors }) =>
+  ({ key, definition, version, phase, over, aborted, input, states, results, errors });
 
 function release(word) {
   if (!released.has(word)) {
@@ -89,9 +89,9 @@ function actAt(path) {
     const socket = connect(path);
     try {
       const { definition: saga, key, step, isCompensation: undo, attempt, attemptId: attempt_id, input, results, result } = task;
-      const told = { saga, key, step, undo, attempt, attempt_id, input, results, result };
+      const call = { saga, key, step, undo, attempt, attempt_id, input, results, result };
       await once(socket, "connect");
-      socket.write(`${write({ ...told, idempotency_key: task.idempotencyKey, original_idempotency_key: task.originalIdempotencyKey })}\n`);
+      socket.write(`${write({ ...call, idempotency_key: task.idempotencyKey, original_idempotency_key: task.originalIdempotencyKey })}\n`);
       let line = "";
       for await (const part of socket) if ((line += part).endsWith("\n")) break;
       const { do: word, value } = parse(line);
@@ -113,7 +113,7 @@ const COMMANDS = {
   open: ({ url, token }) => { client = new Client(url, { token: token ?? undefined }); return { language: "node" }; },
   start: async ({ definition, key, input, labels, deadline, version, traceparent }) => {
     const run = await client.start(definition, key, input, { labels, deadline, version, traceparent });
-    return { key: run.key, new: run.new };
+    return { key: run.key, version: run.version, new: run.new };
   },
   get: async ({ key }) => {
     const saga = await client.get(key);
@@ -125,9 +125,16 @@ const COMMANDS = {
   complete: async ({ key, step, result, undo, note }) => { await client.complete(key, step, result, { undo, note }); return {}; },
   fail: async ({ key, step, error, undo, note }) => { await client.fail(key, step, error, { undo, note }); return {}; },
   list: async ({ page, phase, definition, search, labels }) => {
-    const keys = [];
-    for await (const saga of client.list({ pageSize: page, phase, definition, search, labels })) keys.push(saga.key);
-    return { keys };
+    const sagas = [];
+    for await (const saga of client.list({ pageSize: page, phase, definition, search, labels })) sagas.push(saga);
+    return { keys: sagas.map(({ key }) => key), versions: sagas.map(({ version }) => version) };
+  },
+  decisions: async ({ page, key, definition, decision }) => {
+    const decisions = [];
+    for await (const { at, isBulk, ...entry } of client.decisions({ pageSize: page, key, definition, decision })) {
+      decisions.push({ ...entry, bulk: isBulk, at: at.getTime() > 0 });
+    }
+    return { decisions };
   },
   events: async ({ key, definition }) => {
     events = client.events({ key, definition });

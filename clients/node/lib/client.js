@@ -5,7 +5,7 @@ import { InvalidArgument, NoSuchSaga, WaitTimeout } from "./errors.js";
 import { EventStream } from "./events.js";
 import { write } from "./json.js";
 import { Values } from "./values.js";
-import { sagaOf, summaryOf } from "./views.js";
+import { decisionOf, sagaOf, summaryOf } from "./views.js";
 
 const PATIENCE = 60; // seconds
 const ANSWER = 20; // seconds that one request may take
@@ -88,12 +88,12 @@ export class Client {
     for (;;) {
       const left = Math.max(0, (until - performance.now()) / 1000);
       const wait = Math.min(MOST_WAIT, left);
-      const told = await this.#ask("GET", `${path(key)}/wait?seconds=${wait.toFixed(3)}`, {
+      const saga = await this.#ask("GET", `${path(key)}/wait?seconds=${wait.toFixed(3)}`, {
         signal, seconds: wait + BEYOND, patience: Math.max(LATE, Math.min(left, this.#timeout)) + wait,
       });
-      if (told.over) return sagaOf(await this.#values.saga(told));
+      if (saga.over) return sagaOf(await this.#values.saga(saga));
       if (performance.now() >= until) {
-        const waits = told.waits.map(({ step, why }) => `${step} (${why})`).join(", ");
+        const waits = saga.waits.map(({ step, why }) => (step === null ? why : `${step} (${why})`)).join(", ");
         throw new WaitTimeout(`'${key}' is still open after ${timeout} s${waits && `: it waits for ${waits}`}`);
       }
     }
@@ -120,11 +120,21 @@ export class Client {
     };
     for (const [word, value] of Object.entries(words)) if (value !== undefined) query.set(word, value);
     for (const [label, value] of Object.entries(labels)) query.append("label", `${label}=${value}`);
+    for await (const page of this.#pages("v1/sagas", query, signal)) yield* page.sagas.map(summaryOf);
+  }
+
+  async *decisions({ pageSize = 100, key, definition, decision, signal } = {}) {
+    const query = new URLSearchParams();
+    for (const [word, value] of Object.entries({ limit: pageSize, key, definition, decision })) if (value !== undefined) query.set(word, value);
+    for await (const page of this.#pages("v1/decisions", query, signal)) yield* page.decisions.map(decisionOf);
+  }
+
+  async *#pages(path, query, signal) {
     for (;;) {
-      const { sagas, next } = await this.#ask("GET", `v1/sagas?${query}`, { signal });
-      for (const saga of sagas) yield summaryOf(saga);
-      if (next === null) return;
-      query.set("after", next);
+      const page = await this.#ask("GET", `${path}?${query}`, { signal });
+      yield page;
+      if (page.next === null) return;
+      query.set("after", page.next);
     }
   }
 

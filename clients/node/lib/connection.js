@@ -41,7 +41,8 @@ export class Connection {
   constructor(url, token) {
     const given = Array.isArray(url) ? url : [url];
     if (!given.length) throw new InvalidArgument("there is no address. Write, for example, http://127.0.0.1:8080");
-    this.#urls = given.map(addressOf);
+    const first = Math.floor(Math.random() * given.length); // many clients spread over them
+    this.#urls = [...given.slice(first), ...given.slice(0, first)].map(addressOf);
     if (token && !TOKEN.test(token)) throw new InvalidArgument("the token has a character that no token has, for example a line break. Copy it again");
     this.#headers = token ? { authorization: `Bearer ${token}` } : {};
     this.#agents = { "http:": new http.Agent({ keepAlive: true }), "https:": new https.Agent({ keepAlive: true }) };

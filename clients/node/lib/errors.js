@@ -25,7 +25,7 @@ export class Fail extends SagasError {}
 /** Throw it in a function that had no effect, if another attempt may help. */
 export class Retry extends SagasError {}
 
-/** Throw it in a function if the outcome is unknown. Other errors mean the same. */
+/** Throw it in a function if the outcome is unknown. Other errors mean the same; after a ReferenceError, or if a module is missing, the task also waits for a retry by an operator. */
 export class Unknown extends SagasError {}
 
 /** The reason of a task's signal: the saga is to be undone. */
@@ -65,6 +65,8 @@ export class ConflictingReport extends Problem {}
 export class SagaOver extends Problem {}
 /** The saga undoes a child, so it is not aborted. */
 export class NotAbortable extends Problem {}
+/** The saga is open, has completed, or is a child, so it is not restarted. */
+export class NotRestartable extends Problem {}
 /** Another worker has the task, or an operator must decide. */
 export class LeaseLost extends Problem {}
 /** The lease was not issued to this worker for this task. */
@@ -74,7 +76,7 @@ export class InvalidRequest extends Problem {}
 
 const CLASSES = {
   Unauthorized, Forbidden, NoSuchSaga, NoSuchDefinition, NoSuchTask, KeyConflict, StepNotWaiting, ConflictingReport,
-  SagaOver, NotAbortable, LeaseLost, InvalidLease, InvalidRequest,
+  SagaOver, NotAbortable, NotRestartable, LeaseLost, InvalidLease, InvalidRequest,
   InvalidKey: InvalidRequest, InvalidInput: InvalidRequest, NotSerializable: InvalidRequest,
   InvalidLabel: InvalidRequest, InvalidResult: InvalidRequest, TooLarge: InvalidRequest, BodyTooLarge: InvalidRequest,
 };

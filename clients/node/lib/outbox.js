@@ -16,12 +16,12 @@ const isUnstorable = (status) => [413, 422].includes(status);
 
 /** How a task ended: the verb, and the keys of its body as JSON. */
 export class Report {
-  constructor(task, { verb, told }) {
-    Object.assign(this, { task, verb, told, isReplaced: false });
+  constructor(task, { verb, fields }) {
+    Object.assign(this, { task, verb, fields, isReplaced: false });
   }
 
   get lease() {
-    return `"lease":${JSON.stringify(this.task.lease)},${this.told}`;
+    return `"lease":${JSON.stringify(this.task.lease)},${this.fields}`;
   }
 
   get path() {
@@ -83,7 +83,7 @@ export class Outbox {
   #batch() {
     let count = 0;
     for (let bytes = 0; count < Math.min(this.#waiting.length, MOST_BATCH); count += 1) {
-      bytes += this.#waiting[count].told.length;
+      bytes += this.#waiting[count].fields.length;
       if (count && bytes > MOST_BYTES) break;
     }
     return this.#waiting.splice(0, count);
@@ -97,7 +97,7 @@ export class Outbox {
       try {
         const { value } = await this.#ask("v1/tasks/report", `{"reports":[${left.map(({ whole }) => whole).join()}]${found ? "" : claimWith(next)}}`);
         found ??= value.next;
-        left = value.reports.map((told, place) => this.#again(left[place], told)).filter(Boolean);
+        left = value.reports.map((reply, place) => this.#again(left[place], reply)).filter(Boolean);
       } catch (error) {
         if (!(error instanceof Problem)) throw error;
         if (isFinal(error) && !next) throw error;
@@ -132,7 +132,7 @@ export class Outbox {
     if (isFinal(problem)) {
       this.#worker.refused(problem);
     } else if (report.verb === "complete" && isUnstorable(problem.status) && !report.isReplaced) {
-      report.told = `"result":${JSON.stringify({ unstorable: shortened(problem.message) })}`;
+      report.fields = `"result":${JSON.stringify({ unstorable: shortened(problem.message) })}`;
       report.isReplaced = true;
       return report;
     } else {

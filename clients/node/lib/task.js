@@ -18,30 +18,30 @@ export class Task {
   #news = null;
   #isLost = false;
 
-  constructor(told, heartbeat) {
+  constructor(leased, heartbeat) {
     Object.assign(this, {
-      name: told.name,
-      attemptId: told.attempt_id,
-      definition: told.definition,
-      key: told.key,
-      step: told.step,
-      declaredStep: told.declared_step ?? told.step,
-      index: told.index ?? null,
-      itemKey: told.item_key ?? null,
-      item: told.item ?? null,
-      given: told.given ?? null,
-      isCompensation: told.undo,
-      attempt: told.attempt,
-      input: told.input,
-      results: told.results,
-      result: told.result,
-      idempotencyKey: told.idempotency_key,
-      originalIdempotencyKey: told.original_idempotency_key,
-      traceparent: told.traceparent,
-      deadline: told.deadline === null ? null : new Date(1000 * told.deadline),
-      cancelled: told.cancelled ?? null,
+      name: leased.name,
+      attemptId: leased.attempt_id,
+      definition: leased.definition,
+      key: leased.key,
+      step: leased.step,
+      declaredStep: leased.declared_step ?? leased.step,
+      index: leased.index ?? null,
+      itemKey: leased.item_key ?? null,
+      item: leased.item ?? null,
+      given: leased.given ?? null,
+      isCompensation: leased.undo,
+      attempt: leased.attempt,
+      input: leased.input,
+      results: leased.results,
+      result: leased.result,
+      idempotencyKey: leased.idempotency_key,
+      originalIdempotencyKey: leased.original_idempotency_key,
+      traceparent: leased.traceparent,
+      deadline: leased.deadline === null ? null : new Date(1000 * leased.deadline),
+      cancelled: leased.cancelled ?? null,
     });
-    const hidden = { lease: told.lease, heartbeat, until: performance.now() + 500 * told.seconds, unstorable: undefined };
+    const hidden = { lease: leased.lease, heartbeat, until: performance.now() + 500 * leased.seconds, unstorable: undefined };
     for (const [name, value] of Object.entries(hidden)) Object.defineProperty(this, name, { value, writable: true });
   }
 
@@ -61,7 +61,7 @@ export class Task {
   }
 
   /** A heartbeat has sent this. */
-  told(news) {
+  updated(news) {
     if (this.#news === news) this.#news = null;
   }
 
@@ -104,21 +104,38 @@ function isA(error, kind) {
   }
 }
 
+// Whether the program must change: a repetition throws it again. JSON.parse throws a SyntaxError for data.
+function isBug(error) {
+  try {
+    return error instanceof ReferenceError || ["ERR_MODULE_NOT_FOUND", "MODULE_NOT_FOUND"].includes(error.code);
+  } catch {
+    return false;
+  }
+}
+
+// The file and the line that threw it, in brackets.
+function placeOf(error) {
+  const line = `${error.stack ?? ""}`.split("\n").find((line) => /^ +at .*\d/.test(line) && !line.includes("node:internal"));
+  return line ? ` (${line.trim().replace(/^at /, "")})` : "";
+}
+
 /** Calls a function; gives what is reported: the verb, and the keys of its body as JSON. */
 export async function outcomeOf(run, task, logger) {
   let result;
   try {
     result = await run(task);
   } catch (error) {
-    const text = `"error":${JSON.stringify(shortened(described(error)))}`;
-    if (isA(error, Fail)) return { verb: "fail", told: `${text},"final":true` };
-    return { verb: isA(error, Retry) ? "fail" : "unknown", told: text };
+    const place = isBug(error) ? placeOf(error) : "";
+    const text = `"error":${JSON.stringify(shortened(described(error) + place))}`;
+    if (isA(error, Fail)) return { verb: "fail", fields: `${text},"final":true` };
+    if (isA(error, Retry)) return { verb: "fail", fields: text };
+    return { verb: "unknown", fields: isBug(error) ? `${text},"program_error":true` : text };
   }
   try {
-    return { verb: "complete", told: `"result":${write(result)}` };
+    return { verb: "complete", fields: `"result":${write(result)}` };
   } catch (error) {
     const why = isA(error, InvalidArgument) ? `${error.message}` : described(error);
     logger.warn(`${task.attemptId}: the result could not be stored: ${why}`);
-    return { verb: "complete", told: `"result":${JSON.stringify({ unstorable: shortened(why) })}` };
+    return { verb: "complete", fields: `"result":${JSON.stringify({ unstorable: shortened(why) })}` };
   }
 }

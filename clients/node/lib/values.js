@@ -30,10 +30,10 @@ export class Values {
   }
 
   /** What the service says of a saga, with its values. */
-  async saga(told) {
-    if (!this.#codec && !this.#blobs) return told;
-    const results = await Promise.all(Object.entries(told.results).map(async ([step, value]) => [step, await this.read(value)]));
-    return { ...told, input: await this.read(told.input), results: Object.fromEntries(results) };
+  async saga(saga) {
+    if (!this.#codec && !this.#blobs) return saga;
+    const results = await Promise.all(Object.entries(saga.results).map(async ([step, value]) => [step, await this.read(value)]));
+    return { ...saga, input: await this.read(saga.input), results: Object.fromEntries(results) };
   }
 
   async read(value) {

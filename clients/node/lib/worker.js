@@ -210,7 +210,7 @@ export class Worker {
       if (!this.#unknown.has(step)) this.#logger.warn(`${this.url}: no definition of the service has the step ${step}. Check its name, or add the definition there`);
       this.#unknown.add(step);
     }
-    for (const told of tasks) this.#ahead.push(new Task(told, heartbeat));
+    for (const leased of tasks) this.#ahead.push(new Task(leased, heartbeat));
     this.#moves += tasks.length;
     if (this.#isStopped) this.#giveBack();
   }
@@ -284,7 +284,7 @@ export class Worker {
       if (REPEAT.includes(status)) throw new Error(`${status}`);
       if (status >= 300) task.refused(status, text, this.#logger);
       else task.unwanted(JSON.parse(text).cancelled);
-      task.told(news);
+      task.updated(news);
       return true;
     } catch {
       this.#connection.turnFrom(url);

@@ -14,8 +14,8 @@ revoked.revoke();
 
 async function outcome(run) {
   const said = [];
-  const { verb, told } = await outcomeOf(run, { attemptId: "x" }, { warn: (text) => said.push(text) });
-  return { verb, said, ...JSON.parse(`{${told}}`) };
+  const { verb, fields } = await outcomeOf(run, { attemptId: "x" }, { warn: (text) => said.push(text) });
+  return { verb, said, ...JSON.parse(`{${fields}}`) };
 }
 
 for (const [what, thrown, text] of [
@@ -45,4 +45,14 @@ test("a result that says nothing of why it cannot be written is done all the sam
   const { verb, result, said } = await outcome(() => ({ toJSON() { throw silent; } }));
   assert.equal(verb, "complete");
   assert.ok(result.unstorable && said.length === 1);
+});
+
+test("a bug says its line, and waits for a retry; data that is not JSON does not", async () => {
+  const bug = await outcome(() => carier.ship()); // eslint-disable-line no-undef
+  assert.deepEqual([bug.verb, bug.program_error], ["unknown", true]);
+  assert.match(bug.error, /^ReferenceError: carier is not defined \(.*task\.test\.mjs:\d+:\d+\)?/);
+  const missing = await outcome(() => import("./there-is-no-such-module.mjs"));
+  assert.deepEqual([missing.verb, missing.program_error], ["unknown", true]);
+  const data = await outcome(() => JSON.parse("<html>"));
+  assert.deepEqual([data.verb, data.program_error], ["unknown", undefined]);
 });

@@ -35,6 +35,7 @@ async function call(): Promise<void> {
   const found: Saga<{ to: string }, Results> | null = await client.get<"trip">("order-1");
   const aborted: boolean = await client.abort("order-1", { note: "no more" });
   await client.complete("order-1", "car", { id: "x" }, { undo: true });
+  for await (const entry of client.decisions({ decision: "retry" })) entry.sagas[0]?.key.length;
   for await (const saga of client.list({ phase: "open", labels: { customer: "7" }, startedAfter: new Date() })) saga.key.length;
   const events: EventStream = await client.events({ key: "order-1" }).open();
   for await (const event of events) if (event.name === "saga_ended") break;

@@ -19,17 +19,17 @@ const blobs = {
   },
 };
 const saga = { key: "k", over: true, waits: [], input: coded('{"card":7}'), results: { a: coded("null"), b: [1], c: "text" } };
-let told = saga;
+let answered = saga;
 const server = createServer((_, answer) => {
   answer.setHeader("content-type", "application/json");
-  answer.end(JSON.stringify(told));
+  answer.end(JSON.stringify(answered));
 }).listen(0, "127.0.0.1");
 await new Promise((resolve) => server.once("listening", resolve));
 after(() => server.close());
 const url = `http://127.0.0.1:${server.address().port}`;
 
 async function read(options, values) {
-  told = values ? { ...saga, input: null, results: values } : saga;
+  answered = values ? { ...saga, input: null, results: values } : saga;
   const client = new Client(url, options);
   try {
     return await client.wait("k");

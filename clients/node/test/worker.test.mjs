@@ -35,7 +35,10 @@ async function serving(t, says) {
 
 function working(url, run = () => null, options = {}) {
   const warnings = [];
+  const { random } = Math;
+  Math.random = () => 0; // it begins with the first service
   const worker = new Worker(url, { token: "secret", name: "w", logger: { warn: (text) => warnings.push(text) }, ...options }).step("s", "a", run);
+  Math.random = random;
   return { worker, warnings };
 }
 
@@ -55,9 +58,9 @@ async function stopping(t, ...says) {
   const { worker, warnings } = working([url, "http://127.0.0.1:1"], () => assert.fail("it begins"));
   await worker.run();
   assert.deepEqual([worker.url, warnings], [url, []]);
-  const [, told] = heard("claim");
-  assert.equal(told.wait, 20);
-  for (const one of heard("end")) assert.deepEqual([one.worker, one.authorization], [told.worker, told.authorization]);
+  const [, claimed] = heard("claim");
+  assert.equal(claimed.wait, 20);
+  for (const one of heard("end")) assert.deepEqual([one.worker, one.authorization], [claimed.worker, claimed.authorization]);
   assert.deepEqual(heard("heartbeat").map(({ lease, seconds }) => [lease, seconds]), [[TASK.lease, 0.5]]); // it is given back
   return heard("end").map(({ at }) => at - stopped);
 }
@@ -117,4 +120,11 @@ test("a report that takes longer than a try gets through, and a stop ends no cla
   assert.ok(heard("complete").length < 6); // the second try is longer
   assert.match(warnings.join(), /no answer within 1 s/);
   assert.equal(heard("end").length, 0);
+});
+
+test("workers begin with any of their services", () => {
+  const urls = ["http://127.0.0.1:1", "http://127.0.0.1:2", "http://127.0.0.1:3"];
+  const first = new Set();
+  for (let count = 0; count < 1000 && first.size < urls.length; count += 1) first.add(new Worker(urls).url);
+  assert.deepEqual([...first].sort(), urls);
 });

@@ -18,7 +18,7 @@ Every step is committed, or undone if that costs least, also if this program die
 
 - To declare: `Saga`, with `step`, `wait`, `approval` and `child`; `Step.compensation`,
   `Backoff`, `NEVER`.
-- In a function: `Task` (hand its `idempotency_key` to services), `Fail`, `RetryAfter`,
+- In a function: `Task` (hand its `idempotency_key` to services), `Fail`, `Retry`, `RetryAfter`,
   `Unknown`; in an approval's, `Approved`, `Rejected`.
 - To run: `open`, `open_sync`; `Store`, with `start`, `wait`, `abort`, `complete`, `fail`,
   `retry`, `list`, `attention`, `resolve`; `Run`, `SagaResult`, `Plan`.
@@ -37,8 +37,15 @@ from typing import TYPE_CHECKING, Any
 if sys.version_info < (3, 11):
     raise ImportError(f"sagas needs Python 3.11 or later, and this is {sys.version.split()[0]}")
 
+from sagas.api.explanation import explain
+from sagas.api.settings import Settings
 from sagas.api.store import Run, Store, open
 from sagas.api.sync_store import SyncRun, SyncStore, open_sync
+from sagas.api.async_service_client import (
+    AsyncServiceClient,
+    AsyncServiceEvents,
+    AsyncServiceRun,
+)
 from sagas.api.service_client import ServiceClient, ServiceEvents, ServiceRun
 from sagas.api.service_connection import ServiceRefused
 from sagas.api.service_replies import ServiceEvent, ServiceSaga, ServiceSummary
@@ -63,18 +70,26 @@ from sagas.base.errors import (
     KeyConflict,
     LeaseLost,
     MissingCodec,
+    MissingResult,
     MissingStep,
+    NoSuchNode,
+    NoSuchPause,
     NoSuchSaga,
     NoSuchSchedule,
     NoSuchTask,
     NotAbortable,
+    NotErasable,
+    NotRestartable,
     NotSerializable,
     OwnerUnavailable,
+    ProgramError,
     ResultNotSerializable,
+    Retry,
     RetryAfter,
     SagasError,
     ServiceUnavailable,
     SlotsTaken,
+    StartsPaused,
     StepFailed,
     StepNotWaiting,
     StoreLocked,
@@ -88,22 +103,30 @@ from sagas.base.errors import (
 )
 from sagas.base.events import Event
 from sagas.core.attention import Attention, AttentionReason
+from sagas.core.decisions import DecidedSaga, DecisionEntry
+from sagas.core.nodes import Drain, NodeState, NodeStatus
+from sagas.core.pauses import Pause
 from sagas.core.results import (
     ActiveAttempt,
     DefinitionCount,
     HistoryEvent,
-    SagaResult,
     Summary,
-    UnknownAttempt,
 )
+from sagas.definition.end_calls import EndTask
+from sagas.definition.saga_result import SagaResult
+from sagas.definition.erasure import Erasure
 from sagas.definition.waits import Approved, Rejected
 from sagas.definition.payloads import BlobStore, Codec
 from sagas.definition.step import Collected, FanOut, FanOutInclusion, Inclusion, Step, collect
-from sagas.definition.task import ItemTask, Task
+from sagas.definition.task import CompensationTask, ItemTask, Task, TransactionTask
 from sagas.definition.saga import Saga
-from sagas.definition.call_options import Backoff, Cost, NEVER
+from sagas.definition.step_options import StepOptions
+from sagas.definition.call_options import Backoff, Cost, NEVER, NOTHING
 from sagas.engine.library import InvalidText, Verdict, audit, check, plan
 from sagas.engine.plan import Choice, Plan
+from sagas.inspection.expected_cost import BetterOrder, ExpectedCost
+from sagas.inspection.explanation import Explanation
+from sagas.inspection.failure_cases import FailureCase
 from sagas.runtime.leased_tasks import Heartbeat, LeasedTask, Queue
 from sagas.storage import store_name
 from sagas.storage.batches import BatchResult
@@ -161,10 +184,14 @@ def __dir__() -> list[str]:
 __all__ = [
     "ActiveAttempt",
     "Approved",
+    "AsyncServiceClient",
+    "AsyncServiceEvents",
+    "AsyncServiceRun",
     "Attention",
     "AttentionReason",
     "Backoff",
     "BatchResult",
+    "BetterOrder",
     "BlobStore",
     "CannotDecode",
     "Choice",
@@ -173,15 +200,24 @@ __all__ = [
     "Closed",
     "Codec",
     "Collected",
+    "CompensationTask",
     "ConflictError",
     "ConflictingReport",
     "Cost",
+    "DecidedSaga",
+    "DecisionEntry",
     "DefinitionCount",
     "DefinitionError",
+    "Drain",
     "EngineError",
     "EngineNotRunnable",
+    "EndTask",
+    "Erasure",
     "Event",
+    "ExpectedCost",
+    "Explanation",
     "Fail",
+    "FailureCase",
     "FanOut",
     "FanOutInclusion",
     "FolderBlobStore",
@@ -202,19 +238,30 @@ __all__ = [
     "LeasedTask",
     "LeaseLost",
     "MissingCodec",
+    "MissingResult",
     "MissingStep",
     "NEVER",
+    "NOTHING",
+    "NoSuchNode",
+    "NoSuchPause",
     "NoSuchSaga",
     "NoSuchSchedule",
     "NoSuchTask",
+    "NodeState",
+    "NodeStatus",
     "NotAbortable",
+    "NotErasable",
+    "NotRestartable",
     "NotSerializable",
     "OwnerUnavailable",
+    "Pause",
     "Plan",
     "PostgresBlobStore",
+    "ProgramError",
     "Queue",
     "Rejected",
     "ResultNotSerializable",
+    "Retry",
     "RetryAfter",
     "Run",
     "Saga",
@@ -229,10 +276,13 @@ __all__ = [
     "ServiceSaga",
     "ServiceSummary",
     "ServiceUnavailable",
+    "Settings",
     "SlotsTaken",
+    "StartsPaused",
     "Step",
     "StepFailed",
     "StepNotWaiting",
+    "StepOptions",
     "Store",
     "StoreLocked",
     "StoreSchemaTooNew",
@@ -245,8 +295,8 @@ __all__ = [
     "Task",
     "TemporaryError",
     "TooLarge",
+    "TransactionTask",
     "Unknown",
-    "UnknownAttempt",
     "Verdict",
     "Worker",
     "WouldWaitForever",
@@ -254,6 +304,7 @@ __all__ = [
     "audit",
     "check",
     "collect",
+    "explain",
     "open",
     "open_sync",
     "plan",

@@ -22,18 +22,25 @@ def main(arguments: list[str] | None = None) -> int:
         from sagas.cli import store_command
 
         return store_command.main(arguments[1:])
-    if arguments[:1] in (["serve"], ["token"]):
+    if arguments[:1] == ["new"]:
+        from sagas.cli import new_project
+
+        return new_project.main(arguments[1:])
+    if arguments[:1] == ["explain"]:
+        from sagas.cli import explanation
+
+        return explanation.main(arguments[1:])
+    if arguments[:1] in (["demo"], ["serve"], ["token"]):
         try:
-            from sagas.server import command as service
+            from sagas.server import command as service, demo
         except ImportError as error:
             print(
                 f"sagas: {error.name} is missing. Run pip install 'sagas[server]'",
                 file=sys.stderr,
             )
             return 4
-        return (
-            service.main(arguments[1:]) if arguments[0] == "serve" else service.token(arguments[1:])
-        )
+        commands = {"demo": demo.main, "serve": service.main, "token": service.token}
+        return commands[arguments[0]](arguments[1:])
     try:
         path = program.path()
     except EngineError as error:

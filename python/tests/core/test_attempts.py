@@ -14,28 +14,30 @@ import pytest
 
 import sagas
 from sagas.core import outcomes, reports, states
-from sagas.core.attempt_machine import (
-    AttemptMachine,
+from sagas.core.attempt.directives import (
     CALL,
     Decision,
     Do,
     FOLLOW,
-    MAX_SLEEP,
     NOTHING,
     OFFER,
     REPORT,
     REPORT_AGAIN,
     SLEEP,
     WITHDRAW,
+)
+from sagas.core.attempt.machine import (
+    AttemptMachine,
+    MAX_SLEEP,
     becomes_reportable,
     is_called_at_once,
     is_reportable,
 )
 from sagas.core.reports import EarlyReport
-from sagas.core.attempt import Attempt, SuspensionRow
-from sagas.core.saga_instance import SagaInstance
+from sagas.core.attempt.model import Attempt, SuspensionRow
+from sagas.core.attempt.instance import SagaInstance
 from sagas.core.outcomes import Outcome
-from sagas.core.states import AttemptState, EarlyReason, OutcomeKind, Suspension
+from sagas.core.states import AttemptState, EarlyReason, OutcomeKind, RowState, Suspension
 from sagas.definition.registry import DefinitionRegistry
 
 NOW = 1000.0
@@ -43,7 +45,7 @@ WAIT = sagas.Backoff(initial=10, maximum=100)
 MACHINE = AttemptMachine()
 
 
-class Where:
+class QueueStub:
     """A queue of workers that does not exist."""
 
     timeout = 60.0
@@ -71,7 +73,7 @@ def trip() -> sagas.Saga:
     async def simple(task: sagas.Task[Any]) -> None:
         ...
 
-    @saga.step(undo=0, tries=3, backoff=WAIT, max_unknown=2)
+    @saga.step(undo=0, tries=3, backoff=WAIT, max_unknown=3)
     def plain(task: sagas.Task[Any]) -> None:
         ...
 
@@ -92,7 +94,7 @@ def trip() -> sagas.Saga:
         ...
 
     saga.step(name="outside", undo=0, tries=2, external=True, backoff=WAIT)
-    queue: Any = Where()
+    queue: Any = QueueStub()
     saga.step(name="sent", undo=0, queue=queue, backoff=WAIT)(lambda task: None)
     return saga
 
@@ -225,7 +227,7 @@ def test_a_wait_is_stored_then_waits_then_is_called() -> None:
         decision == Decision(Do.SUSPEND, SuspensionRow(Suspension.TIMER, NOW + 30))
         and not decision.timer
     )
-    attempt.pending_row = decision.row
+    attempt.expect_row(decision.row)
     assert not is_reportable(attempt) and becomes_reportable(attempt)
     assert MACHINE.stored(attempt) == Decision(
         Do.SUSPEND, timer=True, event=("step_suspended", "wait")
@@ -237,15 +239,15 @@ def test_a_wait_is_stored_then_waits_then_is_called() -> None:
     )
     assert MACHINE.timer(attempt, NOW - 900) is SLEEP  # a clock that jumped back
     decision = MACHINE.timer(attempt, NOW + 30)
-    assert decision == Decision(Do.SUSPEND, SuspensionRow(Suspension.TIMER, 0.0))
-    attempt.pending_row = decision.row
+    assert decision == Decision(Do.SUSPEND, SuspensionRow(Suspension.WAIT_OVER))
+    attempt.expect_row(decision.row)
     assert MACHINE.stored(attempt) is CALL and not becomes_reportable(attempt)
 
 
 def test_the_next_attempt_of_a_wait_does_not_wait_again() -> None:
     attempt = attempt_of("pause", 2)
-    attempt.instance.rare.wait_ends[attempt.action_key] = 0.0
-    assert MACHINE.begin(attempt, NOW) is CALL and attempt.has_row
+    attempt.instance.rare.end_wait(attempt.action_key)
+    assert MACHINE.begin(attempt, NOW) is CALL and attempt.row_state is RowState.STORED
     attempt = attempt_of("pause", 2)
     attempt.instance.rare.wait_ends[attempt.action_key] = NOW + 7
     assert MACHINE.begin(attempt, NOW).row == SuspensionRow(Suspension.TIMER, NOW + 7)
@@ -301,7 +303,7 @@ def test_a_saga_drains_while_the_time_of_a_wait_is_computed() -> None:
 def test_a_wait_of_a_saga_that_drains_is_given_up_before_it_waits() -> None:
     attempt = attempt_of("pause", is_uncalled=False)  # an earlier program had started it
     attempt.instance.draining = True
-    assert MACHINE.begin(attempt, NOW) is REPORT and attempt.has_row
+    assert MACHINE.begin(attempt, NOW) is REPORT and attempt.row_state is RowState.STORED
     last = attempt_of("pause", 2)
     last.instance.draining = True
     assert MACHINE.begin(last, NOW).do is Do.SUSPEND
@@ -382,16 +384,16 @@ def test_undecodable_values_park_an_attempt() -> None:
         SuspensionRow(Suspension.CANNOT_DECODE, None, "input lacks x"),
         event=("step_cannot_decode", "input lacks x"),
     )
-    attempt.pending_row = decision.row
+    attempt.expect_row(decision.row)
     assert (
         MACHINE.stored(attempt).timer is False
         and MACHINE.timer_delay(attempt, NOW) is None
         and is_reportable(attempt)
     )
     wait = running("pause")
-    wait.instance.rare.wait_ends[wait.action_key] = 0.0
+    wait.instance.rare.end_wait(wait.action_key)
     assert MACHINE.ended(wait, outcome, NOW).row == SuspensionRow(
-        Suspension.CANNOT_DECODE, 0.0, "input lacks x"
+        Suspension.CANNOT_DECODE, error="input lacks x", is_wait_over=True
     )
 
 
@@ -402,13 +404,13 @@ def test_an_approval_is_requested_and_times_out() -> None:
         decision == Decision(Do.SUSPEND, SuspensionRow(Suspension.APPROVAL, NOW + 60))
         and attempt.is_uncalled
     )
-    attempt.pending_row = decision.row
+    attempt.expect_row(decision.row)
     assert MACHINE.stored(attempt) == Decision(
         Do.SUSPEND, timer=True, event=("step_suspended", "approval")
     )
     assert MACHINE.timer(attempt, NOW + 59) is SLEEP and MACHINE.timer(attempt, NOW + 60) is REPORT
     assert (
-        "nobody approved it" in error_of(attempt)
+        "it was not approved" in error_of(attempt)
         and attempt.action_key in attempt.instance.rare.final
     )
 
@@ -463,9 +465,9 @@ def test_an_offered_attempt_is_withdrawn_first() -> None:
 # -- rows
 
 
-def test_a_row_that_is_stored_when_the_attempt_went_on_leads_to_nothing() -> None:
+def test_a_row_that_is_stored_when_the_attempt_continued_leads_to_nothing() -> None:
     attempt = running("plain")
-    attempt.pending_row = MACHINE.ended(attempt, outcomes.unknown("lost"), NOW).row
+    attempt.expect_row(MACHINE.ended(attempt, outcomes.unknown("lost"), NOW).row)
     attempt.queue()
     assert MACHINE.stored(attempt) is NOTHING and attempt.pending_row is None
     assert MACHINE.stored(attempt) is NOTHING
@@ -476,7 +478,7 @@ def test_a_row_that_is_stored_when_the_attempt_went_on_leads_to_nothing() -> Non
 
 def test_a_finished_attempt_is_reported_again() -> None:
     attempt = running("plain")
-    MACHINE.finish(attempt, outcomes.failure("no", final=True), NOW)
+    MACHINE.ended(attempt, outcomes.failure("no", final=True), NOW)
     assert MACHINE.resume(attempt, NOW) is REPORT_AGAIN and MACHINE.report(attempt) is REPORT
 
 
@@ -485,12 +487,15 @@ def test_running_and_waiting_attempts_continue() -> None:
     asleep.suspend(Suspension.BACKOFF, NOW + 1)
     queued = attempt_of("plain")
     queued.queue()
-    assert [MACHINE.resume(one, NOW) for one in (running("plain"), asleep, queued)] == [NOTHING] * 3
+    assert [MACHINE.resume(attempt, NOW) for attempt in (running("plain"), asleep, queued)] == [
+        NOTHING
+    ] * 3
 
 
 def test_a_row_that_was_on_its_way_is_put_again() -> None:
     attempt = running("plain")
-    attempt.pending_row = row = MACHINE.ended(attempt, outcomes.unknown("lost"), NOW).row
+    row = MACHINE.ended(attempt, outcomes.unknown("lost"), NOW).row
+    attempt.expect_row(row)
     assert MACHINE.resume(attempt, NOW + 1) == Decision(Do.SUSPEND, row, timer=True)
     attempt.queue()
     assert (
@@ -508,7 +513,7 @@ def test_a_row_that_was_on_its_way_is_put_again() -> None:
         ("plain", Suspension.UNKNOWN, None, NOTHING),
         ("plain", Suspension.CANNOT_DECODE, None, CALL),
         ("pause", Suspension.TIMER, NOW + 5, SLEEP),
-        ("pause", Suspension.TIMER, 0.0, CALL),
+        ("pause", Suspension.WAIT_OVER, None, CALL),
         ("sign", Suspension.APPROVAL, NOW + 5, SLEEP),
         ("sign", Suspension.APPROVAL, None, SLEEP),
         ("outside", Suspension.EXTERNAL, None, OFFER),
@@ -519,15 +524,11 @@ def test_an_earlier_attempt_continues_by_its_row(
 ) -> None:
     made = attempt_of(step)
     attempt = Attempt(made.instance, made.step, "run", 1, is_uncalled=False)
-    attempt.reason, attempt.waiting_since, attempt.until, attempt.has_row = (
-        reason,
-        NOW - 9,
-        until,
-        True,
-    )
-    assert attempt.has_row and not attempt.is_uncalled and attempt.waiting_since == NOW - 9
+    attempt.reason, attempt.waiting_since, attempt.until = reason, NOW - 9, until
+    attempt.keep_row()
+    assert not attempt.is_uncalled and attempt.waiting_since == NOW - 9
     assert MACHINE.resume(attempt, NOW) == decision
-    assert attempt.is_uncalled is (reason in (Suspension.TIMER, Suspension.APPROVAL) and until != 0)
+    assert attempt.is_uncalled is (reason in (Suspension.TIMER, Suspension.APPROVAL))
     if decision is not CALL:
         assert (attempt.state, attempt.reason, attempt.until) == (
             AttemptState.SUSPENDED,
@@ -546,7 +547,8 @@ def test_an_attempt_with_a_child_is_resumed() -> None:
     followed, and not given up again.
     """
     attempt = attempt_of("plain", is_uncalled=True)
-    attempt.reason, attempt.has_row = Suspension.CHILD, True
+    attempt.reason = Suspension.CHILD
+    attempt.keep_row()
     assert MACHINE.resume(attempt, NOW) is FOLLOW and not attempt.is_uncalled
     attempt.instance.busy[attempt.action_key] = attempt
     attempt.instance.aborted = attempt.instance.draining = True
@@ -556,7 +558,7 @@ def test_an_attempt_with_a_child_is_resumed() -> None:
 # -- a saga that drains
 
 
-def test_a_draining_saga_gives_up_waiting_attempts() -> None:
+def test_a_draining_saga_ends_waiting_attempts() -> None:
     instance = attempt_of("plain").instance
     made: dict[str, Attempt] = {}
     for step, number in (
@@ -594,9 +596,13 @@ def test_an_attempt_is_named_by_the_shard_that_its_saga_comes_into() -> None:
     attempt: Any = attempt_of("outside")
     instance: Any = attempt.instance
     instance.token, instance.committed = None, False
-    instance.shard, instance.number = types.SimpleNamespace(name="aa", number=1), 30
+
+    def shard_named(name: str) -> Any:
+        return types.SimpleNamespace(identity=types.SimpleNamespace(name=name))
+
+    instance.shard, instance.number = shard_named("aa"), 30
     assert attempt.token() == f"aa-30-{attempt.name}-run-1"
-    instance.shard, instance.number = types.SimpleNamespace(name="bb", number=2), 0
+    instance.shard, instance.number = shard_named("bb"), 0
     assert attempt.token() == f"bb-0-{attempt.name}-run-1"
     instance.committed = True
     assert attempt.token() == f"bb-0-{attempt.name}-run-1" and instance.token == "bb-0"
@@ -628,30 +634,32 @@ CHOICES = {
 }
 
 
-def decide(what: str, attempt: Attempt, outcome: Outcome, now: float) -> Decision:
+def decide(operation: str, attempt: Attempt, outcome: Outcome, now: float) -> Decision:
     """Apply one event to an attempt, as the runtime does."""
-    if what == "ended":
+    if operation == "ended":
         return MACHINE.ended(attempt, outcome, now)
-    if what == "report":
+    if operation == "report":
         return (
             MACHINE.finish(attempt, outcomes.succeeded(3), now)
             if is_reportable(attempt)
             else NOTHING
         )
-    if what == "stored":
+    if operation == "stored":
         return MACHINE.stored(attempt)
-    if what == "drain":
+    if operation == "drain":
         attempt.instance.draining = True
         return dict(MACHINE.drain(attempt.instance, now)).get(attempt, NOTHING)
-    if what == "limit":
-        attempt.suspend(Suspension.STEP_LIMIT)
-    elif what == "enter":
+    if operation == "begin" and attempt.reason is not None:  # it was called before
+        operation = "resume"
+    if operation == "limit":
+        attempt.limit(Suspension.STEP_LIMIT)
+    elif operation == "enter":
         if attempt.reason is Suspension.STEP_LIMIT:
             attempt.queue()
-    elif what in ("start", "claim"):
-        getattr(attempt, what)()
+    elif operation in ("start", "claim"):
+        getattr(attempt, operation)()
     else:
-        return getattr(MACHINE, what)(attempt, now)  # type: ignore[no-any-return]
+        return getattr(MACHINE, operation)(attempt, now)  # type: ignore[no-any-return]
     return NOTHING
 
 
@@ -669,10 +677,10 @@ def test_whatever_happens_each_decision_fits_the_state(
         if attempt.state is AttemptState.FINISHED:
             break
         now += data.draw(st.sampled_from((0.0, 1.0, 100.0, -1000.0)))
-        what = data.draw(st.sampled_from(CHOICES[attempt.state]))
-        decision = decide(what, attempt, data.draw(st.sampled_from(OUTCOMES)), now)
+        operation = data.draw(st.sampled_from(CHOICES[attempt.state]))
+        decision = decide(operation, attempt, data.draw(st.sampled_from(OUTCOMES)), now)
         if decision.row:
-            attempt.pending_row, attempt.has_row = decision.row, True
+            attempt.expect_row(decision.row)
         if decision.do is Do.CALL:
             attempt.queue()
         assert (decision.do is Do.REPORT) <= (attempt.state is AttemptState.FINISHED)
@@ -697,7 +705,7 @@ def test_early_reports() -> None:
             instance.aborted = instance.draining = aborted
             EarlyReport(instance, word, Outcome(OutcomeKind.SUCCEEDED, '"yes"')).keep()
             assert reports.stored_report(instance, word) == Outcome(OutcomeKind.SUCCEEDED, '"yes"')
-            assert MACHINE.begin(attempt, NOW) == REPORT and attempt.has_row
+            assert MACHINE.begin(attempt, NOW) == REPORT and attempt.row_state is RowState.STORED
             assert attempt.outcome == Outcome(OutcomeKind.SUCCEEDED, '"yes"')
     attempt = attempt_of("sign")
     EarlyReport(attempt.instance, attempt.action_key, outcomes.reported_outcome(None, "no")).keep()

@@ -13,9 +13,10 @@ import pytest
 
 import sagas
 from sagas.core import outcomes
-from sagas.core.attempt_machine import AttemptMachine, CALL, Decision, Do, REPORT
-from sagas.core.attempt import Attempt
-from sagas.core.saga_instance import SagaInstance
+from sagas.core.attempt.directives import CALL, Decision, Do, REPORT
+from sagas.core.attempt.machine import AttemptMachine
+from sagas.core.attempt.model import Attempt
+from sagas.core.attempt.instance import SagaInstance
 from sagas.core.states import AttemptState, OutcomeKind, Suspension
 from sagas.definition.registry import DefinitionRegistry
 
@@ -38,7 +39,7 @@ def by(order: Order) -> Any:
 
 def shop() -> sagas.Saga:
     """Return a saga with a step that is limited by its account."""
-    saga = sagas.Saga("shop", fair_by=lambda given: given["account"])
+    saga = sagas.Saga("shop", fair_by=lambda value: value["account"])
 
     @saga.step(concurrency=1, concurrency_by=by)
     def pay(task: sagas.Task[Order]) -> None:
@@ -54,9 +55,9 @@ def shop() -> sagas.Saga:
 KIND = DefinitionRegistry([shop()]).kinds[0]
 
 
-def attempt_of(given: Any, kind: str = "run") -> Attempt:
+def attempt_of(value: Any, kind: str = "run") -> Attempt:
     """Return an attempt that was claimed."""
-    instance = SagaInstance("k", json.dumps(given), KIND, 0)
+    instance = SagaInstance("k", json.dumps(value), KIND, 0)
     instance.token = "test-0"
     return Attempt(instance, 0, kind, 1, is_uncalled=True)
 
@@ -73,7 +74,7 @@ def limited(attempt: Attempt) -> tuple[str, Decision]:
 
 
 def test_the_key_of_a_limit_is_computed_once() -> None:
-    """A compensation has none; whoever cannot say it is not called."""
+    """A compensation has none; a saga that cannot say it is not called."""
     attempt = attempt_of({"account": "a"})
     assert (
         limited(attempt) == ("fair_by= and concurrency_by=", CALL)
@@ -83,12 +84,12 @@ def test_the_key_of_a_limit_is_computed_once() -> None:
     assert limited(attempt) == ("", CALL)
     undo = attempt_of({"account": "raises"}, "undo")
     assert limited(undo) == ("fair_by=", CALL) and undo.rare.limit_key is None
-    for given, kind in [
+    for value, kind in [
         ("raises", OutcomeKind.FAILED),
         ("fails", OutcomeKind.FAILED_PERMANENTLY),
         ("odd", OutcomeKind.FAILED),
     ]:
-        attempt = attempt_of({"account": given})
+        attempt = attempt_of({"account": value})
         assert limited(attempt)[1] == REPORT and attempt.state is AttemptState.FINISHED
         assert attempt.outcome and attempt.outcome.kind is kind
     attempt = attempt_of({"number": 7})
@@ -98,8 +99,8 @@ def test_the_key_of_a_limit_is_computed_once() -> None:
 
 def test_the_tenant_of_a_saga() -> None:
     """If its definition cannot return a tenant, the saga has none."""
-    for given, tenant in (({"account": "a"}, '"a"'), ({}, "null")):
-        attempt = attempt_of(given)
+    for value, tenant in (({"account": "a"}, '"a"'), ({}, "null")):
+        attempt = attempt_of(value)
         assert attempt.instance.tenant is None
         limited(attempt)
         assert attempt.instance.tenant == tenant

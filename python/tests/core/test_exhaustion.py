@@ -7,18 +7,12 @@ from typing import Any
 import pytest
 
 import sagas
-from sagas.core import attempt_machine, outcomes
-from sagas.core.attempt_machine import (
-    AttemptMachine,
-    CALL,
-    Do,
-    NOTHING,
-    REPORT,
-    SLEEP,
-    is_reportable,
-)
-from sagas.core.attempt import Attempt
-from sagas.core.saga_instance import SagaInstance
+from sagas.core import outcomes
+from sagas.core.attempt import machine as attempt_machine
+from sagas.core.attempt.directives import CALL, Do, NOTHING, REPORT, SLEEP
+from sagas.core.attempt.machine import AttemptMachine, is_reportable
+from sagas.core.attempt.model import Attempt
+from sagas.core.attempt.instance import SagaInstance
 from sagas.core.states import OutcomeKind, Suspension
 from sagas.definition.registry import DefinitionRegistry
 
@@ -33,9 +27,9 @@ def attempt_of(kind: str = "run", number: int = 1, **options: Any) -> Attempt:
     """Return a running attempt, of two tries."""
     saga = sagas.Saga("s")
     forward = options if kind == "run" else {}
-    step = saga.step(name="a", tries=2, backoff=WAIT, **forward)(lambda task: None)
+    step = saga.step(name="a", backoff=WAIT, **{"tries": 2} | forward)(lambda task: None)
     backward = {} if kind == "run" else options
-    step.compensation(tries=2, **backward)(lambda task: None)
+    step.compensation(**{"tries": 2} | backward)(lambda task: None)
     instance = SagaInstance("k", "null", DefinitionRegistry([saga]).kinds[0], 0)
     instance.token = "test-0"
     attempt = Attempt(instance, 0, kind, number, True)
@@ -59,15 +53,16 @@ def again(attempt: Attempt) -> None:
         ("run", 2, {"on_exhausted": "ask"}, NEVER, None),
         ("run", 2, {"on_exhausted": "retry"}, NEVER, None),
         ("run", 2, {"on_exhausted": "retry"}, NO, Suspension.RETRY),
-        ("run", 2, {"max_attempts": 2}, NO, None),
-        ("run", 2, {"max_attempts": 3}, NO, Suspension.RETRY),
+        ("run", 9, {"tries": 9}, NO, None),
+        ("run", 1, {"tries": 12}, NO, None),
+        ("run", 2, {"tries": 12}, NO, Suspension.RETRY),
         ("undo", 1, {}, NO, None),
         ("undo", 2, {}, NO, Suspension.EXHAUSTED),
         ("undo", 1, {}, NEVER, Suspension.EXHAUSTED),
         ("undo", 1, {"on_exhausted": "retry"}, NEVER, Suspension.EXHAUSTED),
         ("undo", 2, {"on_exhausted": "retry"}, NO, Suspension.RETRY),
         ("undo", 1, {"on_exhausted": "fail"}, NEVER, None),
-        ("undo", 1, {"on_exhausted": "fail", "max_attempts": 9}, NEVER, None),
+        ("undo", 1, {"on_exhausted": "fail", "tries": 12}, NEVER, None),
     ],
 )
 def test_the_decision_after_a_failure(
@@ -90,23 +85,24 @@ def test_attempts_up_to_the_limit() -> None:
 
     Then the attempt needs an operator, who may retry it: attempts count from the first one again.
     """
-    attempt, now = attempt_of(number=2, max_attempts=5, on_exhausted="ask"), NOW
-    for pauses in ((20.0, 40.0, 60.0), (10.0, 20.0, 40.0, 60.0)):
+    attempt, now = attempt_of(number=9, tries=12, on_exhausted="ask"), NOW
+    first = (10.0, 20.0, 40.0)
+    for pauses in ((60.0, 60.0, 60.0), (*first, *8 * (60.0,))):
         for pause in pauses:
             MACHINE.ended(attempt, NO, now)
             assert attempt.until == now + pause and MACHINE.timer_delay(attempt, now) == pause
             now += pause
-            attempt.pending_row = None
+            attempt.take_row()
             assert MACHINE.timer(attempt, now) is CALL
             again(attempt)
         MACHINE.ended(attempt, NO, now)
         assert attempt.reason is Suspension.EXHAUSTED
         assert MACHINE.timer(attempt, now) is NOTHING and attempt_machine.may_retry(attempt)
-        attempt.pending_row = None
-        decision = attempt_machine.retry_attempt(attempt, now)
+        attempt.take_row()
+        decision = MACHINE.retry(attempt, now)
         assert decision.row and (decision.row.reason, decision.row.until) == (Suspension.RETRY, now)
         assert MACHINE.timer(attempt, now) is CALL
-        attempt.pending_row = None
+        attempt.take_row()
         again(attempt)
 
 
@@ -115,10 +111,10 @@ def test_a_retried_unknown_attempt_stays_unknown() -> None:
 
     Its time restarts.
     """
-    attempt = attempt_of(number=2, max_unknown=0)
+    attempt = attempt_of(number=2, max_unknown=1)
     MACHINE.ended(attempt, outcomes.unknown("lost"), NOW)
     assert attempt.waiting_since == NOW
-    decision = attempt_machine.retry_attempt(attempt, NOW + 5)
+    decision = MACHINE.retry(attempt, NOW + 5)
     assert attempt.waiting_since == NOW + 5
     assert decision.row and (decision.row.reason, decision.row.error) == (
         Suspension.UNKNOWN,
@@ -134,9 +130,9 @@ def test_a_saga_that_drains_waits_for_no_failure(options: dict[str, Any]) -> Non
     A compensation continues to wait.
     """
     attempt, undo = attempt_of(number=2, **options), attempt_of("undo", 2, **options)
-    for one in (attempt, undo):
-        MACHINE.ended(one, NO, NOW)
-        one.instance.draining = True
+    for exhausted in (attempt, undo):
+        MACHINE.ended(exhausted, NO, NOW)
+        exhausted.instance.draining = True
     if options["on_exhausted"] == "ask":
         assert MACHINE.drain(attempt.instance, NOW) == [] and attempt_machine.may_retry(attempt)
         attempt.instance.aborted = True
@@ -147,12 +143,12 @@ def test_a_saga_that_drains_waits_for_no_failure(options: dict[str, Any]) -> Non
     assert MACHINE.ended(late, NO, NOW) is REPORT
 
 
-@pytest.mark.parametrize("number", [1, 2])
+@pytest.mark.parametrize("number", [1, 9])
 def test_the_pause_that_a_function_wants(number: int) -> None:
     """It counts after an attempt of the definition, and after the last one."""
-    attempt = attempt_of(number=number, max_attempts=9)
+    attempt = attempt_of(number=number, tries=12)
     decision = MACHINE.ended(attempt, SOON, NOW)
-    if number == 2:
+    if number == 9:
         assert attempt.until == NOW + 3 and decision.timer
         return
     instance = attempt.instance
@@ -169,6 +165,7 @@ def test_a_restart_continues_a_wait(reason: Suspension) -> None:
     asks = reason is Suspension.EXHAUSTED
     attempt = Attempt(attempt_of(number=2).instance, 0, "run", 2, False)
     until = attempt.until = None if asks else NOW + 30
-    attempt.reason, attempt.waiting_since, attempt.has_row = reason, NOW, True
+    attempt.reason, attempt.waiting_since = reason, NOW
+    attempt.keep_row()
     assert MACHINE.resume(attempt, NOW) is (NOTHING if asks else SLEEP)
     assert (attempt.reason, attempt.until) == (reason, until) and attempt_machine.may_retry(attempt)

@@ -5,7 +5,7 @@ from __future__ import annotations
 import fleet_model
 import pytest
 
-from sagas.core.fleet_record import Chunk, InvalidLine, Records, ShardRecord, Takeover
+from sagas.core.shard.fleet_record import Chunk, InvalidLine, Records, ShardRecord, Takeover
 
 BORN = Takeover(1, "a", -1, "1")
 CHUNKS = [Chunk(1, 0, 2, 11), Chunk(1, 2, 3, 12)]
@@ -16,8 +16,8 @@ told a 7 1 1 2 call
 sent a 7 1 1 2 12
 heard a 7 1 1 3
 told a 7 1 1 3 wake"""
-ONE = "took 1 0 0, heard 0, sent 0 11, wrote 0 0 11, heard 0"
-TWO = f"{ONE}, told 0 1, sent 0 12, wrote 0 1 12, heard 0, told 0 2"
+ONE_COMMIT = "took 1 0 0, heard 0, sent 0 11, wrote 0 0 11, heard 0"
+TWO = f"{ONE_COMMIT}, told 0 1, sent 0 12, wrote 0 1 12, heard 0, told 0 2"
 
 
 def merged(

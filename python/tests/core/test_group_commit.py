@@ -4,7 +4,7 @@ from __future__ import annotations
 
 import pytest
 
-from sagas.core.group_commit import SMALL_COMMIT, MAX_WAIT, GroupCommitPolicy, first_half
+from sagas.core.shard.group_commit import SMALL_COMMIT, MAX_WAIT, GroupCommitPolicy, first_half
 
 
 def taught(each: float) -> GroupCommitPolicy:

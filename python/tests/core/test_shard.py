@@ -12,12 +12,20 @@ import pytest
 
 import sagas
 from sagas.core import outcomes, recovery
-from sagas.core.batch import LoadedShard
-from sagas.core.effects import Abort, Effects, EngineDisagrees
-from sagas.core.attempt import Attempt, SuspensionRow
-from sagas.core.saga_instance import SagaInstance
-from sagas.core.shard import MAX_REPORTS, ShardDefinitions, ShardDriver, ShardIdentity
-from sagas.core.states import AttemptState, Check, IllegalTransition, ShardState, Suspension
+from sagas.core.shard.batch import LoadedShard
+from sagas.core.effects import Abort, Effects
+from sagas.core.attempt.model import Attempt, SuspensionRow
+from sagas.core.attempt.instance import SagaInstance
+from sagas.core.protocol import MAX_REPORTS, EngineDisagrees
+from sagas.core.shard.driver import ShardDefinitions, ShardDriver, ShardIdentity
+from sagas.core.states import (
+    AttemptState,
+    Check,
+    IllegalTransition,
+    RowState,
+    ShardState,
+    Suspension,
+)
 from sagas.definition.registry import DefinitionRegistry
 from sagas.definition.start_options import StartOptions
 
@@ -139,8 +147,8 @@ def test_a_saga_from_its_start_to_its_end() -> None:
             {attempt.action_key: attempt},
         )
         attempt.finish(outcomes.Outcome(outcomes.SUCCEEDED, str(step)), NOW)
-        shard.report(attempt)
-        assert [*shard.unstored_reports()] == [attempt] and shard.is_due(may_claim=False)
+        shard.reports[attempt] = None
+        assert [*shard.unstored_reports()] == [attempt]
         assert (
             shard.requests(8)[0]
             == f'{{"attempt":1,"do":"report","outcome":"ok","saga":0,"step":{step},"task":"run"}}'
@@ -157,12 +165,7 @@ def test_a_saga_from_its_start_to_its_end() -> None:
         and effects.ended == [saga]
         and saga.over
     )
-    assert (
-        shard.is_over
-        and not shard.may_have_tasks
-        and not shard.is_due(may_claim=True)
-        and shard.requests(8) == []
-    )
+    assert shard.is_over and not shard.may_have_tasks and shard.requests(8) == []
 
 
 def test_no_more_tasks_are_claimed_than_there_are_slots() -> None:
@@ -177,7 +180,7 @@ def test_no_more_tasks_are_claimed_than_there_are_slots() -> None:
         and len(shard.opens) == 10
     )
     come(shard, *(opened(number) for number in range(MAX_REPORTS)))
-    assert shard.may_have_tasks and not shard.is_due(may_claim=False) or shard.opens
+    assert shard.may_have_tasks and len(shard.opens) == 10
     assert (
         shard.requests(3)[-1] == '{"do":"next","most":3}'
         and shard.drop_request() == 3
@@ -243,7 +246,7 @@ def test_a_saga_past_its_deadline_is_aborted_when_opened() -> None:
     assert (
         effects.rare.displaced == [later]
         and not later.aborted
-        and [one.instance for one in effects.dispatch] == [soon]
+        and [attempt.instance for attempt in effects.dispatch] == [soon]
     )
 
 
@@ -255,7 +258,7 @@ def test_an_engine_that_knows_something_else() -> None:
     attempt = begun(shard)
     attempt.finish(outcomes.Outcome(outcomes.SUCCEEDED, "1"), NOW)
     for replies in ([], ['{"error":"x"}', tasks((0, 1, "run", 1))]):
-        shard.report(attempt)
+        shard.reports[attempt] = None
         shard.requests(8)
         with pytest.raises(EngineDisagrees):
             shard.replies(replies, "", NOW)
@@ -273,7 +276,7 @@ def test_a_refused_commit_makes_it_stale() -> None:
     shard = driver()
     attempt = begun(shard)
     attempt.finish(outcomes.Outcome(outcomes.SUCCEEDED, "1"), NOW)
-    shard.report(attempt)
+    shard.reports[attempt] = None
     shard.requests(8)
     effects = come(shard, event("commit"), tasks((0, 1, "run", 1)))
     shard.begin_commit(effects)
@@ -312,7 +315,7 @@ def test_a_failing_saga_drains_and_its_result_is_requested() -> None:
     attempt = begun(shard)
     saga = attempt.instance
     attempt.finish(outcomes.failure("no", final=True), NOW)
-    shard.report(attempt)
+    shard.reports[attempt] = None
     report, _, look = shard.requests(8)
     assert '"outcome":"fail"' in report and look == '{"do":"show","saga":0}' and saga.has_deviated
     effects = kept(
@@ -377,7 +380,7 @@ def test_a_suspension_is_kept_by_itself() -> None:
         (7000, 0, "run", 1, "unknown", 0, 0.0, 60.0, "lost")
     ]
     assert (
-        [one for one, _ in effects.rare.suspended] == [attempt]
+        [suspended for suspended, _ in effects.rare.suspended] == [attempt]
         and effects.batch.first == 1
         and not effects.batch.text
     )
@@ -394,7 +397,7 @@ def test_a_state_that_may_not_follow(monkeypatch: pytest.MonkeyPatch) -> None:
 
 def rows(*, results: list[Any] = [], held: list[Any] = [], open: bool = True) -> LoadedShard:
     """Return the rows of the store for a shard with one saga."""
-    there = [(7000, "k", 0, '{"n":1}', 9.0, TRACE, None)] if open else []
+    there = [(7000, "k", 0, '{"n":1}', 9.0, TRACE, None, 0.0)] if open else []
     return LoadedShard("x\n", 1, 1, there, results, held, epoch=3, timeline="other")
 
 
@@ -446,7 +449,7 @@ def test_a_finished_attempt_is_reported_again_or_replaced() -> None:
     shard = driver()
     attempt = begun(shard)
     attempt.finish(outcomes.Outcome(outcomes.SUCCEEDED, "1"), NOW)
-    shard.report(attempt)
+    shard.reports[attempt] = None
     recovery_result = recovered(shard, rows(), [(0, "run", 1)])
     assert (
         recovery_result.resumed == [attempt]
@@ -477,7 +480,7 @@ def test_an_attempt_that_was_given_up_is_decided_again(
     shard = driver()
     attempt = begun(shard)
     attempt.finish(outcomes.failure("not called", called=False), NOW)
-    shard.report(attempt)
+    shard.reports[attempt] = None
     loaded = dataclasses.replace(rows(), epoch=epoch, timeline=line)
     (given_up,) = recovered(shard, loaded, [(0, "run", 1)]).resumed
     assert (
@@ -513,17 +516,12 @@ def test_rows_of_an_earlier_program() -> None:
     )
     held = (*row, "unknown", 2, 5.0, 60.0, "lost")
     (attempt,) = recovered(driver(), rows(held=[held]), [(0, "run", 1)]).resumed
-    assert (attempt.reason, attempt.count, attempt.until, attempt.has_row, attempt.is_uncalled) == (
-        Suspension.UNKNOWN,
-        2,
-        60.0,
-        True,
-        False,
-    )
+    assert (attempt.reason, attempt.count, attempt.until) == (Suspension.UNKNOWN, 2, 60.0)
+    assert attempt.row_state is RowState.STORED and not attempt.is_uncalled
     saga = attempt.instance
-    assert saga.rare.wait_ends == {(0, "run"): 0.0} and begun_shard.may_have_tasks
+    assert saga.rare.waits_over == {(0, "run")} and begun_shard.may_have_tasks
     gone = recovered(begun_shard, rows(open=False), [])
-    assert [one.key for one in gone.gone] == ["k"] and not gone.restored and not begun_shard.sagas
+    assert [saga.key for saga in gone.gone] == ["k"] and not gone.restored and not begun_shard.sagas
 
 
 def test_aborts_are_repeated_or_answered() -> None:
@@ -599,17 +597,19 @@ def test_labels_go_with_the_row_of_their_saga() -> None:
         StartOptions({"customer": "7", "region": "north"}, 5.0, traceparent=TRACE),
     )
     full, shard = driver(), driver()
-    for one in (full, shard):
-        one.open(saga)
-        one.requests(0)
-        effects = come(one, '{"refused":"full"}' if one is full else opened(0))
+    for each in (full, shard):
+        each.open(saga)
+        each.requests(0)
+        effects = come(each, '{"refused":"full"}' if each is full else opened(0))
         labels = effects.batch.rare.labels if effects.batch.rare else []
         id = NUMBER * 1000
         rows = [(id, "customer", "7"), (id, "region", "north")]
-        assert labels == ([] if one is full else rows) and bool(effects.rare.displaced) is (
-            one is full
+        assert labels == ([] if each is full else rows) and bool(effects.rare.displaced) is (
+            each is full
         )
-        assert [row[-2:] for row in effects.batch.opened] == ([] if one is full else [(5.0, TRACE)])
+        assert [row[-2:] for row in effects.batch.opened] == (
+            [] if each is full else [(5.0, TRACE)]
+        )
     shard.open(instance("other"))
     shard.requests(0)
     assert come(shard, opened(1)).batch.rare is None
@@ -620,11 +620,11 @@ def test_a_plan_comes_with_its_compensations() -> None:
     slots: a plan comes before the compensations.
     """
     shard = driver()
-    one, two = begun(shard, "one"), begun(shard, "two")
-    for attempt in (one, two):
+    first, second = begun(shard, "one"), begun(shard, "two")
+    for attempt in (first, second):
         attempt.attempt = attempt.instance.kind.tries["run"][attempt.step]
         attempt.finish(outcomes.failure("sold out", final=True), NOW)
-        shard.report(attempt)
+        shard.reports[attempt] = None
     assert shard.requests(2)[2] == '{"do":"next","most":4}'
     shows = [shown("draining", None, []), shown("draining", None, [])]
     shard.replies(

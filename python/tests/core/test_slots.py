@@ -10,10 +10,12 @@ import pytest
 
 import sagas
 from sagas.core import states
-from sagas.core.limits import Slots
-from sagas.core.attempt import Attempt
-from sagas.core.saga_instance import SagaInstance
+from sagas.core.shard.limits import Slots
+from sagas.core.attempt.model import Attempt
+from sagas.core.attempt.instance import SagaInstance
 from sagas.core.outcomes import Outcome
+from sagas.core.attempt.pause_index import Pauses
+from sagas.core.pauses import Pause
 from sagas.core.states import AttemptState, OutcomeKind, Suspension
 from sagas.definition.registry import DefinitionRegistry
 
@@ -45,9 +47,9 @@ class Shard:
 class Store:
     """Slots, and the attempts that have one."""
 
-    def __init__(self, most: int) -> None:
+    def __init__(self, capacity: int) -> None:
         self.called: list[Attempt] = []
-        self.slots = Slots(most, self._start, self._feed)
+        self.slots = Slots(capacity, self._start, self._feed)
         self.fed = 0
 
     def _start(self, attempt: Attempt) -> None:
@@ -83,6 +85,29 @@ def test_attempts_come_in_turn() -> None:
     store.slots.cancel(fourth)
     store.slots.leave_many(2)
     assert len(store.called) == 3 and store.slots.running == 0 and store.slots.free_count() == 2
+
+
+def test_a_paused_attempt_takes_no_slot() -> None:
+    """Neither does one that waited for a slot, or for a place under its step's limit."""
+    pauses = Pauses([Pause("one", "narrow", None, False, False, "an outage", None, 0.0)])
+    store = Store(1)
+    store.slots = Slots(1, store._start, store._feed, lambda attempt: held[0].hold(attempt))
+    held = [Pauses()]
+    wide, narrow, over = store.enter("wide"), store.enter("narrow"), store.enter("narrow")
+    assert store.slots.is_waiting(narrow) and over.reason is Suspension.STEP_LIMIT
+    held[0] = pauses
+    store.slots.leave(wide)
+    assert store.called == [wide] and store.slots.running == 0
+    assert narrow.is_held and narrow.reason is Suspension.PAUSED
+    assert pauses.hold(over) and store.enter("narrow").is_held
+    store.slots.cancel(over)
+    held[0] = Pauses()
+    for attempt in (narrow, over):
+        attempt.end_pause()
+        store.slots.enter(attempt)
+    assert store.called == [wide, narrow] and over.reason is Suspension.STEP_LIMIT
+    store.slots.leave(narrow)
+    assert store.called == [wide, narrow, over]
 
 
 def test_an_attempt_over_its_limit_delays_no_other() -> None:
@@ -148,14 +173,14 @@ def test_slots_are_shared_among_tenants() -> None:
     run in their order.
     """
     draw = random.Random(62)
-    saga = sagas.Saga("fair", fair_by=lambda given: given)
+    saga = sagas.Saga("fair", fair_by=lambda input: input)
     saga.step(name="a", undo=0)(wide.run.function)
     kind, store = DefinitionRegistry([saga]).kinds[0], Store(3)
     store.slots.is_fair = True
     waiting: dict[str | None, list[Attempt]] = {}
     for number in range(600):
-        running = [one for one in store.called if one.state is AttemptState.RUNNING]
-        counts = Counter(one.instance.tenant for one in running)
+        running = [attempt for attempt in store.called if attempt.state is AttemptState.RUNNING]
+        counts = Counter(attempt.instance.tenant for attempt in running)
         if draw.random() < 0.55:
             tenant = draw.choice("aaaabbc")
             attempt = Attempt(
@@ -169,15 +194,15 @@ def test_slots_are_shared_among_tenants() -> None:
             gone.finish(Outcome(OutcomeKind.SUCCEEDED, "null"), 0.0)
             store.slots.leave(gone)
             counts[gone.instance.tenant] -= 1
-            there = {tenant: ones for tenant, ones in waiting.items() if ones}
+            there = {tenant: batches for tenant, batches in waiting.items() if batches}
             if there:
                 following = store.called[-1]
                 assert counts[following.instance.tenant] == min(counts[tenant] for tenant in there)
                 assert following is waiting[following.instance.tenant].pop(0)
         elif any(waiting.values()):
-            tenant = draw.choice([tenant for tenant, ones in waiting.items() if ones])
+            tenant = draw.choice([tenant for tenant, batches in waiting.items() if batches])
             store.slots.cancel(waiting[tenant].pop(draw.randrange(len(waiting[tenant]))))
         assert store.slots.running == min(
-            3, len([one for one in store.called if one.state is AttemptState.RUNNING])
+            3, len([attempt for attempt in store.called if attempt.state is AttemptState.RUNNING])
         )
         assert len(store.slots._queued) == sum(map(len, waiting.values()))

@@ -11,14 +11,15 @@ import pytest
 
 import sagas
 from sagas.core import states
-from sagas.core.attempt import Attempt, finish_all, start_all
-from sagas.core.saga_instance import SagaInstance
+from sagas.core.attempt.model import Attempt, finish_all, start_all
+from sagas.core.attempt.table import ATTEMPT_TRANSITIONS
+from sagas.core.attempt.instance import SagaInstance
 from sagas.core.outcomes import succeeded
 from sagas.core.states import AttemptState, IllegalTransition, StepState, Suspension
 from sagas.definition.registry import DefinitionRegistry
 
 TABLES: dict[type[enum.Enum], Any] = {
-    AttemptState: states.ATTEMPT_TRANSITIONS,
+    AttemptState: ATTEMPT_TRANSITIONS,
     StepState: states.STEP_TRANSITIONS,
     states.SagaPhase: states.SAGA_TRANSITIONS,
     states.EnginePhase: states.ENGINE_TRANSITIONS,
@@ -64,6 +65,7 @@ def attempt_in(state: AttemptState) -> Attempt:
         is_uncalled=True,
     )
     attempt.state = state
+    attempt.reason = Suspension.BACKOFF if state is AttemptState.SUSPENDED else None
     return attempt
 
 
@@ -85,18 +87,18 @@ def test_an_attempt_follows_the_table_of_transitions(
     before: AttemptState, after: AttemptState
 ) -> None:
     attempt = attempt_in(before)
-    if after in states.ATTEMPT_TRANSITIONS[before]:
+    if after in ATTEMPT_TRANSITIONS[before]:
         WRITERS[after](attempt)
         assert attempt.state is after
         assert attempt.is_uncalled is (after is not AttemptState.RUNNING)
     else:
-        with pytest.raises(IllegalTransition, match=f"AttemptState: {before.name} -> {after.name}"):
+        with pytest.raises(IllegalTransition, match=f"{before.name}"):
             WRITERS[after](attempt)
         assert attempt.state is before
 
 
 def test_finished_is_never_left() -> None:
-    assert states.ATTEMPT_TRANSITIONS[AttemptState.FINISHED] == frozenset()
+    assert ATTEMPT_TRANSITIONS[AttemptState.FINISHED] == frozenset()
     attempt = attempt_in(AttemptState.FINISHED)
     attempt.forget()
     assert attempt.state is AttemptState.FINISHED and attempt.outcome is None
@@ -116,10 +118,10 @@ def test_an_attempt_is_forgotten_from_each_state(before: AttemptState) -> None:
 def test_many_are_started_and_finished_at_once() -> None:
     some = [attempt_in(AttemptState.CLAIMED) for _ in range(3)]
     start_all(some)
-    assert all(one.state is AttemptState.RUNNING and not one.is_uncalled for one in some)
+    assert all(item.state is AttemptState.RUNNING and not item.is_uncalled for item in some)
     some[1].forget()
     assert finish_all(some, 3.0) == [some[0], some[2]]
-    assert [one.finished_at for one in some] == [3.0, 0.0, 3.0]
+    assert [item.finished_at for item in some] == [3.0, 0.0, 3.0]
 
 
 def test_without_the_check_nothing_is_looked_up() -> None:
@@ -148,4 +150,8 @@ def test_the_events_of_a_step_keep_to_its_table() -> None:
 
 
 def test_each_suspension_has_its_text() -> None:
-    assert set(Suspension) <= set(states.WAITS_FOR)
+    assert {reason.text for reason in Suspension} <= set(states.WAITS_FOR)
+    assert {Suspension.stored(reason.text, 1.0) for reason in Suspension} == (
+        set(Suspension) - {Suspension.WAIT_OVER}
+    )
+    assert Suspension.stored("wait", 0.0) is Suspension.WAIT_OVER

@@ -16,13 +16,15 @@ from definitions import StepDraw, steps
 from hypothesis import HealthCheck, given, settings, strategies as st
 
 import sagas
-from sagas.core import attempt, shard, states
+from sagas.core import states
+from sagas.core.attempt import model as attempt
+from sagas.core.shard import driver as shard
 
 MOVES, SAGAS = 20_000, 135
 ENDS: dict[str, dict[str, Any]] = {
     "asks": {"on_exhausted": "ask"},
-    "goes on": {"on_exhausted": "retry"},
-    "many": {"max_attempts": 5},
+    "continues": {"on_exhausted": "retry"},
+    "many": {"tries": 12},
 }
 SOON = sagas.Backoff(initial=5, maximum=60)
 MANNERS = st.sampled_from(
@@ -36,7 +38,7 @@ MANNERS = st.sampled_from(
         "external",
         "transaction",
         "asks",
-        "goes on",
+        "continues",
         "many",
     )
 )
@@ -57,44 +59,49 @@ async def simple(task: sagas.Task[Any]) -> None:
 
 def declare(saga: sagas.Saga, drawn: list[StepDraw], number: int, manner: str) -> None:
     """Declare one step of that kind."""
-    one = drawn[number]
+    drawn_step = drawn[number]
     options: dict[str, Any] = {
-        "name": one.name,
-        "needs": [drawn[need].name for need in one.needs],
-        "skip": cost(one.skip),
+        "name": drawn_step.name,
+        "needs": [saga.steps[need] for need in drawn_step.needs],
+        "skip": cost(drawn_step.skip),
     }
-    if one.undo != "never":
-        options["undo"] = cost(one.undo)
+    if drawn_step.undo != "never":
+        options["undo"] = cost(drawn_step.undo)
     if manner == "wait":
         step = saga.wait(
             until=datetime.timedelta(hours=1),
-            tries=one.tries,
+            tries=drawn_step.tries,
             backoff=SOON,
-            keep=cost(one.keep),
+            keep=cost(drawn_step.keep),
             **options,
         )(nothing)
     elif manner.endswith("approval"):
         timeout = 3600 if manner.startswith("timed") else None
-        step = saga.approval(timeout=timeout, tries=one.tries, backoff=SOON, **options)(nothing)
+        step = saga.approval(timeout=timeout, tries=drawn_step.tries, backoff=SOON, **options)(
+            nothing
+        )
     else:
         options |= {
-            "run": cost(one.run),
-            "keep": cost(one.keep),
-            "tries": one.tries,
+            "run": cost(drawn_step.run),
+            "keep": cost(drawn_step.keep),
+            "tries": drawn_step.tries,
             "backoff": SOON,
         }
         if manner == "external":
             step = saga.step(external=True, **options)
-            if one.undo != "never":
-                step.compensation(external=True, tries=one.undo_tries, backoff=SOON)
+            if drawn_step.undo != "never":
+                step.compensation(external=True, tries=drawn_step.undo_tries, backoff=SOON)
             return
-        most = datetime.timedelta(minutes=1) if manner == "timed" else 2
+        max_unknown = datetime.timedelta(minutes=1) if manner == "timed" else 2
         function = simple if manner == "simple" else nothing
         options |= ENDS.get(manner, {})
-        step = saga.step(max_unknown=most, transaction=manner == "transaction", **options)(function)
-    if one.undo != "never":
+        step = saga.step(max_unknown=max_unknown, transaction=manner == "transaction", **options)(
+            function
+        )
+    if drawn_step.undo != "never":
         options = ENDS.get(manner, {"on_exhausted": "fail"})
-        step.compensation(tries=one.undo_tries, backoff=SOON, max_unknown=1, **options)(nothing)
+        options = {"tries": drawn_step.undo_tries} | options
+        step.compensation(backoff=SOON, max_unknown=1, **options)(nothing)
 
 
 @st.composite

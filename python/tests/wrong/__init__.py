@@ -13,14 +13,14 @@ from sagas.storage.sqlite.writer import Events, Writer
 
 
 def slow_disk() -> None:
-    """Make each commit take five milliseconds in its thread.
+    """Make each commit take twenty milliseconds in its thread.
 
     Actions before a commit are then seen before it, however fast the disk is.
     """
     right = Writer._sync
 
     def sync(self: Writer, events: Events, patient: bool) -> float:
-        time.sleep(0.005)
+        time.sleep(0.02)
         return right(self, events, patient)
 
     setattr(Writer, "_sync", sync)

@@ -2,7 +2,7 @@
 
 from __future__ import annotations
 
-from sagas.core.attempt import Attempt
+from sagas.core.attempt.model import Attempt
 
 FINDS = "input"
 STRIKES = "child"
@@ -12,9 +12,9 @@ def apply() -> None:
     """Keep one input for all."""
     first = ""
 
-    def given(self: Attempt) -> str:
+    def input_of_a_saga(self: Attempt) -> str:
         nonlocal first
         first = first or self.instance.text
         return first
 
-    setattr(Attempt, "input", property(given))
+    setattr(Attempt, "input", property(input_of_a_saga))

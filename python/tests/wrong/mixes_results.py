@@ -2,7 +2,7 @@
 
 from __future__ import annotations
 
-from sagas.core.attempt import Attempt
+from sagas.core.attempt.model import Attempt
 
 FINDS = "handed"
 STRIKES = "child"

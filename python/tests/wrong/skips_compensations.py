@@ -3,8 +3,9 @@
 from __future__ import annotations
 
 from sagas.core import outcomes
-from sagas.core.attempt_machine import AttemptMachine, Decision
-from sagas.core.attempt import Attempt
+from sagas.core.attempt.directives import Decision
+from sagas.core.attempt.machine import AttemptMachine
+from sagas.core.attempt.model import Attempt
 
 FINDS = "no-effect"
 STRIKES = "child"
@@ -16,7 +17,7 @@ def apply() -> None:
 
     def begin(self: AttemptMachine, attempt: Attempt, now: float) -> Decision:
         return (
-            self.finish(attempt, outcomes.succeeded(None), now)
+            self._finish(attempt, outcomes.succeeded(None), now)
             if attempt.undo
             else right(self, attempt, now)
         )

@@ -15,6 +15,7 @@ def apply() -> None:
     """Put the number of the process into the token."""
 
     def idempotency_key(self: Task[Any]) -> str:
-        return f"{self._data.saga_token}-{self.step}-{'undo' if self.is_compensation else 'run'}{os.getpid()}"
+        kind = "undo" if self.is_compensation else "run"
+        return f"{self._data.saga_token}-{self.step}-{kind}{os.getpid()}"
 
     setattr(Task, "idempotency_key", property(idempotency_key))

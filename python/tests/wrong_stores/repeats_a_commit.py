@@ -6,7 +6,7 @@ import asyncio
 from collections.abc import Sequence
 
 from sagas.base.errors import StoreUnavailable
-from sagas.core.batch import Batch
+from sagas.core.shard.batch import Batch
 from sagas.storage.interface import CommitCallback
 from sagas.storage.postgresql.storage import PostgreSQL
 

@@ -15,9 +15,9 @@ def apply() -> None:
     """Leaves lines out."""
     right, turns = Commit.bind, itertools.count(1)
 
-    def words(self: Commit, node: bytes) -> tuple[str, list[bytes | None]]:
+    def bind(self: Commit, node: bytes) -> tuple[str, list[bytes | None]]:
         if "results" in self.parts and next(turns) % 5 == 0:
             self.parts.pop("lines", None)
         return right(self, node)
 
-    setattr(Commit, "bind", words)
+    setattr(Commit, "bind", bind)

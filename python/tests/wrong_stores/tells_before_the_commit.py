@@ -5,7 +5,7 @@ from __future__ import annotations
 from collections.abc import Sequence
 from typing import Any
 
-from sagas.core.batch import Batch
+from sagas.core.shard.batch import Batch
 from sagas.storage.interface import CommitCallback
 from sagas.storage.postgresql.storage import PostgreSQL
 from sagas.storage.postgresql.writer import NONE

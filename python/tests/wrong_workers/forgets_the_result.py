@@ -8,7 +8,7 @@ from typing import Any
 from sagas.celery.worker import Work
 from sagas.definition.task import Task
 from sagas.definition.task_data import snapshot
-from sagas.core.external_work import AttemptTexts, Order
+from sagas.core.attempt.external_work import AttemptTexts, Order
 
 FINDS = "handed"
 STRIKES = "run"
@@ -19,7 +19,7 @@ def apply() -> None:
     right = Work._task
 
     def task(self: Work, order: Order, begun: AttemptTexts) -> Task[Any]:
-        told = snapshot(right(self, order, begun)._data)
-        return Task(dataclasses.replace(told, own_result="null" if told.undo else None))
+        task_data = snapshot(right(self, order, begun)._data)
+        return Task(dataclasses.replace(task_data, own_result="null" if task_data.undo else None))
 
     setattr(Work, "_task", task)

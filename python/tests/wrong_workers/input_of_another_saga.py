@@ -8,7 +8,7 @@ from typing import Any
 from sagas.celery.worker import Work
 from sagas.definition.task import Task
 from sagas.definition.task_data import snapshot
-from sagas.core.external_work import AttemptTexts, Order
+from sagas.core.attempt.external_work import AttemptTexts, Order
 
 FINDS = "input"
 STRIKES = "run"
@@ -20,7 +20,9 @@ def apply() -> None:
     seen: dict[str, str] = {}
 
     def task(self: Work, order: Order, begun: AttemptTexts) -> Task[Any]:
-        told = snapshot(right(self, order, begun)._data)
-        return Task(dataclasses.replace(told, input=seen.setdefault(order.saga, told.input)))
+        task_data = snapshot(right(self, order, begun)._data)
+        return Task(
+            dataclasses.replace(task_data, input=seen.setdefault(order.saga, task_data.input))
+        )
 
     setattr(Work, "_task", task)

@@ -9,7 +9,7 @@ from world import expected
 
 from sagas.celery.worker import Work
 from sagas.core import outcomes
-from sagas.core.external_work import Order
+from sagas.core.attempt.external_work import Order
 
 FINDS = "no-effect"
 STRIKES = "run"
@@ -20,10 +20,10 @@ def apply() -> None:
 
     def perform(self: Work, message: dict[str, Any]) -> None:
         order, function = Order.read(message), self.manner.function
-        desk = self.queue.desk()
-        begun = desk.begin(order)
+        session = self.queue.session()
+        begun = session.begin(order)
         if begun and function:
-            desk.report(
+            session.report(
                 order,
                 outcomes.succeeded(
                     expected(order.key, order.step) if order.kind == "run" else None

@@ -8,7 +8,7 @@ from typing import Any
 from sagas.celery.worker import Work
 from sagas.definition.task import Task
 from sagas.definition.task_data import snapshot
-from sagas.core.external_work import AttemptTexts, Order
+from sagas.core.attempt.external_work import AttemptTexts, Order
 
 FINDS = "handed"
 STRIKES = "run"
@@ -20,12 +20,13 @@ def apply() -> None:
     seen: dict[str, str] = {}
 
     def task(self: Work, order: Order, begun: AttemptTexts) -> Task[Any]:
-        told = snapshot(right(self, order, begun)._data)
+        task_data = snapshot(right(self, order, begun)._data)
         return Task(
             dataclasses.replace(
-                told,
+                task_data,
                 needed_results={
-                    name: seen.setdefault(name, text) for name, text in told.needed_results.items()
+                    name: seen.setdefault(name, text)
+                    for name, text in task_data.needed_results.items()
                 },
             )
         )

@@ -8,7 +8,7 @@ from typing import Any
 from sagas.celery.worker import Work
 from sagas.definition.task import Task
 from sagas.definition.task_data import snapshot
-from sagas.core.external_work import AttemptTexts, Order
+from sagas.core.attempt.external_work import AttemptTexts, Order
 
 FINDS = "begun-early"
 STRIKES = "run"
@@ -19,7 +19,7 @@ def apply() -> None:
     right = Work._task
 
     def task(self: Work, order: Order, begun: AttemptTexts) -> Task[Any]:
-        told = snapshot(right(self, order, begun)._data)
-        return Task(dataclasses.replace(told, attempt=told.attempt + 1))
+        task_data = snapshot(right(self, order, begun)._data)
+        return Task(dataclasses.replace(task_data, attempt=task_data.attempt + 1))
 
     setattr(Work, "_task", task)

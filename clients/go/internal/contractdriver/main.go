@@ -42,6 +42,7 @@ type command struct {
 	Page        *int
 	Phase       string
 	Search      string
+	Decision    string
 	Worker      string
 	Steps       []string
 	Concurrency int
@@ -155,7 +156,7 @@ func (d *driver) do(ctx context.Context, c command) (any, error) {
 	case "fail":
 		return object{}, client.Fail(ctx, c.Key, c.Step, c.Error, options...)
 	case "list":
-		keys, page := []string{}, 0
+		keys, versions, page := []string{}, []int{}, 0
 		if c.Page != nil {
 			if page = *c.Page; page == 0 {
 				page = -1 // in Go, 0 means the default
@@ -165,9 +166,11 @@ func (d *driver) do(ctx context.Context, c command) (any, error) {
 			Page: page, Phase: sagas.Phase(c.Phase), Definition: c.Definition, Search: c.Search, Labels: c.Labels,
 		})
 		for list.Next() {
-			keys = append(keys, list.Saga().Key)
+			keys, versions = append(keys, list.Saga().Key), append(versions, list.Saga().Version)
 		}
-		return object{"keys": keys}, list.Err()
+		return object{"keys": keys, "versions": versions}, list.Err()
+	case "decisions":
+		return decisions(ctx, client, c)
 	case "events":
 		return d.events(ctx, client, c)
 	case "events_stop":
@@ -218,7 +221,7 @@ func (d *driver) start(ctx context.Context, client *sagas.Client, c command) (an
 		c.Input = json.RawMessage("null")
 	}
 	found, err := sagas.Start(ctx, client, c.Definition, c.Key, c.Input, options...)
-	return object{"key": found.Key, "new": found.New}, err
+	return object{"key": found.Key, "version": found.Version, "new": found.New}, err
 }
 
 func (d *driver) events(ctx context.Context, client *sagas.Client, c command) (any, error) {
@@ -247,6 +250,36 @@ func (d *driver) events(ctx context.Context, client *sagas.Client, c command) (a
 	return object{}, nil
 }
 
+// decisions lists decisions as the service has them; in Go, a missing text is an empty one.
+func decisions(ctx context.Context, client *sagas.Client, c command) (any, error) {
+	filter, all := sagas.DecisionFilter{Key: c.Key, Definition: c.Definition, Decision: c.Decision}, []object{}
+	if c.Page != nil {
+		filter.Page = *c.Page
+	}
+	list := client.Decisions(ctx, filter)
+	for list.Next() {
+		entry := list.Decision()
+		some := []object{}
+		for _, saga := range entry.Sagas {
+			some = append(some, object{
+				"key": saga.Key, "definition": saga.Definition, "step": orNull(saga.Step), "undo": saga.Undo, "answer": saga.Answer,
+			})
+		}
+		all = append(all, object{
+			"number": entry.Number, "decision": entry.Decision, "at": !entry.At.IsZero(), "by": orNull(entry.By), "via": entry.Via,
+			"note": orNull(entry.Note), "bulk": entry.Bulk, "subject": orNull(entry.Subject), "sagas": some,
+		})
+	}
+	return object{"decisions": all}, list.Err()
+}
+
+func orNull(text string) any {
+	if text == "" {
+		return nil
+	}
+	return text
+}
+
 func seconds(number float64) time.Duration {
 	return time.Duration(number * float64(time.Second))
 }
@@ -256,8 +289,8 @@ func shown(saga *sagas.Saga, err error) (any, error) {
 		return nil, err
 	}
 	return object{
-		"key": saga.Key, "definition": saga.Definition, "phase": saga.Phase, "over": saga.Over, "aborted": saga.Aborted,
-		"input": saga.Input, "states": saga.States, "results": saga.Results, "errors": saga.Errors,
+		"key": saga.Key, "definition": saga.Definition, "version": saga.Version, "phase": saga.Phase,
+		"over": saga.Over, "aborted": saga.Aborted, "input": saga.Input, "states": saga.States, "results": saga.Results, "errors": saga.Errors,
 	}, nil
 }
 
@@ -436,19 +469,19 @@ func act(path string, task sagas.Task[json.RawMessage], undo bool, result json.R
 	if err := json.NewEncoder(link).Encode(asked); err != nil {
 		return nil, err
 	}
-	var told struct {
+	var command struct {
 		Do    string
 		Value json.RawMessage
 	}
-	if err := json.NewDecoder(link).Decode(&told); err != nil {
+	if err := json.NewDecoder(link).Decode(&command); err != nil {
 		return nil, err
 	}
-	switch told.Do {
+	switch command.Do {
 	case "ok":
-		if told.Value == nil {
+		if command.Value == nil {
 			return nil, nil
 		}
-		return told.Value, nil
+		return command.Value, nil
 	case "fail":
 		return nil, sagas.Fail("no")
 	case "retry":

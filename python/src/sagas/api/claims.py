@@ -8,14 +8,14 @@ from typing import Any
 
 from sagas.api.store_access import StoreAccess
 from sagas.core import outcomes
-from sagas.core.deliveries import ENDS
+from sagas.core.webhook_rows import ENDS
 from sagas.core.outcomes import reported_outcome
 from sagas.definition.task_data import checked_progress
 from sagas.definition.compiled import Hooks
 from sagas.definition.registry import DefinitionRegistry
 from sagas.runtime.leased_tasks import Heartbeat, LeasedTask, Queue, Word
-from sagas.storage import deliveries
-from sagas.storage.deliveries import Claimed, Posted
+from sagas.storage import webhook_deliveries
+from sagas.storage.webhook_deliveries import Claimed, Posted
 from sagas.storage.interface import Peers
 
 
@@ -44,7 +44,7 @@ class Workers:
         Args:
             steps: What the worker can do, each `(saga, step, "run" or "undo")`.
             limit: Maximum number of tasks (default: 1).
-            wait: Seconds to wait if there is no task (default: 0).
+            wait: Seconds to wait for a task (default: 0).
             lease: Seconds without a heartbeat after which another worker may claim a task (default:
                 30).
             worker: The worker's name, for people.
@@ -140,6 +140,7 @@ class Workers:
         error: str | None = None,
         final: bool = False,
         unknown: str | None = None,
+        program_error: bool = False,
         holder: str = "",
         stored: Callable[[], object] | None = None,
     ) -> bool:
@@ -155,6 +156,8 @@ class Workers:
             error: Why it failed, without an effect (default: None: it did not fail).
             final: With `error`: whether the failure is permanent (default: False).
             unknown: Why the outcome is unknown (default: None: it is known).
+            program_error: With `unknown`: whether the worker's program has a bug, so the attempt
+                waits for a retry (default: False).
             holder: As given to `claim`.
             stored: Called once the report is stored, if this node executes the saga. The report
                 becomes part of the saga after that (default: None).
@@ -174,6 +177,8 @@ class Workers:
         """
         if unknown is not None:
             outcome = outcomes.unknown(unknown)
+            if program_error:
+                outcome = outcomes.worker_report(outcomes.program_error(unknown))
         else:
             outcome = reported_outcome(result, error, final)
         external = self._access.coordinator.external
@@ -193,6 +198,15 @@ class Workers:
         """How many tasks another worker claimed because their leases ended."""
         return self._access.coordinator.external.takeovers
 
+    def observe_claims(self, observer: Callable[[str, float], object]) -> None:
+        """Have a function called at each claim of a task, except after an expired lease.
+
+        Args:
+            observer: Called with the name of the saga, and the seconds for which the task was
+                offered.
+        """
+        self._access.coordinator.external.on_claim = observer
+
     def peers(self) -> Peers | None:
         """Return the connection to other nodes; None over a file."""
         return self._access.coordinator.store.peers()
@@ -209,7 +223,7 @@ class Deliveries:
         self._access, self._registry = access, registry
 
     @property
-    def _table(self) -> deliveries.Deliveries:
+    def _table(self) -> webhook_deliveries.Deliveries:
         return self._access.coordinator.store.external.deliveries
 
     def announce(self, hooks: Callable[[str], Hooks]) -> None:
@@ -229,7 +243,7 @@ class Deliveries:
             lease: Seconds for which no other process claims them.
         """
         parameters = {"webhook": webhook, "most": limit, "lease": lease}
-        rows = await self._table.change(deliveries.CLAIM, **parameters)
+        rows = await self._table.change(webhook_deliveries.CLAIM, **parameters)
         claimed = [Claimed(*row) for row in rows]
         if record := self._access.coordinator.store.record:
             for delivery in claimed:
@@ -249,18 +263,18 @@ class Deliveries:
             False if the delivery was claimed again in the meantime, and nothing was stored.
         """
         parameters = posted._asdict() | {"id": id, "attempts": attempts}
-        return bool(await self._table.change(deliveries.SETTLE, **parameters))
+        return bool(await self._table.change(webhook_deliveries.SETTLE, **parameters))
 
     async def due(self, webhook: str) -> float | None:
         """Return the seconds until the next delivery is due; None if none is pending."""
-        rows = await self._table.ask(deliveries.NEXT, webhook=webhook)
+        rows = await self._table.ask(webhook_deliveries.NEXT, webhook=webhook)
         return None if rows[0][0] is None else float(rows[0][0])
 
     async def redeliver(self, id: str) -> bool:
         """Post a delivery again, with all its attempts. Return False if it does not exist."""
-        return bool(await self._table.change(deliveries.REDELIVER, id=id))
+        return bool(await self._table.change(webhook_deliveries.REDELIVER, id=id))
 
     async def forget(self, delivered: float, failed: float) -> int:
         """Delete old deliveries, by the seconds since their events. Return how many."""
         parameters = {"delivered": delivered, "failed": failed}
-        return len(await self._table.change(deliveries.FORGET, **parameters))
+        return len(await self._table.change(webhook_deliveries.FORGET, **parameters))

@@ -12,31 +12,36 @@ from typing import TYPE_CHECKING, Any, TypeVar
 
 from sagas.api import client_start, store_access
 from sagas.api.commands import check_repeated_report
-from sagas.api.shared_calls import SharedCalls
+from sagas.api.restarts import check_restartable
+from sagas.api.shared_calls import SharedCalls, declared_names
 from sagas.base.errors import Closed, InvalidStore, NoSuchSaga
 from sagas.base.fork_guard import OpenState
-from sagas.core import attention, history, reports, waits
-from sagas.core.batch import SagaRow, StoredSaga
+from sagas.core import attention, history, reports
+from sagas.core.attempt import waits
+from sagas.core.decisions import request_fields
+from sagas.core.shard.batch import SagaRow, StoredSaga
 from sagas.core.outcomes import Outcome, reported_outcome
-from sagas.core.results import HistoryEvent, SagaResult
+from sagas.core.results import HistoryEvent
+from sagas.definition.saga_result import SagaResult
+from sagas.core.states import SagaPhase
 from sagas.definition.payloads import MIN_THRESHOLD, Codec, Payloads
-from sagas.definition import arguments, children, payloads, serialization
+from sagas.definition import arguments, child_sagas, payloads, serialization
 from sagas.definition.payloads import BlobStore, check_blobs
 from sagas.definition.compiled import CompiledDefinition
 from sagas.definition.definition_text import version_of
 from sagas.definition.labels import Labels
 from sagas.definition.saga import Saga
-from sagas.definition.start_options import Deadline
+from sagas.definition.start_options import Deadline, I, NO_INPUT
 from sagas.definition.step import Step
 from sagas.engine.plan import Plan
 from sagas.inspection import saga as one_saga
 from sagas.inspection.question import AsyncStoreReader, Question
+from sagas.inspection.views import Waits
 from sagas.runtime import operator_commands, stored_values
 from sagas.storage import operator_requests, queries
 from sagas.storage.blob_layer import Blobs
 from sagas.storage.store_name import FORM
 from sagas.storage.postgresql import (
-    caller_connection,
     connections as connections_module,
     lookups,
     node_lease,
@@ -117,7 +122,7 @@ class Client(SharedCalls):
         self._blobs = (
             Blobs(blobs, MIN_THRESHOLD, self._payloads, self.path) if blobs is not None else None
         )
-        self._sagas: dict[tuple[str, int], Saga] = {}
+        self._sagas: dict[tuple[str, int], Saga[Any]] = {}
         self._starter = client_start.ClientStarter(
             self._asker, self.path, connections, self._payloads
         )
@@ -132,8 +137,9 @@ class Client(SharedCalls):
 
         Raises:
             StoreUnavailable: The server does not answer.
-            InvalidStore: The database has no tables of the store, or the URL is that of a pooler
-                that pools transactions. A node or `sagas store URL init` makes the tables.
+            InvalidStore: The database does not exist, or refuses this user. Or it has no tables of
+                the store: a node or `sagas store URL init` makes them. Or the URL is that of a
+                pooler that pools transactions.
             StoreSchemaTooNew: The tables are of a later version.
             MissingCodec: The store's values are encoded, and this client has no codec.
             StoreLocked: This client has a codec, and a node without one has the store open.
@@ -225,16 +231,19 @@ class Client(SharedCalls):
 
     # -- sagas
 
+    async def _check_input(self, saga: Saga[Any], text: str) -> None:
+        self._starter.check_input(saga, text)
+
     async def start(
         self,
-        saga: Saga,
+        saga: Saga[I],
         key: str,
-        input: Any = None,
+        input: I = NO_INPUT,
         *,
         labels: Labels | None = None,
         deadline: Deadline | None = None,
         traceparent: str | None = None,
-        connection: client_start.Connection | None = None,
+        connection: object | None = None,
     ) -> ClientRun:
         """Start a saga, or return the one with this key. See `Store.start`.
 
@@ -242,25 +251,27 @@ class Client(SharedCalls):
 
         Args:
             saga: The definition. The nodes must have it.
-            connection: A psycopg connection to the same database (default: a connection of the
-                client). The saga is written in the open transaction of that connection, and exists
-                if and only if that commits. If this call raises, it wrote nothing there. A second
-                start of the key waits for the end of the transaction.
+            connection: As for `Store.start`. A second start of the key waits for the end of the
+                transaction (default: a connection of the client).
 
         Raises:
-            StoreUnavailable: The connection is closed, failed, or to another database. Or the
-                server, or a synchronous standby, does not answer in 21 seconds: start it again,
-                with the same key.
-            TypeError: The connection is not a `psycopg.AsyncConnection`.
+            StoreUnavailable: The connection is closed or failed. Or the server, or a synchronous
+                standby, does not answer in 21 seconds: start it again, with the same key.
+            ValueError: The connection has no open transaction, or is to another database.
+            TypeError: The connection is of another kind, for example one that blocks its thread.
             Closed: The client is closed.
         """
         self._open_notifier
+        adapter = None
         if connection is not None:
-            caller_connection.check_kind(connection, plain=False)
+            adapter = self._starter.take_async(connection, "sagas.Client")
         request = self._starter.start_request(saga, key, input, labels, deadline, traceparent)
         await self._starter.check_shape(saga, input)
         self._sagas[saga.name, saga.version] = saga
-        new = await self._starter.start(request, connection)
+        if adapter is None:
+            new = await self._starter.start_alone(request)
+        else:
+            new = await self._starter.start(request, adapter)
         return ClientRun(self, key, request, new)
 
     async def wait(self, key: str, timeout: float | None = None) -> SagaResult:
@@ -288,7 +299,7 @@ class Client(SharedCalls):
             turn, before = (turn + 1 if row.id == before else 0), row.id
             await self._open_notifier.of(row.id, turn)
 
-    async def abort(self, key: str) -> bool:
+    async def abort(self, key: str, *, by: str | None = None, note: str | None = None) -> bool:
         """Abort a saga, and wait for its node's reply. See `Store.abort`.
 
         A start that no node has opened is withdrawn at once, and then no saga has the key.
@@ -296,8 +307,9 @@ class Client(SharedCalls):
         row = await self._row(key)
         if row.phase is not None:
             return False
-        children.check_abortable(key)
-        return bool(await self._request(row, "abort", "null"))
+        child_sagas.check_abortable(key)
+        value = serialization.write(request_fields(by, note) if by is not None else None)
+        return bool(await self._request(row, "abort", value))
 
     async def complete(
         self,
@@ -307,9 +319,12 @@ class Client(SharedCalls):
         *,
         undo: bool = False,
         early: bool = True,
+        by: str | None = None,
+        note: str | None = None,
     ) -> None:
         """Report that a step succeeded. See `Store.complete`."""
-        await self._report(key, step, reported_outcome(result, None), undo, early)
+        outcome = reported_outcome(result, None)
+        await self._report(await self._row(key), step, outcome, undo, early, by, note)
 
     async def fail(
         self,
@@ -319,19 +334,47 @@ class Client(SharedCalls):
         *,
         undo: bool = False,
         early: bool = True,
+        by: str | None = None,
+        note: str | None = None,
     ) -> None:
         """Report that a step failed permanently. See `Store.fail`."""
-        await self._report(key, step, reported_outcome(None, error), undo, early)
+        outcome = reported_outcome(None, error)
+        await self._report(await self._row(key), step, outcome, undo, early, by, note)
 
-    async def retry(self, key: str, step: Step[Any] | str, *, undo: bool = False) -> None:
+    async def retry(
+        self,
+        key: str,
+        step: Step[Any] | str,
+        *,
+        undo: bool = False,
+        by: str | None = None,
+        note: str | None = None,
+    ) -> None:
         """Attempt an exhausted step again. See `Store.retry`."""
-        row, kind = await self._row(key), "undo" if undo else "run"
+        await self._retry(await self._row(key), step, undo, by, note)
+
+    async def _retry(
+        self, row: SagaRow, step: Step[Any] | str, undo: bool, by: str | None, note: str | None
+    ) -> None:
         if row.phase is not None:
             raise reports.ended_error(row)
-        value = serialization.write(
-            {"step": step if isinstance(step, str) else step.name, "kind": kind}
-        )
+        name, kind = step if isinstance(step, str) else step.name, "undo" if undo else "run"
+        requester = {} if by is None else request_fields(by, note)
+        value = serialization.write({**requester, "step": name, "kind": kind})
         await self._request(row, "retry", value)
+
+    async def _settle(self, wait: Waits, outcome: Outcome | None, details: dict[str, Any]) -> None:
+        row = await self._row(wait.key)
+        if row.id != wait.id:  # another saga has the key by now
+            raise NoSuchSaga(f"saga {wait.key!r} does not exist any more")
+        by, note = details["by"], details["note"]
+        if outcome is None:
+            await self._retry(row, wait.step, wait.undo, by, note)
+        else:
+            await self._report(row, wait.step, outcome, wait.undo, False, by, note)
+
+    def _declared(self) -> dict[str, builtins.list[str]]:
+        return declared_names(self._sagas.values())
 
     async def _request(self, row: SagaRow, command: str, value: str) -> Any:
         """Ask the node that executes the saga; return its reply, or raise its error."""
@@ -340,10 +383,16 @@ class Client(SharedCalls):
         return operator_requests.checked_answer(answer)
 
     async def _report(
-        self, key: str, step: Step[Any] | str, outcome: Outcome, undo: bool, early: bool
+        self,
+        row: SagaRow,
+        step: Step[Any] | str,
+        outcome: Outcome,
+        undo: bool,
+        early: bool,
+        by: str | None,
+        note: str | None,
     ) -> None:
-        row, kind = await self._row(key), "undo" if undo else "run"
-        name = step if isinstance(step, str) else step.name
+        kind, name = "undo" if undo else "run", step if isinstance(step, str) else step.name
         if row.phase is not None:
             await self._check_kept(row, name, kind, outcome)
             return
@@ -351,7 +400,8 @@ class Client(SharedCalls):
         command, arguments = operator_commands.report_command(
             name, kind, outcome, early, self._payloads
         )
-        await self._request(row, command, serialization.write(arguments))
+        requester = {} if by is None else request_fields(by, note)
+        await self._request(row, command, serialization.write({**requester, **arguments}))
 
     async def _check_kept(self, row: SagaRow, step: str, kind: str, outcome: Outcome) -> None:
         """Check a report of a saga that has ended. See `check_repeated_report`."""
@@ -381,7 +431,7 @@ class Client(SharedCalls):
         """Mark a saga as resolved. See `Store.resolve`."""
         arguments.text("note", note, "what was done about it")
         note = serialization.clean(note)
-        details = serialization.write({"by": by, "note": note})
+        details = serialization.write(request_fields(by, note))
         if not await self._ask(RESOLVE, key=key, note=note, details=details):
             row = await self._row(key)
             unused = await self._ask(queries.named(attention.UNUSED_REPORTS, "id"), id=row.id)
@@ -394,8 +444,24 @@ class Client(SharedCalls):
 
         A node that has the definition executes the command.
         """
-        arguments = {"step": step if isinstance(step, str) else step.name, "by": by, "note": note}
+        name = step if isinstance(step, str) else step.name
+        arguments = {**request_fields(by, note), "step": name}
         await self._request(await self._row(key), "compensate", serialization.write(arguments))
+
+    async def restart(
+        self, key: str, new_key: str, *, by: str | None = None, note: str | None = None
+    ) -> ClientRun:
+        """Start an ended saga again, under a new key. See `Store.restart`.
+
+        A node that has the definition executes the command, and this call waits for it.
+        """
+        arguments.key(new_key)
+        row, before = await self._row(key), await self._find(new_key)
+        if row.phase is None:
+            check_restartable(key, SagaPhase.OPEN)
+        value = serialization.write({**request_fields(by, note), "new_key": new_key})
+        await self._request(row, "restart", value)
+        return ClientRun(self, new_key, None, before is None)
 
     async def plan(self, key: str) -> Plan | None:
         """Return a saga's last plan. See `Store.plan`."""
@@ -416,11 +482,13 @@ class Client(SharedCalls):
             return [
                 waits.missing_definition(row.saga, *holders[0]) if is_left else waits.NO_NODE_YET
             ]
+        without_node = [str(text) for (text,) in await self._read(queries.NO_NODE_OF, row.id)]
         rows = await self._read(WAITS, row.id)
         if not rows:
-            return []
+            return without_node
         known = await self._known(row)
-        return waits.stored_waits(self._kind(row, known.definition).names, rows)
+        names = self._kind(row, known.definition).names
+        return [*without_node, *waits.stored_waits(names, rows)]
 
     async def _ask(self, query: str, **parameters: Any) -> builtins.list[Row]:
         self._open_notifier
@@ -473,9 +541,9 @@ class ClientRun:
     """
 
     def __init__(
-        self, client: Client, key: str, words: dict[str, Any] | None = None, new: bool = False
+        self, client: Client, key: str, request: dict[str, Any] | None = None, new: bool = False
     ) -> None:
-        self._client, self.key, self._request, self.new = client, key, words, new
+        self._client, self.key, self._request, self.new = client, key, request, new
 
     async def wait(self, timeout: float | None = None) -> SagaResult:
         """Wait until the saga has ended. See `Client.wait`.

@@ -5,7 +5,7 @@ from __future__ import annotations
 import contextlib
 import json
 import time
-from collections.abc import Callable, Coroutine
+from collections.abc import Callable, Coroutine, Sequence
 from typing import TYPE_CHECKING, Any, NamedTuple
 from weakref import WeakKeyDictionary, WeakSet
 
@@ -15,12 +15,14 @@ from sagas.base.errors import StoreUnavailable
 from sagas.definition import saga as saga_module, waits
 from sagas.definition import (
     arguments,
-    children,
+    child_sagas,
     serialization,
     shape,
     tracing,
 )
 from sagas.definition.definition_text import digest_of
+from sagas.definition.declaration import input_types
+from sagas.definition.input_types import InputTypes
 from sagas.definition.labels import Labels, checked
 from sagas.definition.payloads import Payloads
 from sagas.definition.saga import Saga
@@ -30,46 +32,67 @@ from sagas.runtime import instances
 from sagas.runtime.declared_calls import DefinitionCaller
 from sagas.storage import codec_note
 from sagas.storage.postgresql import caller_connection, connections, notifications, replication
+from sagas.storage.postgresql.caller_connection import Work
+from sagas.storage.postgresql.connection_adapters import (
+    AsyncAdapter,
+    AsyncPsycopg,
+    BlockingAdapter,
+    Statement,
+)
 
 if TYPE_CHECKING:
     from sagas.storage.postgresql.connections import Row
 
-Connection = psycopg.AsyncConnection[Any]
 AskDatabase = Callable[[Coroutine[Any, Any, list["Row"]]], list["Row"]]
+ReadDatabase = Callable[[str], Coroutine[Any, Any, list["Row"]]]
 
-START = """
+START = Statement(
+    """
 INSERT INTO sagas.pending_starts(
   key, saga, version, input, digest, labels, deadline, traceparent, at)
-SELECT %(key)s::text, %(saga)s::text, %(version)s::integer, %(input)s::text, %(digest)s::text,
-  %(labels)s::jsonb, %(deadline)s::double precision, %(traceparent)s::text,
+SELECT CAST(%(key)s AS text), CAST(%(saga)s AS text), CAST(%(version)s AS integer),
+  CAST(%(input)s AS text), CAST(%(digest)s AS text), CAST(CAST(%(labels)s AS text) AS jsonb),
+  CAST(%(deadline)s AS double precision), CAST(%(traceparent)s AS text),
   extract(epoch FROM clock_timestamp())
-WHERE %(encodes)s OR NOT EXISTS (SELECT 1 FROM sagas.secrets WHERE name = 'codec')
+WHERE CAST(%(encodes)s AS boolean)
+  OR NOT EXISTS (SELECT 1 FROM sagas.secrets WHERE name = 'codec')
 ON CONFLICT (key) DO NOTHING RETURNING id
 """
-EXISTING = """
-SELECT saga, input, NULL::text FROM sagas.sagas WHERE key = %(key)s
+)
+EXISTING = Statement(
+    """
+SELECT saga, input, CAST(NULL AS text) FROM sagas.sagas WHERE key = CAST(%(key)s AS text)
 UNION ALL SELECT saga, input, CASE WHEN refused IS NULL THEN digest ELSE '' END
 FROM sagas.pending_starts
-WHERE key = %(key)s AND id <> ALL(%(own)s::bigint[])
+WHERE key = CAST(%(key)s AS text) AND NOT CAST(%(is_added)s AS boolean)
 """
-RENEW = """
-UPDATE sagas.pending_starts SET digest = %(digest)s, refused = NULL
-WHERE key = %(key)s AND version = %(version)s AND node IS NULL RETURNING id
+)
+"""Finds what has the key. If the start was added, it is the only start with the key."""
+RENEW = Statement(
+    """
+UPDATE sagas.pending_starts SET digest = CAST(%(digest)s AS text), refused = NULL
+WHERE key = CAST(%(key)s AS text) AND version = CAST(%(version)s AS integer) AND node IS NULL
+RETURNING id
 """
+)
 """A start that no node has taken gets the definition of its latest start. A refused start is
 accepted again.
 """
-NOTED = "SELECT 1 FROM sagas.secrets WHERE name = 'codec'"
-BACK = "DELETE FROM sagas.pending_starts WHERE id = ANY(%(own)s::bigint[])"
-NOTIFY = f"SELECT pg_notify('{notifications.CHANNEL}', '{notifications.STARTS}')"
+NOTED = Statement("SELECT 1 FROM sagas.secrets WHERE name = 'codec'")
+BACK = Statement(
+    "DELETE FROM sagas.pending_starts WHERE key = CAST(%(key)s AS text)", returns_rows=False
+)
+"""Deletes the start that was added."""
+NOTIFY = Statement(f"SELECT pg_notify('{notifications.CHANNEL}', '{notifications.STARTS}')")
 """In the caller's transaction, only its commit sends the notification. For its own transactions,
 the client notifies after the commit: a commit that notifies holds a lock of the whole server, also
 while it waits for a standby.
 """
+REPLICATED = Statement(replication.REPLICATED)
 UNSURE = "It is unknown whether the saga was started. Start it again, with the same key"
 
 
-def has_other_definition(request: dict[str, Any], rows: list[Row]) -> bool:
+def has_other_definition(request: dict[str, Any], rows: Sequence[Row]) -> bool:
     """Return whether an existing start of the same key has another definition."""
     digest = request["digest"]
     known = (None, digest) if digest is not None else (None,)
@@ -80,7 +103,7 @@ def has_other_definition(request: dict[str, Any], rows: list[Row]) -> bool:
     )
 
 
-def check_same(request: dict[str, Any], rows: list[Row]) -> None:
+def check_same(request: dict[str, Any], rows: Sequence[Row]) -> None:
     """Raise `KeyConflict` if another saga or input has the key."""
     for saga, text, *_ in rows:
         error = instances.conflict(
@@ -97,52 +120,44 @@ class Written(NamedTuple):
     must_notify: bool
 
 
-def check_written(request: dict[str, Any], noted: list[Row]) -> None:
+def check_written(request: dict[str, Any], noted: Sequence[Row]) -> None:
     """Raise `MissingCodec` if nothing was written because values must be encoded."""
     if noted and not request["encodes"]:
         raise codec_note.missing(request["path"])
 
 
-async def start(link: Connection, request: dict[str, Any]) -> Written:
+def start(request: dict[str, Any]) -> Work[Written]:
     """Write a row, then check whether another start has the key.
 
     In this order, no concurrent start of the same key can be missed. An existing row may belong to
     a commit that no standby has yet.
     """
-    own_rows = await caller_connection.rows(link, START, request)
-    rows = await caller_connection.rows(
-        link, EXISTING, {"key": request["key"], "own": [id for (id,) in own_rows]}
-    )
-    if rows and own_rows:
-        await psycopg.AsyncCursor(link).execute(BACK, {"own": [id for (id,) in own_rows]})
+    is_added = bool((yield START, request))
+    rows = yield EXISTING, {"key": request["key"], "is_added": is_added}
+    if rows and is_added:
+        yield BACK, request
     check_same(request, rows)
-    if not (own_rows or rows):
-        check_written(request, await caller_connection.rows(link, NOTED, request))
+    if not (is_added or rows):
+        check_written(request, (yield NOTED, {}))
     if renewed := has_other_definition(request, rows):
-        await caller_connection.rows(link, RENEW, request)
-    if not own_rows:
-        await psycopg.AsyncCursor(link).execute(replication.REPLICATED)
-    is_new = bool(own_rows) and not rows
+        yield RENEW, request
+    if not is_added:
+        yield REPLICATED, {}
+    is_new = is_added and not rows
     return Written(is_new, is_new or renewed)
 
 
-def start_now(link: psycopg.Connection[Any], request: dict[str, Any]) -> Written:
-    """Write a row in a blocking transaction. See `start`."""
-    own_rows = caller_connection.rows_now(link, START, request)
-    rows = caller_connection.rows_now(
-        link, EXISTING, {"key": request["key"], "own": [id for (id,) in own_rows]}
-    )
-    if rows and own_rows:
-        psycopg.Cursor(link).execute(BACK, {"own": [id for (id,) in own_rows]})
-    check_same(request, rows)
-    if not (own_rows or rows):
-        check_written(request, caller_connection.rows_now(link, NOTED, request))
-    if renewed := has_other_definition(request, rows):
-        caller_connection.rows_now(link, RENEW, request)
-    if not own_rows:
-        psycopg.Cursor(link).execute(replication.REPLICATED)
-    is_new = bool(own_rows) and not rows
-    return Written(is_new, is_new or renewed)
+def start_for_caller(request: dict[str, Any], store: list[Row]) -> Work[bool]:
+    """Write a row in the transaction of a caller; return whether it is new.
+
+    `store` identifies the database. If it is empty, the database is known or cannot be checked.
+    """
+    if store:
+        yield from caller_connection.check_database(store, request["path"])
+    written = yield from start(request)
+    if written.must_notify:
+        yield NOTIFY, {}
+    return written.is_new
 
 
 class StartNotifier:
@@ -171,7 +186,7 @@ class StartNotifier:
             self._is_sending = False
 
 
-def shape_check(saga: Saga, input: Any) -> Callable[[], object] | None:
+def shape_check(saga: Saga[Any], input: Any) -> Callable[[], object] | None:
     """Return a check of the steps that come from an input; None if there are none.
 
     The check calls functions of the definition, and raises what they raise.
@@ -182,22 +197,23 @@ def shape_check(saga: Saga, input: Any) -> Callable[[], object] | None:
     return lambda: shape.write_definition(Shape(saga, plain))
 
 
-class ClientStarter:
-    """Writes starts, in its own transactions or in those of the callers."""
+class CallerStarter:
+    """Writes starts in the transactions of callers, by their connections."""
 
-    def __init__(
-        self, asker: connections.Asker, path: str, max_connections: int, payloads: Payloads
-    ) -> None:
+    take_async = staticmethod(caller_connection.take_async)
+    take_blocking = staticmethod(caller_connection.take_blocking)
+
+    def __init__(self, read: ReadDatabase, path: str, payloads: Payloads) -> None:
         self._payloads, self._tracer = payloads, tracing.tracer()
-        self._asker, self._path, self._max_connections = asker, path, max_connections
-        self._digests: WeakKeyDictionary[Saga, str | None] = WeakKeyDictionary()
-        self._notifier, self._declared = StartNotifier(asker), DefinitionCaller(max_connections)
-        self._checked: WeakSet[caller_connection.Given] = WeakSet()
-        """Connections of callers that are known to lead to the store's database."""
+        self._read, self._path = read, path
+        self._digests: WeakKeyDictionary[Saga[Any], str | None] = WeakKeyDictionary()
+        self._types: WeakKeyDictionary[Saga[Any], InputTypes] = WeakKeyDictionary()
+        self._checked: WeakSet[Any] = WeakSet()
+        """Connections to servers that are known to lead to the store's database."""
 
     def start_request(
         self,
-        saga: Saga,
+        saga: Saga[Any],
         key: str,
         input: Any,
         labels: Labels | None,
@@ -212,11 +228,12 @@ class ClientStarter:
         labels_text = json.dumps(dict(checked(labels)))
         waits.check_is_saga(saga)
         if saga.has_children:
-            children.check_key(key, saga)
+            child_sagas.check_key(key, saga)
         if saga not in self._digests:  # its definition is whole by now
             self._digests[saga] = digest_of(saga_module.declared_text(saga)) if saga.parts else None
         request = {"key": key, "saga": saga.name, "version": saga.version, "of": saga}
         plain = serialization.write_value(input, "input")
+        self.check_input(saga, plain)
         text = self._payloads.encode(plain)
         request |= {"payloads": self._payloads, "path": self._path}
         request["encodes"] = self._payloads.codec is not None
@@ -230,7 +247,67 @@ class ClientStarter:
             "deadline": deadline_time,
         }
 
-    async def check_shape(self, saga: Saga, input: Any) -> None:
+    def check_input(self, saga: Saga[Any], text: str) -> None:
+        """Raise `InvalidInput` if an input does not have the types that the saga declares.
+
+        Args:
+            saga: The saga, with all of its parts declared.
+            text: The input as JSON.
+        """
+        if saga not in self._types:
+            self._types[saga] = input_types(saga)
+        if invalid := self._types[saga].error(text):
+            raise invalid
+
+    async def start(self, request: dict[str, Any], adapter: AsyncAdapter) -> bool:
+        """Write a start; return whether its row is new."""
+        store = [] if self._is_checked(adapter) else await self.database()
+        work = start_for_caller(request, store)
+        is_new = await caller_connection.run_in_savepoint_async(adapter, work, self._path)
+        self._note_checked(adapter)
+        return is_new
+
+    def start_now(
+        self, request: dict[str, Any], adapter: BlockingAdapter, ask: AskDatabase
+    ) -> bool:
+        """Write a start in the transaction of a blocking connection. See `start`."""
+        store = [] if self._is_checked(adapter) else ask(self.database())
+        work = start_for_caller(request, store)
+        is_new = caller_connection.run_in_savepoint(adapter, work, self._path)
+        self._note_checked(adapter)
+        return is_new
+
+    def _is_checked(self, adapter: AsyncAdapter | BlockingAdapter) -> bool:
+        return adapter.server_connection in self._checked
+
+    def _note_checked(self, adapter: AsyncAdapter | BlockingAdapter) -> None:
+        if adapter.server_connection is not None:
+            self._checked.add(adapter.server_connection)
+
+    async def database(self) -> list[Row]:
+        """Return the identity of the store's database.
+
+        It is empty if this role may not read it.
+        """
+        try:
+            return await self._read(caller_connection.HERE.text)
+        except StoreUnavailable as error:
+            if isinstance(error.__cause__, psycopg.errors.InsufficientPrivilege):
+                return []
+            raise
+
+
+class ClientStarter(CallerStarter):
+    """Writes starts of a client, in its own transactions or in those of the callers."""
+
+    def __init__(
+        self, asker: connections.Asker, path: str, max_connections: int, payloads: Payloads
+    ) -> None:
+        super().__init__(asker.read, path, payloads)
+        self._asker, self._max_connections = asker, max_connections
+        self._notifier, self._declared = StartNotifier(asker), DefinitionCaller(max_connections)
+
+    async def check_shape(self, saga: Saga[Any], input: Any) -> None:
         """Raise the error for which the nodes would refuse a start.
 
         That concerns sagas with steps that come from the input. Functions of the definition decide
@@ -239,39 +316,7 @@ class ClientStarter:
         if (check := shape_check(saga, input)) is not None:
             await self._declared.call(saga.name, check)
 
-    async def start(self, request: dict[str, Any], connection: Connection | None) -> bool:
-        """Write a start; return whether its row is new."""
-        if connection is None:
-            return await self._alone(request)
-        store = [] if connection in self._checked else await self.database()
-        with caller_connection.translate_errors(connection, self._path):
-            if store:
-                databases = await caller_connection.rows(connection, caller_connection.HERE, {})
-                caller_connection.check_database(connection, databases, store, self._path)
-            async with caller_connection.savepoint(connection):
-                written = await start(connection, request)
-                if written.must_notify:
-                    await psycopg.AsyncCursor(connection).execute(NOTIFY)
-        self._checked.add(connection)
-        return written.is_new
-
-    def start_now(
-        self, request: dict[str, Any], connection: psycopg.Connection[Any], ask: AskDatabase
-    ) -> bool:
-        """Write a start in the transaction of a blocking connection. See `start`."""
-        store = [] if connection in self._checked else ask(self.database())
-        with caller_connection.translate_errors(connection, self._path):
-            if store:
-                databases = caller_connection.rows_now(connection, caller_connection.HERE, {})
-                caller_connection.check_database(connection, databases, store, self._path)
-            with caller_connection.savepoint_now(connection):
-                written = start_now(connection, request)
-                if written.must_notify:
-                    psycopg.Cursor(connection).execute(NOTIFY)
-        self._checked.add(connection)
-        return written.is_new
-
-    async def _alone(self, request: dict[str, Any]) -> bool:
+    async def start_alone(self, request: dict[str, Any]) -> bool:
         """Write a start in its own transaction.
 
         It retries over connections that the server has ended, up to the size of the pool. A
@@ -289,7 +334,7 @@ class ClientStarter:
 
     async def _begin(self, request: dict[str, Any]) -> bool:
         async with self._asker.connection() as link, link.transaction():
-            written = await start(link, request)
+            written = await caller_connection.run_async(AsyncPsycopg(link), start(request))
         if written.must_notify:
             self._notifier.notify()
         return written.is_new
@@ -297,15 +342,3 @@ class ClientStarter:
     def close(self) -> None:
         """Stop calling functions of definitions."""
         self._declared.close()
-
-    async def database(self) -> list[Row]:
-        """Return the identity of the store's database.
-
-        It is empty if this role may not read it.
-        """
-        try:
-            return await self._asker.read(caller_connection.HERE)
-        except StoreUnavailable as error:
-            if isinstance(error.__cause__, psycopg.errors.InsufficientPrivilege):
-                return []
-            raise

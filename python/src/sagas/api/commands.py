@@ -18,22 +18,18 @@ from sagas.base.errors import (
     WouldWaitForever,
 )
 from sagas.base.logger import logger
-from sagas.core import (
-    attempt_machine,
-    attention,
-    reports,
-    waits,
-)
-from sagas.core.batch import AnsweredRequest, Batch, RequestRef, SagaRow, StoredSaga
+from sagas.core import attention, reports
+from sagas.core.attempt import machine as attempt_machine, waits
+from sagas.core.decisions import request_fields
+from sagas.core.shard.batch import AnsweredRequest, Batch, RequestRef, SagaRow, StoredSaga
 from sagas.core.reports import EarlyReport, Refusal
-from sagas.core.attempt import Attempt
-from sagas.core.saga_instance import SagaInstance
+from sagas.core.attempt.model import Attempt
+from sagas.core.attempt.instance import SagaInstance
 from sagas.core.outcomes import SUCCEEDED, Outcome
 from sagas.core.states import Action, EarlyReason
-from sagas.definition import children, serialization, tokens, undo_sagas
+from sagas.definition import child_sagas, serialization, tokens, undo_sagas
 from sagas.definition.capacity import SHARD_CAPACITY
 from sagas.definition.compiled import ActionKey, CompiledDefinition
-from sagas.definition.labels import TOKEN
 from sagas.definition.payloads import Payloads
 from sagas.definition.layout import ShapeValues
 from sagas.definition.start_options import StartOptions
@@ -46,7 +42,8 @@ from sagas.runtime import (
     operator_commands,
     stored_values,
 )
-from sagas.storage import operator_requests
+from sagas.runtime.coordinator import Coordinator
+from sagas.storage import operator_requests, queries
 from sagas.storage.queries import PHASE
 
 CHILDREN = reports.CHILDREN_QUERY.format(PHASE)
@@ -57,7 +54,6 @@ SELECT s.key, s.id, h.step FROM suspensions h JOIN sagas s ON s.id = h.id
 WHERE h.number = 0 AND h.reason = 'early_result' AND s.phase IS NOT NULL AND s.note IS NULL
 """
 SHARD_NAME = "SELECT name FROM shards WHERE shard = ?"
-LABELS = f"SELECT name, value FROM labels WHERE id = ? AND name <> '{TOKEN}'"
 Read = Callable[..., Awaitable[Sequence[tuple[Any, ...]]]]
 
 
@@ -76,7 +72,7 @@ class Commands:
         """Return the stored row of a command; None if no requester is named."""
         if by is None:
             return None
-        text = serialization.write({"by": by, "note": note, **arguments})
+        text = serialization.write({**request_fields(by, note), **arguments})
         return key, command, text, self._access.coordinator.clock()
 
     async def abort(self, key: str, request: RequestRef, of: int | None = None) -> bool:
@@ -94,7 +90,7 @@ class Commands:
                 row = await self._lookup.row(key, of)
                 if row.phase is not None:
                     return False
-                children.check_abortable(key)
+                child_sagas.check_abortable(key)
                 if key in coordinator.sagas.by_key:
                     continue
                 return bool(await self.hand_over(row, "abort", None, request))
@@ -109,7 +105,7 @@ class Commands:
                     return False
                 continue
             if not live.over:
-                children.check_abortable(key)
+                child_sagas.check_abortable(key)
             try:
                 return await coordinator.shards.abort(live, request)
             except SagaMoved:
@@ -145,6 +141,7 @@ class Commands:
         """
         kind = "undo" if undo else "run"
         while True:
+            coordinator = self._access.coordinator
             live = await self._lookup.live(key)
             if live is None:
                 row = await self._lookup.row(key, of)
@@ -152,7 +149,7 @@ class Commands:
                     await self._check_kept(row, step, kind, outcome)
                     return
                 if key not in self._access.coordinator.sagas.by_key:
-                    payloads = self._access.coordinator.registry.payloads
+                    payloads = coordinator.registry.payloads
                     command, arguments = operator_commands.report_command(
                         step, kind, outcome, early, payloads
                     )
@@ -161,13 +158,13 @@ class Commands:
                 continue
             if of is not None and not live.committed:
                 with contextlib.suppress(SagasError):  # its start raises that
-                    await self._access.coordinator.sagas.started(live)
+                    await coordinator.sagas.started(live)
                 continue
             _check_is(live, of)
             try:
-                attempt = await self._reported_attempt(live, step, kind, outcome)
+                attempt = await self._reported_attempt(coordinator, live, step, kind, outcome)
                 if isinstance(attempt, Attempt):
-                    await self._report_here(attempt, outcome, request)
+                    await self._report_here(coordinator, attempt, outcome, request)
                 elif attempt is not None:
                     await self._report_early(live, attempt, outcome, request, early)
                 return
@@ -212,13 +209,15 @@ class Commands:
             except SagaMoved:
                 continue
 
-    async def _report_here(self, attempt: Attempt, outcome: Outcome, request: RequestRef) -> None:
+    async def _report_here(
+        self, coordinator: Coordinator, attempt: Attempt, outcome: Outcome, request: RequestRef
+    ) -> None:
         """Report an attempt that is in progress here.
 
         Raises `SagaMoved` if it has ended, or is not here any more. The reply never relies on a
         state that may not be stored.
         """
-        coordinator, key, step = self._access.coordinator, attempt.instance.key, attempt.name
+        key, step = attempt.instance.key, attempt.action.name
         is_checked = not is_of_child(attempt, outcome)
         while not (is_checked and attempt_machine.is_reportable(attempt)):
             if attempt_machine.is_reportable(attempt):
@@ -243,6 +242,9 @@ class Commands:
                 )
             await coordinator.executor.changes.wait(attempt)
             self._access.coordinator  # raises if it was closed in the meantime
+        decoders = attempt.instance.kind.decoders
+        if step in decoders and not attempt.undo:
+            reports.check_result_type(key, step, outcome, decoders)
         if request is not None:
             attempt.rare.request = request
         kept = coordinator.executor.kept.wait(attempt)
@@ -250,7 +252,7 @@ class Commands:
         await kept
 
     async def _reported_attempt(
-        self, live: SagaInstance, step: str, kind: str, outcome: Outcome
+        self, coordinator: Coordinator, live: SagaInstance, step: str, kind: str, outcome: Outcome
     ) -> Attempt | ActionKey | None:
         """Return the attempt to report; the key of the action if none has started.
 
@@ -261,12 +263,13 @@ class Commands:
             raise StepNotWaiting(
                 f"saga {live.key!r} has no step {step!r}{meant(step, live.kind.names)}"
             )
-        coordinator, word = self._access.coordinator, (live.kind.names.index(step), kind)
+        word = live.kind.names.index(step), kind
         attempt = live.busy.get(word)
-        if attempt is not None and word not in live.rare.final:
+        if attempt is not None and (live.extras is None or word not in live.extras.final):
             return attempt
         is_there = live.shard is not None and live.committed
         rows = await coordinator.store.read(reports.RESULTS_QUERY, live.id) if is_there else []
+        self._access.coordinator  # raises if it was closed in the meantime
         first = reports.first_outcome(rows, *word)
         if first is None and attempt is not None:
             return attempt
@@ -325,6 +328,8 @@ class Commands:
                 await coordinator.sagas.started(live)
             raise SagaMoved(f"saga {key!r}")
         else:
+            if word[1] == Action.RUN:
+                reports.check_result_type(key, step, outcome, live.kind.decoders)
             await coordinator.executor.early.put(EarlyReport(live, word, outcome, request))
 
     async def resolve(self, key: str, note: str, by: str | None) -> None:
@@ -334,7 +339,7 @@ class Commands:
         unused = await coordinator.store.read(attention.UNUSED_REPORTS, row.id)
         if not attention.is_to_resolve(row, note, bool(unused)):
             return
-        batch, value = Batch(-1, coordinator.clock()), serialization.write({"by": by, "note": note})
+        batch, value = Batch(-1, coordinator.clock()), serialization.write(request_fields(by, note))
         batch.rare_rows.notes.append((note, row.id))
         batch.answer((key, "resolve", value, coordinator.clock()), "true")
         await coordinator.kept(batch)
@@ -375,19 +380,21 @@ def is_of_child(attempt: Attempt, outcome: Outcome) -> bool:
 
     The result of an attempt that undoes a child is never read, so such attempts do not count.
     """
-    starts_child = attempt.declared.child is not None and not attempt.undo
+    starts_child = attempt.child is not None and not attempt.undo
     is_done = outcome.kind is SUCCEEDED
-    return starts_child and is_done and not children.undoes_child(attempt.key)
+    return starts_child and is_done and not child_sagas.undoes_child(attempt.key)
 
 
 async def check_child_report(read: Read, attempt: Attempt, outcome: Outcome) -> None:
     """Raise `InvalidResult` if no child of this step can have the reported result."""
-    child = attempt.declared.child
+    child, check = attempt.child, reports.check_child_result
+    if child is not None and child.starts_for is not None:
+        child, check = child_sagas.child_of_items(child), reports.check_children_result
     steps = None if child is None or child.is_shaped else [step.name for step in child.steps]
     rows = await read(CHILDREN, attempt.instance.id)
     result = serialization.read(outcome.value)
     phases = [(str(key), str(phase)) for key, phase in rows]
-    reports.check_child_result(attempt.key, attempt.name, result, phases, steps)
+    check(attempt.key, attempt.name, result, phases, steps)
 
 
 async def check_repeated_report(
@@ -457,7 +464,7 @@ class UnusedReports:
             raise StepNotWaiting(f"{subject}: the saga is resolved already")
         declared = kind.steps[number]
         if kind.saga is None or declared is None:
-            if coordinator.store.shared:
+            if coordinator.store.supports_nodes:
                 await self._commands.hand_over(row, "compensate", {"step": step}, request)
                 return
             raise StepNotWaiting(
@@ -468,11 +475,11 @@ class UnusedReports:
             raise StepNotWaiting(f"{subject}: {fault}. Undo it by hand, and resolve the saga")
         saga = coordinator.registry.report_undo(kind.saga, declared)
         input = await self._input(row, known, kind, number, text or "null")
-        labels = {
-            str(name): str(value) for name, value in await coordinator.store.read(LABELS, row.id)
-        }
+        labels = queries.visible_labels(await coordinator.store.read(queries.LABELS_OF, row.id))
         options = StartOptions(labels, parent=row.id)
-        await self._starter.start_child(saga, children.key_of(key, step, undo=True), input, options)
+        await self._starter.start_child(
+            saga, child_sagas.key_of(key, step, undo=True), input, options
+        )
         batch = Batch(-1, coordinator.clock())
         batch.rare_rows.undone.append((row.id, number))
         batch.answer(request, "true")
@@ -480,11 +487,7 @@ class UnusedReports:
 
     async def _ended(self, key: str, of: int | None) -> SagaRow:
         """Return the row of a saga. Raises `StepNotWaiting` if it has not ended."""
-        live = await self._lookup.live(key)
-        if live is not None and live.over:
-            with contextlib.suppress(SagaMoved):
-                await self._access.coordinator.sagas.ends.wait(live)
-        row = await self._lookup.row(key, of)
+        row = await self._lookup.row_with_end(key, of)
         if row.phase is None:
             raise StepNotWaiting(
                 f"saga {key!r} has not ended. Reports that it does not use are undone after its "
@@ -522,7 +525,7 @@ class UnusedReports:
                 location=location,
             )
         )
-        fields_of_task = task.plain
+        fields_of_task = task._plain
         location_data = None
         if location is not None:
             fields = ("shape", "declared_step", "index", "item_key", "item")

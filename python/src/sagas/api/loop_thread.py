@@ -12,7 +12,7 @@ from typing import Any, Concatenate, Generic, ParamSpec, TypeVar
 
 from sagas.base.errors import Closed
 from sagas.base.fork_guard import OpenState
-from sagas.core import waits as waits_module
+from sagas.core.attempt import waits as waits_module
 from sagas.runtime import invocation
 
 A = TypeVar("A")

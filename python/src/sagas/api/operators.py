@@ -4,26 +4,23 @@ from __future__ import annotations
 
 import builtins
 import json
-from collections.abc import Awaitable, Iterable
 from typing import Any
 
-from sagas.api.shared_calls import definition_name
 from sagas.api.commands import Commands, UnusedReports
+from sagas.api.end_calls import EndCalls
 from sagas.api.questions import Questions
+from sagas.api.restarts import Restarts
+from sagas.api.shared_calls import declared_names
 from sagas.api.store_access import SagaLookup, Starter, StoreAccess
-from sagas.base.errors import ConflictingReport, InvalidResult, NoSuchSaga, StepNotWaiting
+from sagas.core.decisions import request_fields
 from sagas.core.outcomes import Outcome, reported_outcome
-from sagas.core.states import Suspension
+from sagas.core.shard.batch import AnsweredRequest
 from sagas.definition import arguments, serialization
-from sagas.definition.labels import Labels, selecting
 from sagas.definition.payloads import Payloads
-from sagas.definition.saga import Saga
 from sagas.definition.registry import DefinitionRegistry
 from sagas.definition.step import Step
-from sagas.inspection import lists
 from sagas.inspection.views import Waits
 from sagas.runtime import operator_commands
-from sagas.storage.filters import Filter
 
 
 class Operators(Questions):
@@ -38,6 +35,8 @@ class Operators(Questions):
         self._starter = Starter(access, self._lookup, registry, accept_new)
         self._commands = Commands(access, self._lookup)
         self._reports = UnusedReports(access, self._lookup, self._starter, self._commands)
+        self._end_calls = EndCalls(self._lookup, self._starter)
+        self._restarts = Restarts(access, self._lookup, self._starter, self._commands)
 
     def _stored(self) -> Payloads:
         return self._access.coordinator.registry.payloads
@@ -91,7 +90,7 @@ class Operators(Questions):
         A step that starts a child is completed with a `ChildResult`: `{"key": "t/:stay", "phase":
         "completed", "results": {"room": 7}}`. The key is that of a child which this step started
         and which has ended. A compensation undoes what remains of that child. With None as the key,
-        there is no child, and nothing to undo.
+        the step has no child, and nothing to undo.
 
         Args:
             key: The saga's key.
@@ -108,7 +107,8 @@ class Operators(Questions):
             ConflictingReport: Another outcome was reported first, and that one counts.
             StepNotWaiting: The step does not wait for a report. Or it has not started, and `early`
                 is False, the step is neither an approval nor external, or the saga is being undone.
-            InvalidResult: The step starts a child, and this is not the result of one.
+            InvalidResult: The result does not have the type that the step's function declares, or,
+                if the step starts a child, is not the result of one.
             NoSuchSaga: No saga has the key.
             NotSerializable: The result is not JSON.
             WouldWaitForever: An approval's function reports its own approval.
@@ -116,11 +116,12 @@ class Operators(Questions):
             StoreUnavailable: The database does not answer.
             Closed: The store is closed.
         """
-        self._access.coordinator_here()
+        payloads = self._access.coordinator_here().registry.payloads
         outcome, name = reported_outcome(result, None), step if isinstance(step, str) else step.name
-        kept = self._access.coordinator.registry.payloads.encode_value(json.loads(outcome.value))
-        step_fields = operator_commands.step_arguments(name, "undo" if undo else "run", early)
-        command = self._commands.command_row(key, "complete", by, note, **step_fields, result=kept)
+        kept = payloads.encode_value(json.loads(outcome.value))
+        command = None
+        if by is not None:
+            command = self._report_row(key, "complete", by, note, name, undo, early, result=kept)
         await self._commands.report(key, name, outcome, undo, command, early=early)
 
     async def fail(
@@ -146,9 +147,25 @@ class Operators(Questions):
         """
         self._access.coordinator_here()
         outcome, name = reported_outcome(None, error), step if isinstance(step, str) else step.name
-        step_fields = operator_commands.step_arguments(name, "undo" if undo else "run", early)
-        command = self._commands.command_row(key, "fail", by, note, **step_fields, error=error)
+        command = None
+        if by is not None:
+            command = self._report_row(key, "fail", by, note, name, undo, early, error=error)
         await self._commands.report(key, name, outcome, undo, command, early=early)
+
+    def _report_row(
+        self,
+        key: str,
+        command: str,
+        by: str,
+        note: str | None,
+        step: str,
+        undo: bool,
+        early: bool,
+        **details: Any,
+    ) -> AnsweredRequest | None:
+        """Return the stored row of a report by a named requester."""
+        fields = operator_commands.step_arguments(step, "undo" if undo else "run", early)
+        return self._commands.command_row(key, command, by, note, **fields, **details)
 
     async def compensate(
         self, key: str, step: Step[Any] | str, *, by: str | None = None, note: str | None = None
@@ -178,7 +195,7 @@ class Operators(Questions):
         """
         self._access.coordinator_here()
         name = step if isinstance(step, str) else step.name
-        value = serialization.write({"by": by, "note": note, "step": name})
+        value = serialization.write({**request_fields(by, note), "step": name})
         command = key, "compensate", value, self._access.coordinator.clock()
         await self._reports.compensate(key, name, command)
 
@@ -240,137 +257,25 @@ class Operators(Questions):
         command = self._commands.command_row(key, "retry", by, note, step=name, kind=kind)
         await self._commands.retry(key, name, undo, command)
 
-    async def retry_all(
-        self,
-        *,
-        saga: Saga | str | None = None,
-        step: str | None = None,
-        labels: Labels | None = None,
-        limit: int = 1000,
-        by: str | None = None,
-        note: str | None = None,
-    ) -> int:
-        """Attempt again each step whose attempts are exhausted. See `Store.retry`.
-
-        `complete_all` and `fail_all` report them instead.
-
-        Args:
-            saga: Only sagas of this definition, or name (default: all).
-            step: Only this step, and its compensation (default: all). The name of a step with items
-                means all of them, and `hotel/room` a step of an included saga.
-            labels: Only sagas with all of these labels (default: all).
-            limit: Maximum number of attempts, those first that have waited longest (default:
-                1,000).
-            by: The person or program that requests it.
-            note: The reason.
-
-        Returns:
-            The number of attempts, without those that another command has handled in the meantime.
-                If no saga has a label, or no definition the step, a warning is logged.
-
-        Raises:
-            InvalidLabel: As for `abort_all`.
-        """
-        return await self._each(
-            self._exhausted(saga, step, labels, limit), None, {"by": by, "note": note}
-        )
-
-    async def complete_all(
-        self,
-        result: Any = None,
-        *,
-        saga: Saga | str | None = None,
-        step: str | None = None,
-        labels: Labels | None = None,
-        limit: int = 1000,
-        by: str | None = None,
-        note: str | None = None,
-    ) -> int:
-        """Report that each step succeeded whose attempts are exhausted.
-
-        Args:
-            result: The result of each step (default: None).
-
-        See `Store.retry_all` for the others.
-
-        Raises:
-            NotSerializable: The result is not JSON.
-            InvalidResult: A step starts a child, and this is not the result of one. The others are
-                reported.
-        """
-        details = {"by": by, "note": note, "result": result}
-        return await self._each(
-            self._exhausted(saga, step, labels, limit), reported_outcome(result, None), details
-        )
-
-    async def fail_all(
-        self,
-        error: str,
-        *,
-        saga: Saga | str | None = None,
-        step: str | None = None,
-        labels: Labels | None = None,
-        limit: int = 1000,
-        by: str | None = None,
-        note: str | None = None,
-    ) -> int:
-        """Report that each step failed permanently whose attempts are exhausted.
-
-        Args:
-            error: The reason.
-
-        See `Store.retry_all` for the others.
-
-        Raises:
-            TypeError: `error` is not a text.
-        """
-        details = {"by": by, "note": note, "error": error}
-        return await self._each(
-            self._exhausted(saga, step, labels, limit), reported_outcome(None, error), details
-        )
-
-    async def _each(
-        self,
-        waits: Awaitable[builtins.list[Waits]],
-        outcome: Outcome | None,
-        details: dict[str, Any],
-    ) -> int:
-        """Retry the waiting attempts, or report an outcome for each."""
+    async def _settle(self, wait: Waits, outcome: Outcome | None, details: dict[str, Any]) -> None:
         command = "retry" if outcome is None else "fail" if "error" in details else "complete"
-        by, note, count = details.pop("by"), details.pop("note"), 0
-        invalid: InvalidResult | None = None
-        for wait in await waits:
-            kind = "undo" if wait.undo else "run"
-            request = self._commands.command_row(
-                wait.key, command, by, note, step=wait.step, kind=kind, **details
-            )
-            about = wait.key, wait.step
-            try:
-                if outcome is None:
-                    await self._commands.retry(*about, wait.undo, request, wait.id)
-                else:
-                    await self._commands.report(
-                        *about, outcome, wait.undo, request, wait.id, early=False
-                    )
-                count += 1
-            except (StepNotWaiting, ConflictingReport, NoSuchSaga):  # another command was first
-                continue
-            except InvalidResult as error:
-                invalid = invalid or error
-        if invalid is not None:
-            raise invalid
-        return count
+        kind = "undo" if wait.undo else "run"
+        request = self._commands.command_row(
+            wait.key, command, **details, step=wait.step, kind=kind
+        )
+        about = wait.key, wait.step
+        if outcome is None:
+            await self._commands.retry(*about, wait.undo, request, wait.id)
+        else:
+            await self._commands.report(*about, outcome, wait.undo, request, wait.id, early=False)
 
-    def _sagas(self) -> Iterable[Saga]:
-        return self._access.coordinator.registry.sagas.values()
+    def _declared(self) -> dict[str, builtins.list[str]]:
+        sagas = self._access.coordinator.registry.sagas.values()
+        return declared_names(sagas)
 
-    async def _exhausted(
-        self, saga: Saga | str | None, step: str | None, labels: Labels | None, limit: int
-    ) -> builtins.list[Waits]:
-        arguments.count("limit", limit)
-        within = Filter(saga=definition_name(saga), labels=selecting(labels))
-        waits = lists.waits(limit, why=Suspension.EXHAUSTED.value, within=within, step=step)
-        if not (waiting := await self._answer(waits)):
-            names = [name for saga in self._sagas() for name, _ in saga.declared_steps]
-            await self._unmatched(within, step, names)
-        return waiting
+    async def _delete_blobs(self, keys: builtins.list[str]) -> None:
+        if (blobs := self._access.coordinator.store.blobs) is not None:
+            await blobs.delete(keys)
+
+    async def _look_at_pauses(self) -> None:
+        await self._access.coordinator.pauses.refresh()

@@ -4,6 +4,8 @@ from __future__ import annotations
 
 import asyncio
 import builtins
+import importlib
+import os
 from collections.abc import Iterable
 from typing import TypeVar
 
@@ -11,16 +13,42 @@ from sagas.api.shared_calls import SharedCalls
 from sagas.api.store_access import StoreAccess
 from sagas.base import program
 from sagas.base.errors import NoSuchSaga
-from sagas.core.batch import SagaRow
-from sagas.core.waits import active_attempts
-from sagas.core.results import ActiveAttempt, HistoryEvent, SagaResult, UnknownAttempt
-from sagas.definition import arguments, drawing
+from sagas.core.shard.batch import SagaRow
+from sagas.core.attempt.waits import active_attempts
+from sagas.core.nodes import NodeStatus
+from sagas.core.pauses import Pause
+from sagas.core.results import ActiveAttempt, HistoryEvent
+from sagas.definition import drawing
+from sagas.definition.payloads import Payloads
 from sagas.engine.plan import Plan
-from sagas.inspection import lists, saga as one_saga
+from sagas.inspection import saga as one_saga
 from sagas.inspection.question import AsyncStoreReader, Question
+from sagas.runtime.coordinator import Coordinator
+from sagas.storage import store_name
+from sagas.storage.blob_layer import BlobDatabase
+from sagas.storage.factory import definition_names
 from sagas.storage.interface import Reader
 
 T = TypeVar("T")
+
+
+def file_node(coordinator: Coordinator) -> NodeStatus:
+    """Return the only node of a file: this program."""
+    figures = coordinator.shards.relocation.moves.figures()
+    name, run = store_name.node_name(None), str(os.getpid())
+    return NodeStatus(
+        name,
+        run,
+        importlib.import_module("sagas").__version__,
+        coordinator.registry.digest,
+        tuple(definition_names(coordinator.registry)),
+        coordinator.opened_at,
+        shards=len(coordinator.shards.runners),
+        open_sagas=figures.open_sagas,
+        running=figures.running,
+        concurrency=figures.concurrency,
+        is_stopping=figures.is_stopping,
+    )
 
 
 class Questions(SharedCalls):
@@ -42,35 +70,6 @@ class Questions(SharedCalls):
         if row is None or row.id < 0:
             raise NoSuchSaga(f"no saga has the key {key!r}")
         return row
-
-    async def stuck(self, *, limit: int = 1000) -> builtins.list[SagaResult]:
-        """Return the stuck sagas that are not resolved, the oldest first.
-
-        Args:
-            limit: Maximum number of sagas (default: 1,000).
-
-        Raises:
-            ValueError: The limit is not valid.
-            StoreUnavailable: The database does not answer.
-            Closed: The store is closed.
-        """
-        arguments.count("limit", limit)
-        kind_of = self._access.coordinator_here().registry.kind
-        return await self._answer(lists.stuck_results(kind_of, limit))
-
-    async def unknown(self, *, limit: int = 1000) -> builtins.list[UnknownAttempt]:
-        """Return the attempts with an unknown outcome, first those that need an operator.
-
-        Args:
-            limit: Maximum number of attempts (default: 1,000).
-
-        Raises:
-            ValueError: The limit is not valid.
-            StoreUnavailable: The database does not answer.
-            Closed: The store is closed.
-        """
-        arguments.count("limit", limit)
-        return await self._answer(lists.unknown(limit))
 
     def active_attempts(self, key: str) -> builtins.list[ActiveAttempt]:
         """Return the attempts of a saga that have started, and what each waits for.
@@ -148,23 +147,53 @@ class Questions(SharedCalls):
         """
         return await self._access.coordinator_here().shards.auditor.all_shards()
 
-    def holds(self) -> bool:
+    async def nodes(self) -> builtins.list[NodeStatus]:
+        """Return the nodes of the store, by name.
+
+        Those that have ended are returned while they have shards or are drained. A file has one.
+
+        Raises:
+            StoreUnavailable: The database does not answer.
+            Closed: The store is closed.
+        """
+        coordinator = self._access.coordinator_here()
+        if coordinator.store.supports_nodes:
+            return await super().nodes()
+        return [file_node(coordinator)]
+
+    def _holds(self) -> bool:
         """Return whether this node still has its lease, as far as it knows."""
         return self._access.coordinator.store.holds()
 
     @property
-    def commits(self) -> int:
+    def _payloads(self) -> Payloads:
+        """What encodes and decodes the stored values."""
+        return self._access.coordinator.registry.payloads
+
+    async def _whole_text(self, text: str) -> str:
+        """Return a stored text; if it refers to a value in the blob store, that value.
+
+        Raises:
+            StoreUnavailable: The blob store does not answer.
+        """
+        store = self._access.coordinator.store
+        return await store.blobs.text(text) if isinstance(store, BlobDatabase) else text
+
+    @property
+    def _pauses(self) -> builtins.list[Pause]:
+        """The pauses that this program obeys now."""
+        return [*self._access.coordinator.pauses.pauses]
+
+    @property
+    def _commits(self) -> int:
         """How many transactions this program has written."""
         return self._access.coordinator.store.commits
 
     def _now(self) -> float:
-        return self.now()
-
-    def now(self) -> float:
         """Return the store's wall time, in seconds since 1970."""
         return self._access.coordinator.clock()
 
-    def reader(self) -> Reader:
+    def _reader(self) -> Reader:
         """Open another connection, for a thread that only reads.
 
         Raises:

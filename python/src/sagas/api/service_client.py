@@ -30,6 +30,13 @@ from sagas.api.service_connection import (
     ServiceRefused,
     end,
 )
+from sagas.api.service_operators import (
+    ANSWER,
+    ServiceOperators,
+    name_of,
+    path_of,
+    without_none,
+)
 from sagas.api.service_replies import (
     ServiceEvent,
     ServiceSaga,
@@ -42,7 +49,7 @@ from sagas.api.service_replies import (
     waits_of,
 )
 from sagas.base.errors import Closed, NoSuchSaga
-from sagas.core.waits import timeout_error
+from sagas.core.attempt.waits import timeout_error
 from sagas.definition import arguments, tracing
 from sagas.definition.payloads import BlobStore, Codec
 from sagas.definition.labels import Labels, checked
@@ -50,7 +57,6 @@ from sagas.definition.saga import Saga
 from sagas.definition.start_options import Deadline, deadline_at
 from sagas.definition.step import Step
 
-ANSWER = 20.0  # seconds that one request, or the opening of a stream, may take
 MAX_WAIT = 30.0  # seconds that the service holds one request
 BEYOND = 15.0  # seconds that the reply may take after that
 LATE = 10.0  # minimum seconds for which a request is repeated
@@ -58,7 +64,7 @@ SILENT = 40.0
 """Seconds without even a comment after which the connection of a stream counts as dead."""
 
 
-class ServiceClient:
+class ServiceClient(ServiceOperators):
     """Start and inspect sagas of an HTTP service, and decide steps.
 
     It uses only the standard library. Its calls block, and any thread may make them, also
@@ -84,8 +90,8 @@ class ServiceClient:
         """Make a client. It connects at its first call.
 
         Args:
-            url: The service, or several services over one database: if one does not answer, the
-                client asks the next one.
+            url: The service, or several services over one database. The client begins with a
+                random one, and stays there. If one does not answer, it asks the next one.
             token: The token of a caller, an approver or an operator (default: None).
             timeout: Seconds for which a call repeats its request (default: 60).
             codec: That of the service's store: the client decodes inputs and results (default: they
@@ -112,7 +118,7 @@ class ServiceClient:
 
     def start(
         self,
-        saga: Saga | str,
+        saga: Saga[Any] | str,
         key: str,
         input: Any = None,
         *,
@@ -133,13 +139,14 @@ class ServiceClient:
             labels: Texts by name, by which lists find it (default: none).
             deadline: Seconds, a timedelta, or a datetime with a time zone, after which it is
                 aborted (default: as its definition says). One that has passed aborts it at once.
-            version: The version of the definition (default: the newest).
+            version: The version of the definition (default: the newest for a new saga, and any for
+                an existing one).
             traceparent: The W3C trace context of its start (default: of the current span, if any).
 
         Raises:
-            KeyConflict: The key belongs to a saga of another name or input.
+            KeyConflict: The key belongs to a saga of another name, version or input.
             InvalidKey: The key is not valid.
-            InvalidInput: The first steps cannot read the input.
+            InvalidInput: The input does not have a type that the service declares.
             InvalidLabel: A label is not valid.
             NotSerializable: The input is not JSON.
             TooLarge: The saga has too many steps or needs for its input.
@@ -149,7 +156,7 @@ class ServiceClient:
         arguments.key(key)
         if isinstance(saga, Saga) and version is None:
             version = saga.version
-        body: dict[str, Any] = {"definition": _name("saga", saga), "key": key, "input": input}
+        body: dict[str, Any] = {"definition": name_of("saga", saga), "key": key, "input": input}
         options = {
             "labels": dict(checked(labels)) or None,
             "deadline": _seconds_to(deadline),
@@ -172,7 +179,7 @@ class ServiceClient:
             ServiceUnavailable: No service answered in time.
         """
         try:
-            return saga_of(self._values.saga(self._ask(_path(key))))
+            return saga_of(self._values.saga(self._ask(path_of(key))))
         except NoSuchSaga:
             return None
 
@@ -200,7 +207,7 @@ class ServiceClient:
             left = max(0.0, until - time.monotonic())
             seconds = min(MAX_WAIT, left)
             reply = self._ask(
-                f"{_path(key, 'wait')}?seconds={seconds:.3f}",
+                f"{path_of(key, 'wait')}?seconds={seconds:.3f}",
                 None,
                 seconds + BEYOND,
                 max(LATE, min(left, self.timeout)) + seconds,
@@ -226,8 +233,29 @@ class ServiceClient:
             ServiceRefused: The service refuses the token.
             ServiceUnavailable: No service answered in time. Repeat the call.
         """
-        done: bool = self._ask(_path(key, "abort"), _without_none(note=note))["aborted"]
+        done: bool = self._ask(path_of(key, "abort"), without_none(note=note))["aborted"]
         return done
+
+    def restart(self, key: str, new_key: str, *, note: str | None = None) -> ServiceRun:
+        """Start an ended saga again, under a new key. See `Store.restart`.
+
+        Args:
+            key: The key of the old saga.
+            new_key: The key of the new saga.
+            note: The reason; it is stored with the requester and the time (default: none).
+
+        Raises:
+            NotRestartable: The old saga is open, has completed, or is a child.
+            KeyConflict: The new key belongs to a saga that is not a restart of the old one.
+            InvalidInput: The functions of the present definition cannot read the input.
+            NoSuchSaga: No saga has the key.
+            InvalidKey: The new key is not valid.
+            ServiceRefused: The service has no such definition, or refuses the token.
+            ServiceUnavailable: No service answered in time. Repeat the call.
+        """
+        arguments.key(new_key)
+        body = {"key": new_key} | without_none(note=note)
+        return ServiceRun(self, self._ask(path_of(key, "restart"), body))
 
     def complete(
         self,
@@ -260,7 +288,7 @@ class ServiceClient:
             ServiceRefused: The token may not report this step.
             ServiceUnavailable: No service answered in time. Repeat the call.
         """
-        self._report(key, step, "complete", {"result": result}, undo, early, note)
+        self._report("complete", key, step, undo, {"result": result}, note, early)
 
     def fail(
         self,
@@ -285,20 +313,7 @@ class ServiceClient:
             ServiceUnavailable: No service answered in time. Repeat the call.
         """
         arguments.text("error", error, "why it failed")
-        self._report(key, step, "fail", {"error": error}, undo, early, note)
-
-    def _report(
-        self,
-        key: str,
-        step: Step[Any] | str,
-        verb: str,
-        body: dict[str, Any],
-        undo: bool,
-        early: bool,
-        note: str | None,
-    ) -> None:
-        options = _without_none(note=note) | {"undo": undo, "early": early}
-        self._ask(_path(key, "steps", _name("step", step), verb), body | options)
+        self._report("fail", key, step, undo, {"error": error}, note, early)
 
     # -- questions
 
@@ -306,7 +321,7 @@ class ServiceClient:
         self,
         *,
         phase: str | None = None,
-        saga: Saga | str | None = None,
+        saga: Saga[Any] | str | None = None,
         labels: Labels | None = None,
         search: str | None = None,
         started_after: datetime.datetime | float | None = None,
@@ -335,12 +350,12 @@ class ServiceClient:
             ServiceRefused: The service refuses the token, or the filter.
             ServiceUnavailable: No service answered in time.
         """
-        query = _without_none(
+        query = without_none(
             limit=arguments.count("page_size", page_size),
             phase=phase,
             search=search,
             error=error,
-            definition=None if saga is None else _name("saga", saga),
+            definition=None if saga is None else name_of("saga", saga),
             started_after=_moment("started_after", started_after),
             started_before=_moment("started_before", started_before),
         )
@@ -359,7 +374,7 @@ class ServiceClient:
         self,
         *,
         key: str | None = None,
-        saga: Saga | str | None = None,
+        saga: Saga[Any] | str | None = None,
         last_event_id: str | None = None,
     ) -> ServiceEvents:
         """Follow events, from the moment at which the stream is opened.
@@ -377,7 +392,7 @@ class ServiceClient:
         """
         if key is not None:
             arguments.key(key, or_child=True)
-        query = _without_none(key=key, definition=None if saga is None else _name("saga", saga))
+        query = without_none(key=key, definition=None if saga is None else name_of("saga", saga))
         path = f"/v1/events?{urllib.parse.urlencode(query)}"
         stream = ServiceEvents(self._service, path, last_event_id, self.timeout)
         self._streams.add(stream)
@@ -428,21 +443,6 @@ class ServiceClient:
             raise error_of(refusal.name, str(refusal)) or refusal from None
 
 
-def _path(key: str, *rest: str) -> str:
-    arguments.key(key, or_child=True)
-    return "/".join(["/v1/sagas", *(urllib.parse.quote(part, safe="") for part in (key, *rest))])
-
-
-def _name(parameter: str, value: Saga | Step[Any] | str) -> str:
-    name = value.name if isinstance(value, (Saga, Step)) else value
-    arguments.text(parameter, name, f"the name of a {parameter}")
-    return name
-
-
-def _without_none(**options: Any) -> dict[str, Any]:
-    return {name: value for name, value in options.items() if value is not None}
-
-
 def _moment(parameter: str, value: datetime.datetime | float | None) -> float | None:
     if isinstance(value, datetime.datetime):
         if value.tzinfo is None:
@@ -470,12 +470,12 @@ class ServiceRun:
         new: Whether this call started it.
     """
 
-    def __init__(self, client: ServiceClient, told: dict[str, Any]) -> None:
+    def __init__(self, client: ServiceClient, reply: dict[str, Any]) -> None:
         self._client = client
-        self.key: str = told["key"]
-        self.saga: str = told["definition"]
-        self.version: int = told["version"]
-        self.new: bool = told["new"]
+        self.key: str = reply["key"]
+        self.saga: str = reply["definition"]
+        self.version: int = reply["version"]
+        self.new: bool = reply["new"]
 
     def wait(self, timeout: float | None = None) -> ServiceSaga:
         """Wait until the saga has ended. See `ServiceClient.wait`."""

@@ -19,6 +19,7 @@ from collections.abc import Callable, Mapping, Sequence
 from typing import Any, TypeVar
 
 from sagas.base.errors import Closed, SagasError, ServiceUnavailable
+from sagas.base.pauses import doubling_pauses
 from sagas.definition import serialization
 
 T = TypeVar("T")
@@ -63,7 +64,8 @@ class OpenAnswer:
 class ServiceConnection:
     """Sends requests to a service, or to the next one if it does not answer.
 
-    Any thread may send requests. Connections are kept for later requests.
+    It begins with a random one of several services, and stays there while that one answers. Any
+    thread may send requests. Connections are kept for later requests.
 
     Attributes:
         has_answered: Whether a service has answered.
@@ -82,6 +84,7 @@ class ServiceConnection:
                 "the token has an invalid character: a token consists of printable ASCII "
                 "characters. Copy it again"
             )
+        self._urls.rotate(random.randrange(len(self._urls)))  # many clients spread over them
         self._headers = {"Authorization": f"Bearer {token}"} if token else {}
         self._patience, self._stop = patience, stop
         self._lock = threading.Lock()
@@ -109,7 +112,7 @@ class ServiceConnection:
         A service may be restarting. One try takes at most `seconds` (default: the patience of this
         connection). Raises `ServiceRefused`.
         """
-        pause, within = FIRST_PAUSE, seconds or self._patience
+        pauses, within = doubling_pauses(FIRST_PAUSE, MAX_PAUSE), seconds or self._patience
         while True:
             url = self.url
             try:
@@ -133,8 +136,7 @@ class ServiceConnection:
                 logger.warning("%s does not answer: %s. Retrying", url, text)
             self._is_unreachable = True
             logger.info("%s: %s", path, text)
-            time.sleep(pause * random.uniform(0.5, 1.0))
-            pause = min(MAX_PAUSE, 2 * pause)
+            time.sleep(next(pauses) * random.uniform(0.5, 1.0))
 
     def try_once(self, path: str, body: dict[str, Any], seconds: float) -> bool:
         """Send a request once; return False if the service refuses it permanently."""
@@ -154,7 +156,7 @@ class ServiceConnection:
         The call gets the service's address and the remaining seconds. Raises `ServiceRefused`;
         `ServiceUnavailable` if no service answers in time; and `Closed` if the client was closed.
         """
-        until, pause = time.monotonic() + patience, FIRST_PAUSE
+        until, pauses = time.monotonic() + patience, doubling_pauses(FIRST_PAUSE, MAX_PAUSE)
         while not stop.is_set():
             url = self.url
             try:
@@ -168,14 +170,13 @@ class ServiceConnection:
             if stop.is_set():
                 break
             self.turn_from(url)
-            rest = pause * random.uniform(0.5, 1.0)
+            rest = next(pauses) * random.uniform(0.5, 1.0)
             if time.monotonic() + rest >= until:
                 raise ServiceUnavailable(
                     f"{url} does not answer within {patience:g} s: {error}. The request may have "
                     "been carried out. Repeat it"
                 ) from error
             stop.wait(rest)
-            pause = min(MAX_PAUSE, 2 * pause)
         raise Closed("the client is closed. Make another one")
 
     def ask(

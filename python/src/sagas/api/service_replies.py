@@ -18,13 +18,14 @@ from sagas.base.errors import (
     InvalidLabel,
     KeyConflict,
     NoSuchSaga,
+    NotRestartable,
     NotSerializable,
     SagasError,
     StepNotWaiting,
     TooLarge,
 )
 from sagas.base.events import Event
-from sagas.core.results import EndQueries
+from sagas.definition.saga_result import EndQueries
 from sagas.core.states import WAITS_FOR
 from sagas.definition.payloads import (
     BlobStore,
@@ -34,7 +35,7 @@ from sagas.definition.payloads import (
     check_blobs,
     checked,
 )
-from sagas.definition.task import FIXED, Fan
+from sagas.definition.step_location import FIXED, Fan
 
 ERRORS: dict[str, type[SagasError]] = {
     kind.__name__: kind
@@ -45,6 +46,7 @@ ERRORS: dict[str, type[SagasError]] = {
         InvalidLabel,
         KeyConflict,
         NoSuchSaga,
+        NotRestartable,
         NotSerializable,
         StepNotWaiting,
         TooLarge,
@@ -76,6 +78,8 @@ class ServiceSaga(EndQueries):
         plan: Its last plan, as in the HTTP API; None if nothing failed.
         waits: The attempts that wait, as in the HTTP API.
         progress: The last progress that running functions reported, as in the HTTP API.
+        optional_failures: The failed steps without which the saga continued.
+        version: The version of its definition, or None if the service does not report it.
     """
 
     key: str
@@ -94,6 +98,8 @@ class ServiceSaga(EndQueries):
     plan: dict[str, Any] | None
     waits: list[dict[str, Any]]
     progress: list[dict[str, Any]]
+    optional_failures: list[str] = dataclasses.field(default_factory=list)
+    version: int | None = None
 
     @property
     def over(self) -> bool:
@@ -107,8 +113,11 @@ class ServiceSaga(EndQueries):
 
     @property
     def cost(self) -> int | None:
-        """The cost of the last plan; None if there was none, or if no plan was feasible."""
-        return self.plan["cost"] if self.plan else None
+        """The cost of the last plan.
+
+        None if there was none, if no plan was feasible, or if the saga has a pivot.
+        """
+        return self.plan["cost"] if self.plan and not self.plan.get("pivot") else None
 
     @property
     def blocking_steps(self) -> list[str]:
@@ -130,6 +139,7 @@ class ServiceSummary:
         undo_failed: Whether it ended by a plan, and a compensation failed permanently.
         labels: Its labels.
         deadline: When it is aborted if it has not ended: wall time, in seconds since 1970, or None.
+        version: The version of its definition, or None if the service does not know it.
     """
 
     key: str
@@ -141,6 +151,7 @@ class ServiceSummary:
     undo_failed: bool
     labels: dict[str, str]
     deadline: float | None
+    version: int | None = None
 
 
 @dataclasses.dataclass(frozen=True, slots=True)
@@ -178,6 +189,8 @@ def waits_of(reply: Mapping[str, Any]) -> list[str]:
     return [
         f"{'the compensation of ' if wait['undo'] else ''}{wait['step']} waits for "
         f"{WAITS_FOR.get(wait['why'], wait['why'])}"
+        if wait["step"]
+        else str(wait["detail"])
         for wait in reply["waits"]
     ]
 

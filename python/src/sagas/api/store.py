@@ -4,36 +4,40 @@ from __future__ import annotations
 
 import asyncio
 import builtins
+import contextlib
 import datetime
 import functools
 import os
 import signal
-import time
-from collections.abc import Callable, Iterable, Mapping
+from collections.abc import Iterable, Mapping
 from types import TracebackType
 from typing import TYPE_CHECKING, Any
 
 from sagas.api.commands import Commands
 from sagas.api.claims import Deliveries, Workers
 from sagas.api.operators import Operators
+from sagas.api.settings import DEFAULTS, Settings
 from sagas.api.shared_calls import over_own_connection
 from sagas.api.store_access import SagaLookup, Starter, StoreAccess
 from sagas.base import program as program_module
-from sagas.base.errors import InvalidStore, WouldWaitForever
+from sagas.base.errors import Closed, InvalidStore, TemporaryError, WouldWaitForever
 from sagas.base.events import EventEmitter, Hook
 from sagas.base.logger import logger
 from sagas.core import history
-from sagas.core.batch import SagaRow
-from sagas.core.saga_instance import SagaInstance
-from sagas.core.results import HistoryEvent, SagaResult
+from sagas.core.decisions import request_fields
+from sagas.core.shard.batch import SagaRow
+from sagas.core.attempt.instance import SagaInstance
+from sagas.core.results import HistoryEvent
+from sagas.definition.saga_result import SagaResult
 from sagas.definition.payloads import Codec
-from sagas.definition import arguments, payloads, tracing
+from sagas.definition import arguments, call_options, payloads, serialization, tracing
 from sagas.definition.payloads import BlobStore, check_blobs
 from sagas.definition.compiled import CompiledDefinition
 from sagas.definition.labels import Labels
+from sagas.definition.parts import SagaParts
 from sagas.definition.saga import Saga
 from sagas.definition.registry import DefinitionRegistry
-from sagas.definition.start_options import Deadline, StartOptions
+from sagas.definition.start_options import Deadline, I, NO_INPUT, StartOptions
 from sagas.definition.call_options import Seconds
 from sagas.definition.step import Step
 from sagas.engine.plan import Plan
@@ -53,20 +57,19 @@ from sagas.storage import factory, store_name
 from sagas.storage.blob_layer import BlobDatabase
 from sagas.storage.schedules import Schedule, Schedules
 
+if TYPE_CHECKING:
+    from sagas.api.client_start import CallerStarter
+
 
 def open(
     path: str | os.PathLike[str],
-    sagas: Iterable[Saga],
+    sagas: Iterable[Saga[Any]],
     *,
     concurrency: int = 16,
     accept_new: bool = True,
-    engine_processes: int = 16,
     threads: int | None = None,
     shutdown_timeout: Seconds | None = None,
-    idle: Seconds = 5.0,
     on_event: Hook | None = None,
-    clock: Callable[[], float] = time.time,
-    program: str | None = None,
     node: str | None = None,
     lease: Seconds = 10.0,
     retention: datetime.timedelta | None = None,
@@ -76,6 +79,7 @@ def open(
     blobs: BlobStore | None = None,
     blob_threshold: int = 65_536,
     record: str | os.PathLike[str] | None = None,
+    settings: Settings = DEFAULTS,
 ) -> Store:
     """Open a store: `async with sagas.open("trips.db", [trip]) as store`.
 
@@ -90,15 +94,11 @@ def open(
         concurrency: Maximum number of functions that run at once (default: 16). Steps that wait for
             a time or for a decision take no slot.
         accept_new: Whether to start new sagas (default: True). If not, only open ones continue.
-        engine_processes: Maximum number of engine processes (default: 16).
         threads: Maximum number of plain functions that run at once (default: `concurrency`).
             Functions of definitions, such as `when` and `until`, have as many threads, at least 4.
         shutdown_timeout: Seconds, or a timedelta, after which closing cancels running functions
             (default: never).
-        idle: Seconds, or a timedelta, after which an idle engine process ends (default: 5).
         on_event: A plain function that is called in the event loop with each `Event`.
-        clock: A function that returns wall time, in seconds since 1970 (default: `time.time`).
-        program: Path of the program `sagas` (default: the one of the package).
         node: This node's name (default: of host and process). A node that restarts under its name
             gets its sagas back at once.
         lease: Seconds, or a timedelta, without a heartbeat of a node after which other nodes
@@ -115,6 +115,7 @@ def open(
         record: PostgreSQL only: a file to which the node adds the replies to its commits and its
             acknowledgements, for `sagas store URL record` (default: the one that the
             environment variable `SAGAS_RECORD` names, if any).
+        settings: For tests and tuning (default: `Settings()`).
 
     Returns:
         The store, to be entered.
@@ -152,7 +153,7 @@ class Store(Operators):
             it before opening. Then such a step starts when it is claimed.
         workers: The tasks for workers.
         deliveries: The deliveries for webhooks.
-        opened_with: The arguments of `sagas.open`, by name, for `sagas serve --app`.
+        opened_with: The arguments of `sagas.open`, by name, for `--app` of commands.
     """
 
     opened_with: Mapping[str, Any] = {}
@@ -160,17 +161,13 @@ class Store(Operators):
     def __init__(
         self,
         path: str | os.PathLike[str],
-        sagas: Iterable[Saga],
+        sagas: Iterable[Saga[Any]],
         *,
         concurrency: int,
         accept_new: bool,
-        engine_processes: int,
         threads: int | None,
         shutdown_timeout: Seconds | None,
-        idle: Seconds,
         on_event: Hook | None,
-        clock: Callable[[], float],
-        program: str | None,
         node: str | None,
         lease: Seconds,
         retention: datetime.timedelta | None,
@@ -180,16 +177,14 @@ class Store(Operators):
         blobs: BlobStore | None,
         blob_threshold: int,
         record: str | os.PathLike[str] | None,
+        settings: Settings,
     ) -> None:
         threads = concurrency if threads is None else threads
-        counts = {
-            "concurrency": concurrency,
-            "engine_processes": engine_processes,
-            "threads": threads,
-        }
+        counts = {"concurrency": concurrency, "threads": threads}
         for name, number in counts.items():
             arguments.count(name, number)
-        arguments.calls("clock", clock, "that returns seconds since 1970, like time.time")
+        if not isinstance(settings, Settings):
+            raise TypeError(f"settings={arguments.shown(settings)}: must be a sagas.Settings")
         if on_event is not None:
             arguments.calls("on_event", on_event, "that takes an Event")
         arguments.node(node)
@@ -201,7 +196,12 @@ class Store(Operators):
         self._blobs = blobs, blob_threshold
         self._record = arguments.record(record)
         self._registry = DefinitionRegistry(sagas, payloads.checked(codec, blobs is not None))
-        self._options = {**counts, "idle": arguments.time("idle", idle), "clock": clock}
+        self._options: dict[str, Any] = {
+            **counts,
+            "engine_processes": settings.engine_processes,
+            "idle": call_options.seconds(settings.idle),
+            "clock": settings.clock,
+        }
         self._tracer = tracing.tracer()
         self._options |= {"context": context, "tracer": self._tracer}
         self._shutdown_timeout = (
@@ -209,12 +209,14 @@ class Store(Operators):
             if shutdown_timeout is None
             else arguments.time("shutdown_timeout", shutdown_timeout)
         )
-        self._teller, self._program = EventEmitter(on_event, clock), program
-        access = StoreAccess("PostgreSQL" if store_name.is_url(self._name) else self._name)
+        self._teller = EventEmitter(on_event, settings.clock)
+        self._program = settings.program
+        access = StoreAccess(store_name.shown_name(self._name))
         super().__init__(access, self._name, self._registry, accept_new)
         self._requests: operator_commands.RequestExecutor | None = None
         self.workers = Workers(self._access)
         self.deliveries = Deliveries(self._access, self._registry)
+        self._caller_starter: CallerStarter | None = None
         self.leased = False
 
     @property
@@ -223,7 +225,7 @@ class Store(Operators):
         return self._access.path
 
     @property
-    def sagas(self) -> builtins.list[Saga]:
+    def sagas(self) -> builtins.list[Saga[Any]]:
         """The definitions that the store was opened with."""
         return [*self._registry.declared]
 
@@ -239,7 +241,9 @@ class Store(Operators):
             StoreLocked: Another program has the file open. Or a codec was given, and a node without
                 one has the database open.
             StoreUnavailable: The file or the server does not answer.
-            InvalidStore: It is not a store, or not one that this program can continue.
+            InvalidStore: It is not a store, or not one that this program can continue. Or the
+                folder or the database does not exist, or refuses this user.
+            ImportError: The store is a database, and its driver is not installed.
             MissingCodec: Its values are encoded, and no codec was given.
             MissingStep: An open saga needs a step that this program has no function for, or may
                 undo a completed child whose compensation this program does not have.
@@ -275,18 +279,23 @@ class Store(Operators):
             await coordinator.close(0.0)
             raise
         self._requests = operator_commands.RequestExecutor(
-            coordinator, self._commands, self._reports
+            coordinator, self._commands, self._reports, self._restarts
         )
         coordinator.listeners.append(self._requests.look)
         if self._starter.accepts_new:
             coordinator.listeners.append(StartReader(coordinator).look)
             scheduler = Scheduler(coordinator, self._start_scheduled, self._advance)
             coordinator.listeners.append(scheduler.look)
+            coordinator.pauses.listeners.append(scheduler.look)
             coordinator.spawn(scheduler.run())
         steps = [step for saga in self._registry.sagas.values() for step in saga.all_steps]
         if any(step.early_unused == "compensate" for step in steps):
             coordinator.sagas.on_unused_report = self._reports.look
             coordinator.spawn(self._reports.run())
+        coordinator.sagas.on_end_due = self._end_calls.look
+        with contextlib.suppress(TemporaryError):  # it is read again
+            await self._end_calls.read(coordinator)
+        coordinator.spawn(self._end_calls.run(coordinator))
         database.watch(coordinator)
         if isinstance(database, BlobDatabase):
             coordinator.spawn(retention_module.sweep_blobs(database))
@@ -397,13 +406,14 @@ class Store(Operators):
 
     async def start(
         self,
-        saga: Saga,
+        saga: Saga[I],
         key: str,
-        input: Any = None,
+        input: I = NO_INPUT,
         *,
         labels: Labels | None = None,
         deadline: Deadline | None = None,
         traceparent: str | None = None,
+        connection: object | None = None,
     ) -> Run:
         """Start a saga, or return the one with this key.
 
@@ -424,6 +434,11 @@ class Store(Operators):
                 function.
             traceparent: The W3C trace context that the saga is started in (default: of the current
                 span, if `opentelemetry-api` is installed). That of the first start of a key counts.
+            connection: A connection to the same PostgreSQL database, with an open transaction
+                (default: a connection of the store): a `psycopg.AsyncConnection`, a connection of
+                asyncpg, or SQLAlchemy's `AsyncConnection` or `AsyncSession`. The saga is written in
+                that transaction, and exists if and only if it commits. If this call raises, it
+                wrote nothing there.
 
         Returns:
             The saga. `Run.new` says whether this start created it.
@@ -433,21 +448,57 @@ class Store(Operators):
             StoreUnavailable: The saga could not be written: repeat the call.
             TooLarge: The saga has too many steps or needs for its input.
             InvalidKey: The key is not valid.
-            InvalidInput: The first steps cannot read the input.
+            InvalidInput: The input does not have a type that the saga or its functions name.
             InvalidLabel: A label is not valid.
-            TypeError: The deadline is not a time, or the trace context not a text.
-            ValueError: The deadline is negative, or the trace context is not valid.
+            StartsPaused: An operator has paused new sagas of the definition.
+            TypeError: The deadline is not a time, the trace context not a text, or the connection
+                of a kind that is not taken.
+            ValueError: The deadline is negative, or the trace context is not valid. Or the
+                connection has no open transaction, is to another database, or the store is a file.
             NotSerializable: The input is not JSON.
             DefinitionError: The store was not opened with the saga.
             Closed: The store is closed, or was opened with `accept_new=False`.
             RuntimeError: The call is made in another event loop.
         """
+        if connection is not None:
+            starter = self._starter_for_callers()
+            adapter = starter.take_async(connection, "Store.start")
+            request = starter.start_request(saga, key, input, labels, deadline, traceparent)
+            await self._check_caller_start(saga, input)
+            return Run(self, key, await starter.start(request, adapter))
         return await self._start(None, saga, key, input, labels, deadline, traceparent)
+
+    def _starter_for_callers(self) -> CallerStarter:
+        """Return what writes starts by connections of callers. It needs psycopg.
+
+        Raises `ValueError` if the store is a file, and `Closed`.
+        """
+        database = self._access.coordinator.store
+        if not database.supports_nodes:
+            raise ValueError(
+                f"{self.path}: nothing was written: connection= needs a store over PostgreSQL, and "
+                "this one is a SQLite file. Start the saga after your transaction, without it"
+            )
+        if self._caller_starter is None:
+            from sagas.api.client_start import CallerStarter
+
+            payloads = self._registry.payloads
+            self._caller_starter = CallerStarter(database.read, self.path, payloads)
+        return self._caller_starter
+
+    async def _check_caller_start(self, saga: Saga[Any], input: Any) -> None:
+        """Raise what a start without `connection=` raises for this saga and input."""
+        self._access.coordinator_here()
+        if not self._starter.accepts_new:
+            raise Closed(f"{self.path}: opened with accept_new=False, so it starts no new sagas")
+        if refusal := self._access.coordinator.pauses.refusal(saga.name):
+            raise refusal
+        await self._check_input(saga, serialization.write_value(input, "input"))
 
     async def _start(
         self,
         token: str | None,
-        saga: Saga,
+        saga: Saga[Any],
         key: str,
         input: Any,
         labels: Labels | None,
@@ -459,7 +510,67 @@ class Store(Operators):
         new = await self._starter.start(saga, key, input, labels, deadline, trace, token)
         return Run(self, key, new)
 
-    async def _check_input(self, saga: Saga, text: str) -> None:
+    async def restart(
+        self, key: str, new_key: str, *, by: str | None = None, note: str | None = None
+    ) -> Run:
+        """Start an ended saga again, under a new key.
+
+        The new saga has the input and the labels of the old one. Its definition is the one that the
+        program has today under the same name and version, with its own deadline. It has new
+        idempotency keys, so each of its effects is a new one. The old saga stays unchanged, and the
+        two refer to one another. The call is idempotent. When it returns, the new saga is durable.
+
+        Only a stuck, recovered or resolved saga is restarted. If a stuck saga has left effects,
+        repair them first, and resolve it.
+
+        Args:
+            key: The key of the old saga.
+            new_key: The key of the new saga, as for `start`.
+            by: The person or program that requests it. The store keeps it with `note` and the time.
+            note: The reason.
+
+        Returns:
+            The new saga. `Run.new` says whether this call created it.
+
+        Raises:
+            NotRestartable: The old saga is open, has completed, or is a child.
+            KeyConflict: The new key belongs to a saga that is not a restart of the old one.
+            DefinitionError: No program that has the store open has the definition.
+            InvalidInput: The functions of the present definition cannot read the input.
+            CannotDecode: The codec or the blob store cannot read the input.
+            NoSuchSaga: No saga has the key.
+            InvalidKey: The new key is not valid.
+            StoreUnavailable: The saga could not be written: repeat the call.
+            Closed: The store is closed, or was opened with `accept_new=False`.
+            RuntimeError: The call is made in another event loop.
+
+        Example:
+            >>> async def again():
+            ...     async with sagas.open("orders.db", [order]) as store:
+            ...         await (await store.start(order, "order-7", {"amount": 40})).wait()
+            ...         run = await store.restart("order-7", "order-7-2", note="back in stock")
+            ...         return await run.wait(timeout=60)
+            >>> print(asyncio.run(again()))
+            refund 40
+            refund 40
+            order order-7-2: recovered, plan of cost 4
+              undone    charge
+              failed    send: sagas.Fail: sold out
+        """
+        return await self._restart(None, key, new_key, by, note)
+
+    async def _restart(
+        self, token: str | None, key: str, new_key: str, by: str | None, note: str | None
+    ) -> Run:
+        """Restart a saga. `token` is the name of a service's token, or None."""
+        clock = self._access.coordinator_here().clock
+        trace = tracing.of_start(self._tracer, None)
+        value = serialization.write({**request_fields(by, note), "new_key": new_key})
+        command = key, "restart", value, clock()
+        new = await self._restarts.restart(key, new_key, command, None, trace, token)
+        return Run(self, new_key, new)
+
+    async def _check_input(self, saga: Saga[Any], text: str) -> None:
         fitted = await self._coordinator.declared.fit(self._registry, saga, text)
         if fitted.wrong:
             raise fitted.wrong
@@ -521,7 +632,7 @@ class Store(Operators):
         """
         return await self._lookup.waits_for(key)
 
-    async def over(self, key: str) -> SagaInstance | SagaRow:
+    async def _over(self, key: str) -> SagaInstance | SagaRow:
         """Wait until a saga has ended, for callers that read its row. See `Store.wait`."""
         return await self._lookup.over(key)
 
@@ -593,7 +704,7 @@ class ChildOperations:
         self._starter, self._commands = starter, commands
 
     async def start(
-        self, saga: Saga | CompiledDefinition, key: str, input: Any, options: StartOptions
+        self, saga: SagaParts | CompiledDefinition, key: str, input: Any, options: StartOptions
     ) -> bool:
         """Start a child; return False if the key is used."""
         return await self._starter.start_child(saga, key, input, options)

@@ -8,36 +8,44 @@ import contextlib
 import dataclasses
 import functools
 from collections.abc import Awaitable, Callable, Coroutine
-from typing import Any, TypeVar
+from typing import Any, TypeGuard, TypeVar
 
 from sagas.base.errors import (
+    CannotDecode,
     Closed,
     KeyConflict,
     NoSuchSaga,
     SagaMoved,
     SagasError,
+    StartsPaused,
     StoreUnavailable,
 )
 from sagas.base.fork_guard import OpenState, private_descriptors
-from sagas.core import history, waits as waits_module
-from sagas.core.batch import SagaRow
-from sagas.core.key_lookup import KeyLookupPolicy
-from sagas.core.saga_instance import SagaInstance
-from sagas.core.waits import timeout_error
-from sagas.core.results import SagaResult
-from sagas.definition import arguments, children, serialization, start_options, undo_sagas
+from sagas.core import history
+from sagas.core.attempt import waits as waits_module
+from sagas.core.shard.batch import NewStart, SagaRow
+from sagas.core.attempt.instance import SagaInstance
+from sagas.core.attempt.waits import timeout_error
+from sagas.definition.saga_result import SagaResult
+from sagas.definition import arguments, child_sagas, serialization, start_options, undo_sagas
 from sagas.definition.compiled import CompiledDefinition
-from sagas.definition.labels import Labels, checked, with_token
+from sagas.definition.definition_text import digest_of
+from sagas.definition.erasure import erasure_of
+from sagas.definition.labels import RESTART, Labels, checked, restart_value, with_token
 from sagas.definition.payloads import ABSENT
-from sagas.definition.saga import Saga
+from sagas.definition.parts import SagaParts
+from sagas.definition.saga import Saga, declared_text
 from sagas.definition.registry import DefinitionRegistry, Fitted
 from sagas.definition.start_options import Deadline, StartOptions, deadline_at
 from sagas.runtime import instances, invocation, stored_values
 from sagas.runtime.coordinator import Coordinator
+from sagas.storage.queries import NO_NODE_OF
 
 T = TypeVar("T")
 SOON = 2.0
 """Seconds to find out what a saga waits for."""
+LOOKUPS_AFTER_TAKEN_KEY = 1000
+"""After a start with a taken key: the number of starts with new keys until a lookup is skipped."""
 StartWork = Coroutine[Any, Any, bool]
 """Whether a start created the saga. Await it at once: its key is taken already."""
 
@@ -110,6 +118,31 @@ async def in_time(
     raise timeout_error(key, timeout, waited_for)
 
 
+class KeyLookupPolicy:
+    """Decide when a start may skip the lookup of its key.
+
+    If the key turns out to be taken, the shard needs a new engine process, for which all its sagas
+    wait. So after a start with a taken key, lookups are required for a while.
+
+    Over PostgreSQL a start without a lookup saves a round trip. Over a file it gains nothing:
+    measured on 2026-11-28, in instructions a saga of three steps, 0 % for 1 and for 256 at a time.
+    """
+
+    def __init__(self) -> None:
+        self._looks = 0
+
+    def may_skip_lookup(self) -> bool:
+        """Whether the next start may skip the lookup, because recent keys were new."""
+        return not self._looks
+
+    def record_start(self, was_there: bool) -> None:
+        """Record whether the key of a start was taken."""
+        if was_there:
+            self._looks = LOOKUPS_AFTER_TAKEN_KEY
+        elif self._looks:
+            self._looks -= 1
+
+
 class SagaLookup:
     """Finds sagas by their keys, and waits for their ends."""
 
@@ -156,6 +189,14 @@ class SagaLookup:
             )
         return row
 
+    async def row_with_end(self, key: str, of: int | None = None) -> SagaRow:
+        """Return the row of a saga, with its end if it has ended here. See `row`."""
+        live = await self.live(key)
+        if live is not None and live.over:
+            with contextlib.suppress(SagaMoved):
+                await self._access.coordinator.sagas.ends.wait(live)
+        return await self.row(key, of)
+
     def wait(self, key: str, timeout: float | None) -> Coroutine[Any, Any, SagaResult]:
         """Wait until a saga has ended, for at most `timeout` seconds."""
         if timeout is not None:
@@ -185,6 +226,15 @@ class SagaLookup:
         return await stored_values.until_answered(functools.partial(self._end_of, over))
 
     async def _end_of(self, row: SagaRow) -> SagaResult:
+        try:
+            return await self._result_of(row)
+        except CannotDecode:  # its large values may have been erased since its row was read
+            now = await self.row(row.key, row.id)
+            if erasure_of(now.input) is None:
+                raise
+            return await self._result_of(now)
+
+    async def _result_of(self, row: SagaRow) -> SagaResult:
         coordinator = self._access.coordinator
         known = await coordinator.store.known(row)
         kind = coordinator.registry.kind(known.definition)
@@ -231,10 +281,22 @@ class SagaLookup:
 
         The list is empty for a saga that another node executes.
         """
-        live = self._access.coordinator.sagas.by_key.get(key)
-        if live is None and (row := await self._access.coordinator.store.find(key)) and row.id < 0:
-            return [waits_module.NO_NODE_YET]
+        coordinator = self._access.coordinator
+        live = coordinator.sagas.by_key.get(key)
+        if live is None and (row := await coordinator.store.find(key)):
+            if row.id < 0:
+                return [waits_module.NO_NODE_YET]
+            return [str(detail) for (detail,) in await coordinator.store.read(NO_NODE_OF, row.id)]
         return waits_module.live_waits(live)
+
+
+def may_leave(saga: SagaParts | CompiledDefinition, options: StartOptions) -> TypeGuard[SagaParts]:
+    """Return whether another node may start a saga.
+
+    A child starts with its parent. The link of a restart is known only once its saga is open.
+    """
+    is_linked = options.parent is not None or RESTART in options.labels
+    return not isinstance(saga, CompiledDefinition) and not is_linked
 
 
 class Starter:
@@ -252,17 +314,19 @@ class Starter:
 
     def start(
         self,
-        saga: Saga,
+        saga: Saga[Any],
         key: str,
         input: Any,
         labels: Labels | None,
         deadline: Deadline | None,
         traceparent: str | None = None,
         token: str | None = None,
+        restarts: tuple[int, str] | None = None,
     ) -> StartWork:
         """Start a saga; return whether this start created it.
 
-        `token` is the name of a service's token.
+        `token` is the name of a service's token, and `restarts` the id and key of the saga that
+        this one restarts.
         """
         coordinator = self._access.coordinator_here()
         arguments.key(key)
@@ -270,23 +334,27 @@ class Starter:
         text = serialization.write_value(input, "input")
         fitted = self._registry.fit(saga, text)
         if saga.has_children:
-            children.check_key(key, saga)
+            child_sagas.check_key(key, saga)
         options = start_options.NONE
         if deadline is None:
             deadline = saga.deadline
-        options_given = (labels, deadline, traceparent, token)
+        options_given = (labels, deadline, traceparent, token, restarts)
         if any(option is not None for option in options_given):
             deadline_time, saga_labels = deadline_at(deadline, coordinator.clock()), checked(labels)
             saga_labels = (
                 saga_labels if token is None else with_token(saga_labels, token, len(text))
             )
+            if restarts is not None:
+                saga_labels = {**saga_labels, RESTART: restart_value(*restarts)}
             options = StartOptions(saga_labels, deadline_time, None, None, traceparent)
+        refusal = coordinator.pauses.refusal(saga.name)
         if fitted is None:
-            return self._shape(coordinator, saga, key, text, options, self.accepts_new)
+            return self._shape(coordinator, saga, key, text, options, self.accepts_new, refusal)
+        fitted = fitted if refusal is None else fitted._replace(wrong=refusal)
         return self._start(coordinator, saga, fitted, key, text, options, self.accepts_new)
 
     def start_child(
-        self, saga: Saga | CompiledDefinition, key: str, input: Any, options: StartOptions
+        self, saga: SagaParts | CompiledDefinition, key: str, input: Any, options: StartOptions
     ) -> StartWork:
         """Start a child, also if the store accepts no new sagas: its parent is not new.
 
@@ -309,24 +377,26 @@ class Starter:
     async def _shape(
         self,
         coordinator: Coordinator,
-        saga: Saga,
+        saga: SagaParts,
         key: str,
         text: str,
         options: StartOptions,
         accepts: bool,
+        refusal: StartsPaused | None = None,
     ) -> bool:
         """Start a saga whose steps come from its input, after computing the steps.
 
-        Its key is not taken before that.
+        Its key is not taken before that. `refusal`: why a new saga is refused.
         """
         fitted = await coordinator.declared.fit(self._registry, saga, text)
+        fitted = fitted if refusal is None else fitted._replace(wrong=refusal)
         self._access.coordinator_here()  # it may be closed by now
         return await self._start(coordinator, saga, fitted, key, text, options, accepts)
 
     def _start(
         self,
         coordinator: Coordinator,
-        saga: Saga | CompiledDefinition,
+        saga: SagaParts | CompiledDefinition,
         fitted: Fitted,
         key: str,
         text: str,
@@ -338,6 +408,8 @@ class Starter:
             options = dataclasses.replace(options, shape=shape)
         text = self._registry.payloads.encode(text)
         is_new = invalid is None and accepts and key not in coordinator.sagas.by_key
+        if coordinator.shards.relocation.moves.is_drained:
+            is_new = False  # another node may start it
         if is_new and self._lookup.guessing.may_skip_lookup():  # judging by the last starts
             assert kind
             new = coordinator.sagas.add(key, text, kind, options)
@@ -347,7 +419,7 @@ class Starter:
     async def _start_looked_up(
         self,
         coordinator: Coordinator,
-        saga: Saga | CompiledDefinition,
+        saga: SagaParts | CompiledDefinition,
         fitted: Fitted,
         key: str,
         text: str,
@@ -362,7 +434,7 @@ class Starter:
         if live is not None and live.has_unchecked_key:
             live = await lookup.live(key)
         # otherwise its key is looked up with others, when it is assigned to a shard
-        looks = coordinator.store.shared or not is_sound
+        looks = not coordinator.store.answers_at_once or not is_sound
         row = await lookup.find(key) if looks and live is None else None
         live = coordinator.sagas.by_key.get(key)  # another start may have arrived
         stored = (live.kind.name, live.text) if live else (row.saga, row.input) if row else None
@@ -373,7 +445,7 @@ class Starter:
             error = await instances.conflict_with_stored(
                 store, key, kind_or_saga, text, *stored, payloads
             )
-            if error and live and not live.committed and not coordinator.store.shared:
+            if error and live and not live.committed and coordinator.store.answers_at_once:
                 # that start may have no right to the key either
                 row = await coordinator.store.find(key)
                 if row:
@@ -392,6 +464,12 @@ class Starter:
             raise invalid
         else:
             assert kind
+            if coordinator.shards.relocation.moves.is_drained and may_leave(saga, options):
+                if await self._is_left(saga, kind, key, text, options):
+                    return True
+                if await lookup.find(key) is not None:  # another start was first
+                    again = coordinator, saga, fitted, key, text, options, accepts
+                    return await self._start_looked_up(*again)
             new = coordinator.sagas.add(key, text, kind, options)
             return await self._begin(coordinator, new, guessed=False)
         if live and not live.committed:
@@ -400,9 +478,43 @@ class Starter:
             await coordinator.store.replicated()
         return False
 
+    async def _is_left(
+        self,
+        saga: SagaParts,
+        kind: CompiledDefinition,
+        key: str,
+        text: str,
+        options: StartOptions,
+    ) -> bool:
+        """Leave a start to another node, because this one is drained; return whether that was done.
+
+        Another start may have been first, or no other node has the definition.
+        """
+        store = self._access.coordinator.store
+        declared = declared_text(saga) if saga.is_shaped else kind.text
+        start = NewStart(
+            key,
+            saga.name,
+            saga.version,
+            digest_of(declared),
+            text,
+            dict(options.labels),
+            options.deadline,
+            options.traceparent,
+        )
+        if not await store.leave_start(start):
+            return False
+        turn = 0
+        with contextlib.suppress(TimeoutError, StoreUnavailable):  # it is durable
+            async with asyncio.timeout(SOON):
+                while (row := await store.find(key)) is not None and row.id < 0:
+                    await store.wait_for_end(row.id, turn)
+                    turn += 1
+        return True
+
     async def _begin(self, coordinator: Coordinator, live: SagaInstance, guessed: bool) -> bool:
         """Start a saga whose key seems to be free; return False if another node was first."""
-        live.guessed = guessed
+        live.has_unchecked_key = guessed
         # before it is assigned, since it may be stored or refused at once
         stored = coordinator.sagas.started(live)
         coordinator.shards.assign(live)

@@ -6,17 +6,14 @@ import os
 from types import TracebackType
 from typing import TYPE_CHECKING, Any
 
-import psycopg
-
 from sagas.api import client_start
 from sagas.api.client import Client, ClientRun
 from sagas.api.loop_thread import Facade, Loop, blocking
-from sagas.core.results import SagaResult
+from sagas.definition.saga_result import SagaResult
 from sagas.definition.payloads import BlobStore, Codec
 from sagas.definition.labels import Labels
 from sagas.definition.saga import Saga
-from sagas.definition.start_options import Deadline
-from sagas.storage.postgresql import caller_connection
+from sagas.definition.start_options import Deadline, I, NO_INPUT
 
 
 class SyncClientRun(Facade[ClientRun]):
@@ -111,34 +108,45 @@ class SyncClient(Facade[Client]):
 
     def start(
         self,
-        saga: Saga,
+        saga: Saga[I],
         key: str,
-        input: Any = None,
+        input: I = NO_INPUT,
         *,
         labels: Labels | None = None,
         deadline: Deadline | None = None,
         traceparent: str | None = None,
-        connection: psycopg.Connection[Any] | None = None,
+        connection: object | None = None,
     ) -> SyncClientRun:
         """Start a saga, or return the one with this key. See `Client.start`.
 
         Args:
-            connection: A `psycopg.Connection`, which is used in this thread.
+            connection: A connection to the same database, with an open transaction: a
+                `psycopg.Connection`, a connection of psycopg2, SQLAlchemy's `Connection` or
+                `Session`, or Django's `connection`. It is used in this thread.
 
         Raises:
-            TypeError: The connection is not a `psycopg.Connection`.
+            ValueError: The connection has no open transaction, or is to another database.
+            TypeError: The connection is of another kind, for example one of an event loop.
         """
         if connection is None:
             options: dict[str, Any] = {"deadline": deadline, "traceparent": traceparent}
             start = self._inner.start(saga, key, input, labels=labels, **options)
             return SyncClientRun(self, self._loop.do(start))
-        caller_connection.check_kind(connection, plain=True)
         starter = self._inner._starter
+        adapter = starter.take_blocking(connection, "sagas.SyncClient")
         request = starter.start_request(saga, key, input, labels, deadline, traceparent)
         if (check := client_start.shape_check(saga, input)) is not None:
             check()
-        new = starter.start_now(request, connection, self._loop.do)
+        new = starter.start_now(request, adapter, self._loop.do)
         return SyncClientRun(self, ClientRun(self._inner, key, request, new))
+
+    def restart(
+        self, key: str, new_key: str, *, by: str | None = None, note: str | None = None
+    ) -> SyncClientRun:
+        """Start an ended saga again, under a new key. See `Client.restart`."""
+        return SyncClientRun(
+            self, self._loop.do(self._inner.restart(key, new_key, by=by, note=note))
+        )
 
     def get(self, key: str) -> SyncClientRun | None:
         """Return the saga with this key, or None. See `Client.get`."""
@@ -155,11 +163,23 @@ class SyncClient(Facade[Client]):
     complete = blocking(Client.complete)
     retry = blocking(Client.retry)
     fail = blocking(Client.fail)
+    compensate = blocking(Client.compensate)
     resolve = blocking(Client.resolve)
+    retry_all = blocking(Client.retry_all)
+    complete_all = blocking(Client.complete_all)
+    fail_all = blocking(Client.fail_all)
     abort_all = blocking(Client.abort_all)
     resolve_all = blocking(Client.resolve_all)
     schedule = blocking(Client.schedule)
     schedules = blocking(Client.schedules)
+    erase = blocking(Client.erase)
+    pause = blocking(Client.pause)
+    resume = blocking(Client.resume)
+    pauses = blocking(Client.pauses)
+    nodes = blocking(Client.nodes)
+    drain = blocking(Client.drain)
+    undrain = blocking(Client.undrain)
+    decisions = blocking(Client.decisions)
     pause_schedule = blocking(Client.pause_schedule)
     resume_schedule = blocking(Client.resume_schedule)
     remove_schedule = blocking(Client.remove_schedule)
@@ -169,3 +189,4 @@ class SyncClient(Facade[Client]):
     attention = blocking(Client.attention)
     plan = blocking(Client.plan)
     log = blocking(Client.log)
+    waits_for = blocking(Client.waits_for)

@@ -3,22 +3,23 @@
 from __future__ import annotations
 
 import asyncio
+import builtins
 import functools
 import inspect
 import signal
 import threading
-from collections.abc import Callable
+from collections.abc import Callable, Mapping
 from types import TracebackType
 from typing import TYPE_CHECKING, Any, ParamSpec
 
 from sagas.api.loop_thread import Facade, Loop, blocking, blocking_plain
 from sagas.api.store import Run, Store, open
 from sagas.base.errors import InvalidStore
-from sagas.core.results import SagaResult
+from sagas.definition.saga_result import SagaResult
 from sagas.definition.labels import Labels
 from sagas.definition.payloads import Codec
 from sagas.definition.saga import Saga
-from sagas.definition.start_options import Deadline
+from sagas.definition.start_options import Deadline, I, NO_INPUT
 from sagas.definition.call_options import Seconds
 
 P = ParamSpec("P")
@@ -60,6 +61,21 @@ class SyncStore(Facade[Store]):
     def __init__(self, store: Store) -> None:
         remedy = "is not open, or was closed. Use `with sagas.open_sync(...) as store`"
         super().__init__(store, Loop(store.path, "the store", remedy))
+
+    @property
+    def path(self) -> str:
+        """The file of the store, or its database without the password."""
+        return self._inner.path
+
+    @property
+    def sagas(self) -> builtins.list[Saga[Any]]:
+        """The definitions that the store was opened with."""
+        return self._inner.sagas
+
+    @property
+    def opened_with(self) -> Mapping[str, Any]:
+        """The arguments of `sagas.open_sync`, by name, for `--app` of commands."""
+        return self._inner.opened_with
 
     @property
     def codec(self) -> Codec | None:
@@ -136,15 +152,19 @@ class SyncStore(Facade[Store]):
 
     def start(
         self,
-        saga: Saga,
+        saga: Saga[I],
         key: str,
-        input: Any = None,
+        input: I = NO_INPUT,
         *,
         labels: Labels | None = None,
         deadline: Deadline | None = None,
         traceparent: str | None = None,
+        connection: object | None = None,
     ) -> SyncRun:
         """Start a saga, or return the one with this key. See `Store.start`.
+
+        Args:
+            connection: As for `SyncClient.start`, if the store is over PostgreSQL.
 
         Example:
             >>> with sagas.open_sync("orders.db", [order]) as store:
@@ -156,12 +176,25 @@ class SyncStore(Facade[Store]):
             >>> first.new, again.new
             (True, False)
         """
+        if connection is not None:
+            starter = self._inner._starter_for_callers()
+            adapter = starter.take_blocking(connection, "SyncStore.start")
+            request = starter.start_request(saga, key, input, labels, deadline, traceparent)
+            self._loop.do(self._inner._check_caller_start(saga, input))
+            new = starter.start_now(request, adapter, self._loop.do)
+            return SyncRun(self, Run(self._inner, key, new))
         options: dict[str, Any] = {
             "labels": labels,
             "deadline": deadline,
             "traceparent": traceparent,
         }
         return SyncRun(self, self._loop.do(self._inner.start(saga, key, input, **options)))
+
+    def restart(
+        self, key: str, new_key: str, *, by: str | None = None, note: str | None = None
+    ) -> SyncRun:
+        """Start an ended saga again, under a new key. See `Store.restart`."""
+        return SyncRun(self, self._loop.do(self._inner.restart(key, new_key, by=by, note=note)))
 
     def get(self, key: str) -> SyncRun | None:
         """Return the saga with this key, or None. See `Store.get`."""
@@ -203,20 +236,27 @@ class SyncStore(Facade[Store]):
     fail_all = blocking(Store.fail_all)
     fail = blocking(Store.fail)
     compensate = blocking(Store.compensate)
+    waits_for = blocking(Store.waits_for)
     resolve = blocking(Store.resolve)
     abort_all = blocking(Store.abort_all)
     resolve_all = blocking(Store.resolve_all)
     schedule = blocking(Store.schedule)
     schedules = blocking(Store.schedules)
+    erase = blocking(Store.erase)
+    pause = blocking(Store.pause)
+    resume = blocking(Store.resume)
+    pauses = blocking(Store.pauses)
+    nodes = blocking(Store.nodes)
+    drain = blocking(Store.drain)
+    undrain = blocking(Store.undrain)
+    decisions = blocking(Store.decisions)
     pause_schedule = blocking(Store.pause_schedule)
     resume_schedule = blocking(Store.resume_schedule)
     remove_schedule = blocking(Store.remove_schedule)
     list = blocking(Store.list)
     count = blocking(Store.count)
     definitions = blocking(Store.definitions)
-    stuck = blocking(Store.stuck)
     attention = blocking(Store.attention)
-    unknown = blocking(Store.unknown)
     active_attempts = blocking_plain(Store.active_attempts)
     log = blocking(Store.log)
     plan = blocking(Store.plan)

@@ -18,32 +18,40 @@ from __future__ import annotations
 import asyncio
 import contextlib
 import dataclasses
+import enum
 import inspect
 import itertools
 import json
 import logging
 import os
+import queue
+import signal
 import socket
 import threading
 import time
 from collections import deque
 from collections.abc import Callable, Coroutine, Iterator, Sequence
-from typing import Any
+from typing import Any, TypeVar
 
 from sagas.api.service_connection import REPEAT, ServiceConnection, ServiceRefused, is_final
 from sagas.base.errors import DefinitionError, NotSerializable
 from sagas.core import outcomes
 from sagas.core.states import OutcomeKind
 from sagas.definition import step as step_module
-from sagas.definition import awaitables, serialization, task_data, tracing
+from sagas.definition import awaitables, end_calls, serialization, task_data, tracing
 from sagas.definition.arguments import shown
+from sagas.definition.definition_text import end_name_of
+from sagas.definition.end_calls import EndTask
 from sagas.definition.task_data import Context, TaskSnapshot
-from sagas.definition.task import RemoteStepLocation, Task
-from sagas.definition.call_options import UNKNOWN, Unknowns
+from sagas.definition.step_location import RemoteStepLocation
+from sagas.definition.task import Task
+from sagas.definition.call_options import Exceptions
 from sagas.definition.tracing import Tracer
 
 logger = logging.getLogger("sagas.worker")
 Function = Callable[[Task[Any]], Any]
+EndFunction = Callable[[EndTask[Any]], Any]
+F = TypeVar("F", bound=Callable[[Any], Any])
 AHEAD, MAX_AHEAD = 0.1, 10
 """One request claims as many tasks as were recently done in `AHEAD` seconds, but at most
 `MAX_AHEAD`.
@@ -65,6 +73,14 @@ KINDS = {
 """The outcome that the verb of a report means."""
 
 
+class LifeEvent(enum.Enum):
+    """What the thread that runs a worker waits for."""
+
+    THREAD_ENDED = "thread ended"
+    STOPPED = "stopped"
+    SIGNAL = "signal"
+
+
 class Worker:
     """Execute steps for a service: claim tasks, call functions, report outcomes.
 
@@ -78,6 +94,7 @@ class Worker:
         lease: Seconds after which another worker may have the task of a worker that is gone.
         wait: Seconds that one request for tasks waits at the service.
         name: The worker's name, for people.
+        shutdown_timeout: Seconds that running functions have after a stop.
     """
 
     def __init__(
@@ -90,12 +107,13 @@ class Worker:
         wait: float = 20.0,
         name: str | None = None,
         context: Any = None,
+        shutdown_timeout: float | None = 20.0,
     ) -> None:
         """Make a worker; `run` starts it.
 
         Args:
-            url: The service, or several services over one database: if one does not answer, the
-                worker asks the next one.
+            url: The service, or several services over one database. The worker begins with a
+                random one. If one does not answer, it asks the next one.
             token: The worker's token (default: None).
             concurrency: Maximum number of tasks that run at once (default: 4).
             lease: Seconds after which another worker may have the task of a worker that is gone
@@ -104,15 +122,19 @@ class Worker:
             name: The worker's name, for people (default: from host and process).
             context: What functions get as `task.context` (default: none): an object; or a function
                 that returns a plain context manager, which `run` enters and leaves.
+            shutdown_timeout: Seconds that running functions have after a stop (default: 20). None:
+                no limit.
 
         Raises:
             ValueError: The URL is not the address of a service.
         """
         self.concurrency, self.lease, self.wait = concurrency, lease, wait
+        self.shutdown_timeout = shutdown_timeout
         self.name = (name or f"{socket.gethostname()}-{os.getpid()}")[:64]
         self._context_source, self._context = context, Context(NO_CONTEXT)
         self._tracer = tracing.tracer()
         self._stop = threading.Event()
+        self._life: queue.SimpleQueue[LifeEvent] = queue.SimpleQueue()
         self._service = ServiceConnection(url, token, wait + 40.0, self._stop)
         self._steps: dict[str, WorkerStep] = {}
         self._ahead: deque[HeldTask] = deque()  # claimed, and not started
@@ -131,7 +153,7 @@ class Worker:
     # -- what it can do
 
     def step(
-        self, saga: str, step: str, *, unknown: Unknowns = UNKNOWN, cancel_on_abort: bool = False
+        self, saga: str, step: str, *, no_effect: Exceptions = (), cancel_on_abort: bool = False
     ) -> Callable[[Function], Function]:
         """Declare the function that performs a step, by `@worker.step(saga, step)`.
 
@@ -140,8 +162,8 @@ class Worker:
         Args:
             saga: The saga's name.
             step: The step's name.
-            unknown: Exceptions after which the outcome is unknown (default: `(TimeoutError,
-                ConnectionError)`).
+            no_effect: Exceptions that mean that there was no effect now, as `Retry` does (default:
+                none).
             cancel_on_abort: Whether an abort raises `asyncio.CancelledError` in the async function
                 (default: False). The worker learns of an abort by its next heartbeat, within a
                 third of `lease`.
@@ -150,21 +172,43 @@ class Worker:
             DefinitionError: The step has a function already, or `cancel_on_abort` is set for a
                 plain function.
         """
-        return self._declare(f"{saga}/{step}", unknown, cancel_on_abort)
+        return self._declare(f"{saga}/{step}", no_effect, cancel_on_abort)
 
     def compensation(
-        self, saga: str, step: str, *, unknown: Unknowns = UNKNOWN
+        self, saga: str, step: str, *, no_effect: Exceptions = ()
     ) -> Callable[[Function], Function]:
         """Declare the function that undoes a step. See `Worker.step`.
 
         Its task has the step's result as `task.result`.
         """
-        return self._declare(f"{saga}/{step}/undo", unknown)
+        return self._declare(f"{saga}/{step}/undo", no_effect)
+
+    def on_end(
+        self, saga: str, *, no_effect: Exceptions = ()
+    ) -> Callable[[EndFunction], EndFunction]:
+        """Declare the function to call after each end of a saga. See `Saga.on_end`.
+
+        The service declares `on_end(external=True)`, or `[on_end]` in `NAME.service.toml`. The
+        function gets an `EndTask`.
+
+        Args:
+            saga: The saga's name.
+            no_effect: As of `Worker.step`.
+
+        Raises:
+            DefinitionError: There is such a function already.
+        """
+        name = f"{end_name_of(saga)}/{end_calls.STEP}"
+        return self._declare(name, no_effect, task_of=end_calls.end_task)
 
     def _declare(
-        self, step: str, unknown: Unknowns, cancel_on_abort: bool = False
-    ) -> Callable[[Function], Function]:
-        def declare(function: Function) -> Function:
+        self,
+        step: str,
+        no_effect: Exceptions,
+        cancel_on_abort: bool = False,
+        task_of: Callable[[Task[Any]], Task[Any]] | None = None,
+    ) -> Callable[[F], F]:
+        def declare(function: F) -> F:
             if cancel_on_abort and not inspect.iscoroutinefunction(function):
                 raise DefinitionError(
                     f"{step}: cancel_on_abort needs an async function. In a plain function, check "
@@ -179,7 +223,7 @@ class Worker:
                 raise DefinitionError(
                     f"{step} is declared twice, at {locations}. Remove one of them"
                 )
-            self._steps[step] = WorkerStep(function, unknown, cancel_on_abort)
+            self._steps[step] = WorkerStep(function, no_effect, cancel_on_abort, task_of)
             return function
 
         return declare
@@ -187,9 +231,15 @@ class Worker:
     # -- life
 
     def run(self) -> None:
-        """Work until `stop` is called, by another thread or a signal's handler.
+        """Work until SIGTERM, Ctrl-C or `stop`.
 
-        Ctrl-C stops it too: running functions end and are reported. A second Ctrl-C is raised.
+        Another thread calls `stop`, or a signal's handler. Running functions then have
+        `shutdown_timeout` seconds to end, and are reported. Tasks of functions that are still
+        running are released: another worker gets them, with the same idempotency key. A second
+        SIGTERM releases them at once, and a second Ctrl-C is raised.
+
+        SIGTERM is handled if the call is made in the main thread and the program has no handler of
+        its own. So it also ends a worker that is process 1 of a container.
 
         Raises:
             ServiceRefused: The service refuses the worker, for example its token.
@@ -212,25 +262,85 @@ class Worker:
             threading.Thread(target=self._live, args=(work,), name=name, daemon=True)
             for name, work in works.items()
         ]
+        with self._signals():
+            try:
+                for thread in threads:
+                    thread.start()
+                left = self._ended(len(threads))
+                if left:
+                    self._release_running()
+            finally:
+                self._service.close_idle()
+
+    @contextlib.contextmanager
+    def _signals(self) -> Iterator[None]:
+        """Handle SIGTERM, if this is the main thread and the program does not."""
+        is_main = threading.current_thread() is threading.main_thread()
+        if not is_main or signal.getsignal(signal.SIGTERM) is not signal.SIG_DFL:
+            yield
+            return
+        signal.signal(signal.SIGTERM, lambda *_: self._life.put(LifeEvent.SIGNAL))
         try:
-            for thread in threads:
-                thread.start()
-            for thread in threads:
-                while thread.is_alive():
-                    thread.join(0.2)  # so that a signal is handled
-        except KeyboardInterrupt:
-            self.stop()
-            with self._condition:
-                self._condition.wait_for(lambda: not self._busy and not self._ahead)
+            yield
         finally:
-            self._service.close_idle()
+            signal.signal(signal.SIGTERM, signal.SIG_DFL)
+
+    def _ended(self, running: int) -> int:
+        """Wait until the threads have ended, or the time after a stop is over.
+
+        Returns how many threads are still running. A handler of a signal may only put into the
+        queue: a lock could be held by the code that it interrupts.
+        """
+        until: float | None = None
+        while running:
+            try:
+                left = None if until is None else max(0.0, until - time.monotonic())
+                event = self._life.get(timeout=left)
+            except queue.Empty:
+                return running
+            except KeyboardInterrupt:
+                if self._stop.is_set():
+                    raise
+                self.stop()
+                continue
+            if event is LifeEvent.THREAD_ENDED:
+                running -= 1
+            elif event is LifeEvent.STOPPED:
+                if until is None and self.shutdown_timeout is not None:
+                    until = time.monotonic() + self.shutdown_timeout
+            elif self._stop.is_set():
+                return running
+            else:
+                logger.info("SIGTERM: the worker stops")
+                self.stop()
+        return 0
+
+    def _release_running(self) -> None:
+        """Release the tasks of functions that run on after a stop.
+
+        If the service does not receive that, the leases expire.
+        """
+        with self._condition:
+            held = [task for task in self._held if not task.is_lost]
+        for task in held:
+            task.is_lost = True  # its lease is not renewed any more
+        for task in held:
+            logger.warning(
+                "%s: its function is still running, so its task is released", task.attempt_id
+            )
+            self._renew(task, LOOK)
+            task.task.cancelled.set("lost")
+            if task.is_unanswered:
+                return
 
     def stop(self) -> None:
         """Claim nothing more; running functions end and are reported.
 
-        Tasks that have not started are released.
+        Tasks that have not started are released. After `shutdown_timeout` seconds, tasks of
+        functions that are still running are released, too.
         """
         self._stop.set()
+        self._life.put(LifeEvent.STOPPED)
 
     def _live(self, work: Callable[[], None]) -> None:
         """Run a thread. If it fails, the worker stops with the same error."""
@@ -241,6 +351,8 @@ class Worker:
                 logger.exception("a thread of this worker failed")
             self._fault = self._fault or fault
             self.stop()
+        finally:
+            self._life.put(LifeEvent.THREAD_ENDED)
 
     def _work(self) -> None:
         while held := self._next_task():
@@ -405,7 +517,7 @@ class Worker:
                 self._condition.notify_all()
 
     def _renew(self, held: HeldTask, seconds: float) -> None:
-        url, progress = self.url, held.task.take_progress()
+        url, progress = self.url, held.task._take_progress()
         more = {"progress": progress.fraction, "detail": progress.detail} if progress else {}
         path = f"/v1/tasks/{held.attempt_id}/heartbeat"
         body = {"lease": held.lease, "seconds": seconds, **more}
@@ -433,13 +545,15 @@ class WorkerStep:
 
     Attributes:
         function: The function.
-        unknown: Exceptions after which the outcome is unknown.
+        no_effect: Exceptions that mean that there was no effect.
         cancel_on_abort: Whether an abort cancels it.
+        task_of: Returns what it is called with, given the task; None for the task itself.
     """
 
-    function: Function
-    unknown: Unknowns
+    function: Callable[[Any], Any]
+    no_effect: Exceptions
     cancel_on_abort: bool = False
+    task_of: Callable[[Task[Any]], Task[Any]] | None = None
 
 
 @dataclasses.dataclass(slots=True, eq=False)
@@ -551,17 +665,23 @@ def _perform(
 ) -> tuple[str, dict[str, Any], BaseException | None]:
     """Call a function; return verb and body of the report, and the exception."""
     try:
-        result = manner.function(task)
+        result = manner.function(task if manner.task_of is None else manner.task_of(task))
         if inspect.isawaitable(result):
             result = asyncio.run(_awaited(manner, task, awaitables.awaited(result)))
     except asyncio.CancelledError:
         return "unknown", {"error": "cancelled, since the saga was aborted"}, None
     except BaseException as error:  # also sys.exit(): the thread of the function continues
-        kind = outcomes.classify(error, manner.unknown)
-        reply: dict[str, Any] = {"error": outcomes.describe_error(error)[:MAX_TEXT]}
-        if kind is outcomes.PERMANENT:
-            reply["final"] = True
-        return ("unknown" if kind is outcomes.UNKNOWN else "fail"), reply, error
+        kind = outcomes.classify(error, manner.no_effect)
+        text = outcomes.describe_error(error)
+        if kind in (outcomes.FAILED, outcomes.PERMANENT):
+            reply = {"error": text[:MAX_TEXT]} | (
+                {"final": True} if kind is outcomes.PERMANENT else {}
+            )
+            return "fail", reply, error
+        if kind is not outcomes.PROGRAM_ERROR:  # another worker may be able to decode the values
+            return "unknown", {"error": text[:MAX_TEXT]}, error
+        text = outcomes.located(error, text)
+        return "unknown", {"error": text[:MAX_TEXT], "program_error": True}, error
     try:
         return "complete", {"result": json.loads(serialization.write_value(result))}, None
     except NotSerializable as error:

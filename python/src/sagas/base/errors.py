@@ -6,11 +6,14 @@ SagasError
 |   |-- StoreUnavailable      the file or the server does not answer
 |   |-- OwnerUnavailable      the node that drives the saga does not answer
 |   |-- ServiceUnavailable    no HTTP service answers in time
+|   |-- StartsPaused          an operator has paused new sagas of the definition
 |   `-- Closed                the store is closed, or is closing
 |-- ConflictError             something else was there first, and counts
-|   |-- KeyConflict           the key has another saga or input
+|   |-- KeyConflict           the key has another saga, version or input
 |   |-- LeaseLost             another worker has the task, or it is over
 |   |-- NotAbortable          the saga undoes a child, so it is not aborted
+|   |-- NotRestartable        the saga is open, has completed, or is a child
+|   |-- NotErasable           the saga is open, needs an operator, or is a child
 |   |-- StepNotWaiting        the step waits for no report
 |   `-- ConflictingReport     another outcome was reported before (a StepNotWaiting)
 |-- InvalidError              an argument, or stored data, is not valid
@@ -23,8 +26,10 @@ SagasError
 |   |-- InvalidSchedule       a schedule is not well made (a ValueError, too)
 |   |-- InvalidLease          the lease was not issued for this task
 |   |-- TooLarge              a saga has too many steps or needs for its input
-|   |-- InvalidResult         a child step was completed with an invalid result
+|   |-- InvalidResult         a reported result does not have the type of its step
 |   |-- CannotDecode          a stored value cannot be read as its type
+|   |-- ProgramError          a function uses its task in a way that never works
+|   |   `-- MissingResult     it asks for a result that its saga does not have
 |   `-- NotSerializable       a value cannot be written as JSON (a TypeError, too)
 |       |-- InvalidKey
 |       |-- InvalidInput
@@ -32,12 +37,16 @@ SagasError
 |       `-- ResultNotSerializable
 |-- NoSuchSaga                no saga has the key
 |-- NoSuchSchedule            no schedule has the name
+|-- NoSuchPause               the scope is not paused
+|-- NoSuchNode                no node has the name, or it is not drained
 |-- NoSuchTask                no task has the attempt id
 |-- EngineError               the program `sagas` cannot be started, or refuses a shard
 |   `-- EngineNotRunnable
 |-- WouldWaitForever          a step waits for something that ends only after it
 |   `-- SlotsTaken            (an Unknown, too)
-|-- Fail                      raised by a step: it had no effect, and is not tried again
+|-- Fail                      raised by a step: it had no effect, and never will
+|-- Retry                     raised by a step: it had no effect now, and is tried again
+|   `-- RetryAfter            the same, after a pause of its own
 `-- Unknown                   raised by a step: its effect may have happened
 """
 
@@ -126,7 +135,7 @@ class MissingStep(InvalidError):
 
 
 class KeyConflict(ConflictError):
-    """The key belongs to a saga of another name or input. Nothing was started.
+    """The key has another saga, version or input. Nothing was started.
 
     A key is taken as long as its saga is kept. Use another key.
     """
@@ -148,12 +157,43 @@ class NotAbortable(ConflictError):
     """
 
 
+class NotRestartable(ConflictError):
+    """The saga is open, has completed, or is a child. Nothing was started.
+
+    Only stuck, recovered and resolved sagas are restarted. Wait for the end of an open saga, or
+    abort it. Instead of a child, restart the saga that started it.
+    """
+
+
+class NotErasable(ConflictError):
+    """The saga is open, needs an operator, or is a child. Nothing was erased.
+
+    Only ended sagas are erased, with all sagas below them. Wait for the end and for the call of
+    `on_end`, resolve what needs an operator, and instead of a child erase the saga at its root.
+    """
+
+
 class NoSuchSchedule(SagasError):
     """No schedule has this name."""
 
 
 class InvalidSchedule(InvalidError, ValueError):
     """The name, the times or the time zone of a schedule are not valid."""
+
+
+class NoSuchPause(SagasError):
+    """The scope is not paused. `Store.pauses` returns what is."""
+
+
+class NoSuchNode(SagasError):
+    """No node has the name, or it is not drained. `Store.nodes` returns all."""
+
+
+class StartsPaused(TemporaryError):
+    """An operator has paused the definition, and new sagas of it are refused.
+
+    Nothing was started. Start the saga again later, with the same key.
+    """
 
 
 class NoSuchTask(SagasError):
@@ -204,10 +244,11 @@ class TooLarge(InvalidError):
 
 
 class InvalidResult(InvalidError):
-    """A step that starts a child was reported with a result that a child cannot have.
+    """A result that was reported by hand does not have the type of its step.
 
-    Nothing was stored. Report the key of a child that this step started, or None in its place if
-    there is nothing to undo: see `Store.complete`. The message does not have the result.
+    The type is that of the function's return hint. Of a step that starts a child, it is the key of
+    a child that this step started, or None in its place if there is nothing to undo: see
+    `Store.complete`. Nothing was stored. The message does not have the result.
     """
 
 
@@ -223,9 +264,9 @@ class InvalidKey(NotSerializable):
 
 
 class InvalidInput(NotSerializable):
-    """The first steps cannot read the input. Nothing was started.
+    """The input does not have a type that the saga or one of its functions names.
 
-    The message names the field and what is wrong, but not the value.
+    Nothing was started. The message names the field and the rule, but not the value.
     """
 
 
@@ -241,19 +282,21 @@ class ResultNotSerializable(NotSerializable):
 
 
 class StepFailed(SagasError):
-    """The result of an item was asked for whose failure was collected.
+    """The result of a step was requested that is an optional failure.
 
-    See `collect`.
+    The step has failed, and the saga continued without it, because the step is optional, or an
+    item that `collect` needs. If a function does not catch it, its
+    step fails without another attempt, as by `Fail`.
 
     Attributes:
-        step: The name of the item's step.
+        step: The step's name.
         detail: What it raised.
     """
 
     def __init__(self, step: str, detail: str) -> None:
         super().__init__(
-            f"step {step!r} failed, and its failure was collected: {detail}. Ask for all items by "
-            "sagas.collect"
+            f"step {step!r} failed, and the saga continued: {detail}. Call task.failure_of for it, "
+            "or for all items task.result_of(sagas.collect(...))"
         )
         self.step, self.detail = step, detail
 
@@ -268,6 +311,32 @@ class CannotDecode(InvalidError):
     see `Store.attention`. It continues when a program that can read the value opens the store. For
     example, give a new field a default, or give the program the codec. Do not catch this in a
     step's function.
+    """
+
+    __module__ = "sagas"
+
+
+class ProgramError(InvalidError):
+    """A function uses its task in a way that this program cannot serve.
+
+    It asks for the result of a step that is not in `needs=`, for a context that the store was
+    opened without, or for an item or a connection that its step does not have. A repetition does
+    not help, so the attempt waits, and nothing is compensated: see `Store.attention`. It continues
+    when the next program opens the store, or by `Store.retry`. Do not catch this in a step's
+    function.
+    """
+
+    __module__ = "sagas"
+
+
+class MissingResult(ProgramError):
+    """A function asks for the result of a step that its saga does not have.
+
+    The saga was started before the step was declared, or before this step needed it, or the step
+    does not exist for its input. The attempt waits, and nothing is compensated: see
+    `Store.attention`. It continues when a program that serves both opens the store, by
+    `task.result_of(step, default=None)`, or by `Store.retry`. Do not catch this in a step's
+    function.
     """
 
     __module__ = "sagas"
@@ -301,24 +370,25 @@ class Closed(TemporaryError):
 class Unknown(SagasError):
     """Raise this in a step's function if the effect may have happened.
 
-    The attempt repeats after its backoff, with the same idempotency key. Nothing is reported until
-    then.
+    Every exception means so, except `Fail`, `Retry` and those in `no_effect=`. The same attempt
+    repeats after its backoff, with the same idempotency key. After `max_unknown` such calls an
+    operator is asked.
 
     Example:
         >>> def pay(task):
-        ...     try:
-        ...         return bank.charge(key=task.idempotency_key)
-        ...     except bank.ConnectionLost as error:
-        ...         raise sagas.Unknown("the bank did not answer") from error
+        ...     reply = bank.charge(key=task.idempotency_key)
+        ...     if reply.status == "pending":
+        ...         raise sagas.Unknown("the bank has not decided")
     """
 
     __module__ = "sagas"  # the name that users write and messages show
 
 
 class Fail(SagasError):
-    """Raise this in a step's function if there was no effect and none will follow.
+    """Raise this in a step's function if there was no effect and there never will be.
 
-    The remaining attempts are not made.
+    The remaining attempts are not made, and the step has failed. In a compensation an operator is
+    asked.
 
     Example:
         >>> def pay(task):
@@ -329,11 +399,26 @@ class Fail(SagasError):
     __module__ = "sagas"
 
 
-class RetryAfter(SagasError):
+class Retry(SagasError):
+    """Raise this in a step's function if there was no effect now.
+
+    Another attempt follows after the pause of `backoff`, and the attempt counts. After the last one
+    of `tries`, `on_exhausted` decides.
+
+    Example:
+        >>> def pay(task):
+        ...     reply = bank.charge(key=task.idempotency_key)
+        ...     if reply.status == 503:
+        ...         raise sagas.Retry("the bank is closed")
+    """
+
+    __module__ = "sagas"
+
+
+class RetryAfter(Retry):
     """Raise this in a step's function to be called again after a pause.
 
-    The call had no effect, as with every exception, and the attempt counts. The pause replaces that
-    of `backoff`. After the last attempt, `on_exhausted` decides.
+    As `Retry`, but the pause replaces that of `backoff`.
 
     Args:
         seconds: The pause.

@@ -28,15 +28,20 @@ class Event:
         at: Wall time, in seconds since 1970.
         key: The saga's key, or None.
         saga: The saga's name, or None.
-        step: The step's name as it was declared (`ship`, `hotel/room`), or None.
+        step: The declared name of the step (`ship`, `hotel/room`), or None.
         index: The number of the step's item, or its key in a dict; None if it has none.
         undo: Whether it is the step's compensation.
         attempt: The attempt's number, from 1, or None.
-        seconds: How long the function took; None if it was not called here.
+        seconds: How long the function took; None if it was not called here. Of `saga_ended` and
+            `saga_stuck`: how long the saga took, since its start.
+        optional: Of `step_failed`: whether the saga continues without the step, because the step
+            is optional, or an item that is collected.
         detail: What was raised or planned. Of `saga_ended`: the phase. Of `step_suspended`:
             `approval`, `wait` (for its time), `child` (for the end of its child saga), `retry`
             (for its next attempt beyond `tries`), `exhausted` (for a person), `unknown` (for its
-            backoff, or a person) or `cannot_decode` (for a program that can read what is stored).
+            backoff, or a person), `cannot_decode` (for a program that can read what is stored),
+            `no_definition` (for a node that has its definition) or `program_error` (for a program
+            without the bug, or a person).
     """
 
     name: str
@@ -49,10 +54,11 @@ class Event:
     attempt: int | None = None
     seconds: float | None = None
     detail: str | None = None
+    optional: bool = False
 
 
 Hook = Callable[[Event], object]
-LOGGED_FIELDS = ("key", "saga", "step", "index", "undo", "attempt", "detail")
+LOGGED_FIELDS = ("key", "saga", "step", "index", "undo", "attempt", "optional", "detail")
 """The fields of a log line."""
 
 LEVELS = {
@@ -63,6 +69,8 @@ LEVELS = {
     "step_overdue": logging.WARNING,
     "step_offered_again": logging.WARNING,
     "step_cannot_decode": logging.WARNING,
+    "step_program_error": logging.ERROR,
+    "step_no_definition": logging.WARNING,
     "plan_adopted": logging.INFO,
     "saga_aborted": logging.INFO,
     "saga_ended": logging.DEBUG,
@@ -73,6 +81,9 @@ LEVELS = {
     "shards_pruned": logging.INFO,
     "audit_failed": logging.CRITICAL,
     "engine_died": logging.WARNING,
+    "lease_expired": logging.WARNING,
+    "shard_taken": logging.INFO,
+    "shard_lost": logging.INFO,
     "shard_damaged": logging.ERROR,
     "commit_failed": logging.ERROR,
     "schedule_failed": logging.ERROR,
@@ -134,7 +145,7 @@ class EventEmitter:
         at = self._clock()
         level = LEVELS.get(name, logging.DEBUG) if level is None else level
         if logger.logger.isEnabledFor(level):
-            logged = {"name": name, "at": at, "undo": False, **fields}
+            logged = {"name": name, "at": at, "undo": False, "optional": False, **fields}
             logged = {field: value for field, value in logged.items() if value is not None}
             parts = [
                 f"{field}={quoted(logged[field])}"

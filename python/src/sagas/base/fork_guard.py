@@ -63,7 +63,7 @@ class OpenState:
     """
 
     def __init__(self, subject: str) -> None:
-        self._what, self._forks = subject, -1
+        self._subject, self._forks = subject, -1
 
     @property
     def is_other_process(self) -> bool:
@@ -75,7 +75,7 @@ class OpenState:
         self.check(operation)
         if self._forks != -1:
             raise RuntimeError(
-                f"{operation}: {self._what} is already open. Enter it once, and share it"
+                f"{operation}: {self._subject} is already open. Enter it once, and share it"
             )
         self._forks = private_descriptors.forks
 
@@ -97,6 +97,6 @@ class OpenState:
         """Raise `Closed` if another process opened it."""
         if self.is_other_process:
             raise Closed(
-                f"{operation}: {self._what} was opened in another process, before a fork. Create "
-                "and open one in this process, after the fork"
+                f"{operation}: {self._subject} was opened in another process, before a fork. "
+                "Create and open one in this process, after the fork"
             )

@@ -3,6 +3,7 @@
 from __future__ import annotations
 
 import contextlib
+import functools
 import os
 import pathlib
 import platform
@@ -27,9 +28,31 @@ def release_paths(name: str) -> list[pathlib.Path]:
 
     It is in the package, or in the release of the surrounding checkout for this processor.
     """
-    part = "aarch64" if platform.machine() in ("aarch64", "arm64") else ""
+    return [*_release_paths(name, platform.system(), platform.machine())]
+
+
+@functools.cache
+def _release_paths(name: str, system: str, machine: str) -> tuple[pathlib.Path, ...]:
+    """Return the paths of `release_paths`, which a planner looks up for each plan."""
+    part = "aarch64" if machine in ("aarch64", "arm64") else ""
     of_checkout = [above / "dist" / part / name for above in HERE.parents[:4]]
-    return [HERE / "bin" / name, *(of_checkout if platform.system() == "Linux" else [])]
+    return (HERE / "bin" / name, *(of_checkout if system == "Linux" else []))
+
+
+def planner_page() -> bytes:
+    """Return the planner page of the package, or of the surrounding checkout.
+
+    Raises:
+        EngineError: The page does not exist.
+    """
+    name = "sagas.html"
+    candidates = [HERE / "bin" / name, *(above / "dist" / name for above in HERE.parents[:4])]
+    for candidate in candidates:
+        if candidate.is_file():
+            return candidate.read_bytes()
+    raise EngineError(
+        f"the planner page does not exist: {candidates[0]}. Install the package again"
+    )
 
 
 def path(explicit: str | None = None) -> str:

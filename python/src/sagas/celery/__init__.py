@@ -15,7 +15,7 @@ from typing import TYPE_CHECKING, Any
 from sagas.base.errors import DefinitionError, WrongStore
 from sagas.celery import store_check, worker
 from sagas.celery.sender import Sender
-from sagas.core.external_work import Order
+from sagas.core.attempt.external_work import Order
 from sagas.definition.saga import Saga
 from sagas.definition.step import Declare, Step
 from sagas.definition.call_options import Manner
@@ -123,7 +123,7 @@ class Queue:
         attempt.__module__ = getattr(manner.function, "__module__", __name__)
         self.app.task(name=task_name(step, kind), sagas_step=step, **self._options)(attempt)
 
-    def desk(self) -> WorkerSession:
+    def session(self) -> WorkerSession:
         """Return this thread's connection to the store.
 
         Raises:
@@ -171,7 +171,7 @@ class Queue:
 
 def step(
     app: Any,
-    saga: Saga,
+    saga: Saga[Any],
     name: str,
     *,
     queue: str | None = None,

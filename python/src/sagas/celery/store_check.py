@@ -16,7 +16,7 @@ from celery.worker.control import inspect_command
 
 from sagas.base.errors import WrongStore
 from sagas.base.logger import logger
-from sagas.storage.store_name import is_url
+from sagas.storage.store_name import shown_name, supports_nodes
 
 if TYPE_CHECKING:
     from sagas.celery import Queue
@@ -54,7 +54,7 @@ def _reply(state: Any) -> list[Any]:
     files = []
     for queue in state.app.__dict__.get("sagas_queues", ()):
         store = queue.store
-        if not is_url(store):
+        if not supports_nodes(store):
             files.append([queue.name, os.path.abspath(store), file_of(store)])
     return files
 
@@ -70,13 +70,14 @@ async def check(queue: Queue, database: Database) -> None:
     Raises:
         WrongStore: The workers report into another store.
     """
-    store, shared = queue.store, database.shared
-    if is_url(store) != shared:
+    store, has_nodes = queue.store, database.supports_nodes
+    if supports_nodes(store) != has_nodes:
+        name = shown_name(store)
         raise WrongStore(
-            f"{queue!r}: its workers report to {'PostgreSQL' if not shared else store}, "
+            f"{queue!r}: its workers report to {name}, "
             f"but the open store is {database.path}. Give both the same store"
         )
-    if shared:
+    if has_nodes:
         return
     file = file_of(database.path)
     if file != file_of(store):

@@ -12,13 +12,22 @@ from typing import TYPE_CHECKING, Any, TypeVar
 from celery.exceptions import Reject, SoftTimeLimitExceeded
 from sagas.base.errors import StoreUnavailable
 from sagas.base.logger import logger
+from sagas.base.pauses import doubling_pauses
 from sagas.core import outcomes
-from sagas.core.external_work import AlreadyReported, AttemptTexts, Order
+from sagas.core.attempt.external_work import AlreadyReported, AttemptTexts, Order
 from sagas.core.outcomes import Outcome
 from sagas.core.states import OutcomeKind
-from sagas.definition import awaitables, children, decoders, serialization, tokens, tracing
+from sagas.definition import (
+    awaitables,
+    child_sagas,
+    decoders,
+    serialization,
+    tokens,
+    tracing,
+)
 from sagas.definition.compiled import CompiledDefinition
-from sagas.definition.task import StepLocation, Task
+from sagas.definition.step_location import StepLocation
+from sagas.definition.task import Task
 from sagas.definition.layout import ShapeValues
 from sagas.definition.call_options import Function, Manner
 from sagas.definition.step import Step
@@ -45,7 +54,7 @@ class Work:
     def hint(self) -> serialization.Decoder | None:
         """The decoder of the input."""
         assert self.manner.function
-        return decoders.hints(self.manner.function)[0]
+        return decoders.input_decoder(self.manner.function)
 
     @functools.cached_property
     def tracer(self) -> tracing.Tracer | None:
@@ -55,7 +64,7 @@ class Work:
     @functools.cached_property
     def decoders(self) -> dict[str, serialization.Decoder]:
         """The decoders of results, by step."""
-        by_step = {step.name: children.hints(step)[1] for step in self.step.saga.steps}
+        by_step = {step.name: child_sagas.hints(step)[1] for step in self.step.saga.steps}
         return {name: decoder for name, decoder in by_step.items() if decoder}
 
     def perform(self, message: dict[str, Any]) -> None:
@@ -78,7 +87,7 @@ class Work:
 
     def _perform(self, order: Order) -> None:
         queue = self.queue
-        started = _surely(lambda: queue.desk().begin(order), time.monotonic() + queue.patience)
+        started = _surely(lambda: queue.session().begin(order), time.monotonic() + queue.patience)
         if started is None:
             logger.info(
                 "%s: ignored a late or repeated message: the attempt has ended", order.token
@@ -90,7 +99,7 @@ class Work:
             self._report(order, outcomes.unknown(UNKNOWN.format(order.saga)))
             return
         if self.manner.transaction:
-            function = queue.desk().within(order, function)
+            function = queue.session().within(order, function)
         try:
             outcome = self._outcome(function, self._task(order, started))
         except AlreadyReported:
@@ -107,7 +116,7 @@ class Work:
         """
 
         def report() -> None:
-            self.queue.desk().report(order, outcome)
+            self.queue.session().report(order, outcomes.worker_report(outcome))
 
         deadline = time.monotonic() + self.queue.patience
         try:
@@ -170,7 +179,7 @@ def _surely(request: Callable[[], T], deadline: float) -> T:
     Raises:
         Reject: The deadline has passed. The message returns to the queue.
     """
-    pause = FIRST_PAUSE
+    pauses = doubling_pauses(FIRST_PAUSE, MAX_PAUSE)
     while True:
         try:
             return request()
@@ -180,8 +189,7 @@ def _surely(request: Callable[[], T], deadline: float) -> T:
                     "the store cannot be reached: %s. The message returns to the queue", error
                 )
                 raise Reject(str(error), requeue=True) from error
-            time.sleep(pause)
-            pause = min(MAX_PAUSE, 2 * pause)
+            time.sleep(next(pauses))
 
 
 def _call(function: Function, manner: Manner, task: Task[Any]) -> Outcome:

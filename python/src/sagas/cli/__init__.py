@@ -8,16 +8,24 @@ usage: sagas COMMAND [ARGUMENT]...
 Coordinate sagas, and inspect, operate and verify them. STORE is a SQLite file, or the
 postgresql:// URL of a database.
 
+Get started:
+  demo                                         Show the dashboard with two hundred sagas
+  new DIR                                      Create a project, in one of four languages
+
 Inspect a store:
   store STORE list|show|log|plan|draw|export   Show sagas
   store STORE stats|definitions|nodes          Count sagas, and list nodes
   store STORE attention|stuck|pending          List what needs an operator, and what waits
   store STORE schedules|deliveries             List schedules and webhook deliveries
+  store STORE check                            Check a program before you deploy it
 
 Operate sagas:
-  store STORE abort|complete|fail|retry|compensate
+  store STORE abort|complete|fail|retry|compensate|restart
                                                Request an action on a saga or a step
   store STORE resolve                          Mark sagas as resolved
+  store STORE erase                            Erase the data of an ended saga
+  store STORE pause|resume|pauses              Hold attempts back, and list pauses
+  store STORE drain|undrain                    Move the shards of a node to others
 
 Maintain a store:
   store STORE init|migrate                     Create or migrate the tables
@@ -27,6 +35,9 @@ Maintain a store:
 Run a service:
   serve STORE --definitions DIR                Serve a store over HTTP
   token FILE NAME ROLE...                      Create a token for a service
+
+Look at failures before the first run:
+  explain FILE|MODULE:NAME                     Show what each failure would undo, and its cost
 
 Plan and verify with files:
   plan DEF CASE                                Compute a least-cost plan

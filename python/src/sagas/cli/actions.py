@@ -3,20 +3,33 @@
 from __future__ import annotations
 
 import argparse
+import getpass
 import json
+import os
 import time
 from collections.abc import Sequence
 from typing import Any
 
-from sagas.base.errors import CannotDecode, ConflictingReport, InvalidResult, NotAbortable
+from sagas.api.restarts import check_restartable
+from sagas.base.errors import (
+    CannotDecode,
+    ConflictingReport,
+    InvalidKey,
+    InvalidResult,
+    NoSuchSaga,
+    NotAbortable,
+    NotErasable,
+    NotRestartable,
+)
 from sagas.base.wording import escaped, number
 from sagas.cli.formatting import GOOD, NO, complain, show_json
 from sagas.cli.options import check_keys, filter_of, payloads_of
 from sagas.cli.snapshot import Snapshot
 from sagas.core import reports
+from sagas.core.decisions import Requester, Way, new_bulk, request_fields, request_text
 from sagas.core.outcomes import reported_outcome
 from sagas.core.states import Suspension
-from sagas.definition import children
+from sagas.definition import arguments, child_sagas
 from sagas.definition.payloads import ENVELOPE
 from sagas.definition.serialization import TOO_DEEP, clean, is_deeper
 from sagas.definition.arguments import meant
@@ -24,7 +37,7 @@ from sagas.inspection import lists
 from sagas.inspection.names import step_names, unmatched_warnings
 from sagas.inspection.views import SagaView, Waits
 from sagas.runtime.operator_commands import step_arguments
-from sagas.storage import admin, codec_note, store_name
+from sagas.storage import admin, codec_note, erasures, store_name
 from sagas.storage.admin import Trouble
 from sagas.storage.batches import Batch, resolve_one
 from sagas.storage.filters import Filter
@@ -34,7 +47,7 @@ from sagas.storage.queries import DEFINITION, PHASE
 Json = dict[str, Any]
 VERBS = {"complete": "completes", "fail": "fails", "retry": "retries"}
 WAITS = "requested; it takes effect when its program handles it"
-LEFT_OUT = "skipped, because it undoes a child"
+LEFT_OUT = "skipped, because it undoes a child or calls on_end"
 WITHDRAWN = "withdrawn"
 """The answer to an abort of a start that no node had accepted."""
 SAGA = f"SELECT id, {PHASE} FROM sagas s WHERE key = ?"
@@ -52,10 +65,10 @@ def ask(path: str, key: str, command: str, value: Any, timeout: float) -> tuple[
         saga_id = target_of(link, key, command, value)
         if saga_id is None:
             return WITHDRAWN, True
-        number = link.add_request(saga_id, command, json.dumps(value))
+        number = link.add_request(saga_id, command, request_text(value))
         if number is None and saga_id < 0:  # it is a saga by now
             saga_id = target_of(link, key, command, value) or saga_id
-            number = link.add_request(saga_id, command, json.dumps(value))
+            number = link.add_request(saga_id, command, request_text(value))
         if number is None:
             raise gone(key)
         link.notify("requests")
@@ -90,6 +103,12 @@ def target_of(link: admin.Source, key: str, command: str, value: Any) -> int | N
     if not rows:
         raise link.missing_saga_error(key)
     ((id, phase),) = rows
+    if command == "restart":
+        try:
+            check_restartable(key, phase)
+        except NotRestartable as error:
+            raise Trouble(str(error)) from None
+        return int(id)
     if command == "compensate":
         if phase == "open":
             raise Trouble(f"{key} has not ended, so there is nothing to compensate")
@@ -138,9 +157,9 @@ def is_repeated(link: admin.Source, key: str, command: str, value: Any) -> bool:
 
 
 def check_abortable(key: str) -> None:
-    """Raise `Trouble` if the saga undoes a child: no program would abort it."""
+    """Raise `Trouble` if the saga undoes a child or calls `on_end`: no program would abort it."""
     try:
-        children.check_abortable(key)
+        child_sagas.check_abortable(key)
     except NotAbortable as error:
         raise Trouble(str(error)) from None
 
@@ -149,8 +168,8 @@ def check_child(link: admin.Source, key: str, step: str, result: Any) -> None:
     """Raise `Trouble` if a step that has started a child is completed with an invalid result."""
     for id, phase in link.ask(SAGA, key):
         rows = [(str(key), str(phase)) for key, phase in link.ask(CHILDREN, id)]
-        is_child = any(children.is_of_step(child, key, step) for child, _ in rows)
-        if phase != "open" or not is_child or children.undoes_child(key):
+        is_child = any(child_sagas.is_of_step(child, key, step) for child, _ in rows)
+        if phase != "open" or not is_child or child_sagas.undoes_child(key):
             return
         try:
             reports.check_child_result(key, step, result, rows, None)
@@ -176,7 +195,7 @@ def request(
     elif answer is None:
         when = (
             "a node executes the saga (run `sagas store URL nodes`)"
-            if store_name.is_url(path)
+            if store_name.supports_nodes(path)
             else "the program handles it"
         )
         print(
@@ -201,9 +220,13 @@ def abort(path: str, options: argparse.Namespace) -> int:
     check_keys(options, bool(options.key))
     if options.all:
         return abort_all(path, options)
-    value = {"note": options.note} if options.note else None
     return request(
-        path, options, "abort", value, "aborted", "not aborted: it has ended, or was aborted before"
+        path,
+        options,
+        "abort",
+        requester_of(options),
+        "aborted",
+        "not aborted: it has ended, or was aborted before",
     )
 
 
@@ -255,10 +278,26 @@ def compensate(path: str, options: argparse.Namespace) -> int:
     `attention` lists such reports. A program that has the saga's definition starts a saga that
     calls the compensation, now or when it opens the store.
     """
-    value = {"step": options.step} | ({"note": options.note} if options.note else {})
-    undo = children.key_of(options.key, options.step, undo=True)
+    value = {"step": options.step} | requester_of(options)
+    undo = child_sagas.key_of(options.key, options.step, undo=True)
     done = f"{options.step} is compensated, by the saga {undo}"
     return request(path, options, "compensate", value, done, "not compensated")
+
+
+def restart(path: str, options: argparse.Namespace) -> int:
+    """Start an ended saga again, under a new key.
+
+    The saga is stuck, recovered or resolved, and stays unchanged. The new one has the same
+    definition, input and labels. A program that has the definition starts it, now or when it opens
+    the store.
+    """
+    try:
+        arguments.key(options.new_key)
+    except InvalidKey as error:
+        raise Trouble(str(error), 2) from None
+    value = {"new_key": options.new_key} | requester_of(options)
+    done = f"restarted as {options.new_key}"
+    return request(path, options, "restart", value, done, "not restarted")
 
 
 def check_steps(options: argparse.Namespace, command: str) -> None:
@@ -332,10 +371,32 @@ def kind_of(undo: bool) -> str:
 
 
 def report_of(options: argparse.Namespace) -> Json:
-    """Return the common fields of a report: the step and the note."""
+    """Return the common fields of a report: the step, who reports it, and the note."""
     early = getattr(options, "early", True) and not options.all  # those of --all are under way
     value = step_arguments(options.step, kind_of(options.undo), early)
-    return value | ({"note": options.note} if options.note else {})
+    return value | requester_of(options)
+
+
+def requester_of(options: argparse.Namespace) -> Json:
+    """Return what is stored of the user of the command."""
+    return request_fields(user_of(options), options.note or None)
+
+
+def user_of(options: argparse.Namespace) -> Requester:
+    """Return the user of the command: the name of `--by`, or the login name."""
+    is_bulk = getattr(options, "all", False) or isinstance(options.key, list) and options.key[1:]
+    if is_bulk and not hasattr(options, "bulk"):
+        options.bulk = new_bulk()  # all decisions of one command share it
+    name = clean(options.by or login_name())
+    return Requester(name, Way.COMMAND, getattr(options, "bulk", None))
+
+
+def login_name() -> str:
+    """Return the login name, or the number of the user if the system has no name for it."""
+    try:
+        return getpass.getuser()
+    except (KeyError, OSError):
+        return f"user {os.getuid()}"
 
 
 def abort_all(path: str, options: argparse.Namespace) -> int:
@@ -346,7 +407,7 @@ def abort_all(path: str, options: argparse.Namespace) -> int:
             count, left_out = batch.abort_count(), batch.undoing_count()
             warn_of(path, sagas, is_needed=not count + left_out)
             return show_count(options, count, "--yes aborts", left_out=left_out)
-        result = batch.abort({"note": options.note} if options.note else None, options.timeout)
+        result = batch.abort(requester_of(options), options.timeout)
     warn_of(path, sagas, is_needed=not (result.done or result.refused or result.waiting))
     answers: dict[str, object] = dict.fromkeys(result.done, True)
     answers |= dict.fromkeys(result.waiting) | result.refused
@@ -376,7 +437,7 @@ def show_count(
 ) -> int:
     """Print how many sagas or steps are selected, and the option that changes them.
 
-    `left_out`: how many sagas are excluded because they undo children.
+    `left_out`: how many sagas are excluded because they undo children or call `on_end`.
     """
     if options.json:
         show_json({"count": count} | ({"undoing": left_out} if left_out else {}))
@@ -384,8 +445,8 @@ def show_count(
         pronoun = "it" if count == 1 else "them"
         print(f"{number(count, noun)}" + (f": {remedy} {pronoun}" if count else ""))
         if left_out:
-            undoes = "it undoes a child" if left_out == 1 else "they undo children"
-            print(f"{number(left_out, 'saga')} skipped, because {undoes}")
+            undoes = "it undoes a child or calls" if left_out == 1 else "they undo children or call"
+            print(f"{number(left_out, 'saga')} skipped, because {undoes} on_end")
     return GOOD
 
 
@@ -403,11 +464,12 @@ def resolve(path: str, options: argparse.Namespace) -> int:
                 count = batch.resolve_count()
                 warn_of(path, sagas, is_needed=not count)
                 return show_count(options, count, "without --count resolves")
-            done = batch.resolve(options.note, None).done
+            done = batch.resolve(options.note, user_of(options)).done
             warn_of(path, sagas, is_needed=not done)
         else:
             with link.transaction():
-                done = [key for key in options.key if resolve_one(link, key, options.note)]
+                user = user_of(options)
+                done = [key for key in options.key if resolve_one(link, key, options.note, user)]
     if options.json:
         entries = [{"key": key, "note": options.note} for key in done]
         show_json(entries[0] if len(options.key) == 1 and entries else entries)
@@ -416,6 +478,30 @@ def resolve(path: str, options: argparse.Namespace) -> int:
             print(f"{key}: resolved")
     if not options.all and (rest := [key for key in options.key if key not in done]):
         check_same(path, rest, options.note)
+    return GOOD
+
+
+def erase(path: str, options: argparse.Namespace) -> int:
+    """Erase the data of an ended saga, and of all sagas below it.
+
+    Its input, results, errors and labels are erased, and what operators wrote about it. Its key
+    stays used, and its events and its plan stay. This cannot be undone. Large values outside of the
+    database are deleted by a program that has the blob store, within a day.
+    """
+    if not options.yes:
+        complain(f"this cannot be undone. Repeat it with --yes to erase the data of {options.key}")
+        return NO
+    with admin.writing(path) as link:
+        try:
+            erased = erasures.erase(link, options.key, user_of(options))
+        except (NoSuchSaga, NotErasable) as error:
+            raise Trouble(str(error)) from None
+    if options.json:
+        show_json({"key": options.key, "erased": erased.keys, "new": erased.is_new})
+    elif not erased.is_new:
+        print(f"{options.key}: was erased before")
+    else:
+        print(f"{options.key}: erased ({number(len(erased.keys), 'saga')})")
     return GOOD
 
 

@@ -17,6 +17,8 @@ from sagas.cli.snapshot import Snapshot
 from sagas.core import protocol
 from sagas.core.history import START_EVENTS
 from sagas.core.states import EVENT_STATES, UNDO_FAILED, EnginePhase, saga_phase
+from sagas.definition.capacity import HEADER
+from sagas.engine.process import REPLY
 from sagas.inspection.names import step_names
 from sagas.inspection.question import Row
 from sagas.storage import queries
@@ -76,7 +78,7 @@ class Events:
             f"{protocol.show_line(id - self.first)}\n" for id in self.definition_indexes
         )
         done = ran(["drive", "--lines", "--from", log, *definitions], texts, requests)
-        replies = [line for line in done.stdout.splitlines() if line.startswith(protocol.REPLY)]
+        replies = [line for line in done.stdout.splitlines() if line.startswith(REPLY)]
         if done.returncode != GOOD or len(replies) != len(self.definition_indexes):
             raise Trouble(f"sagas drive: {(done.stderr or done.stdout).strip()}", CANNOT)
         self.standings = dict(zip(self.definition_indexes, map(standing, replies)))
@@ -129,7 +131,7 @@ def audit_shard(store: Snapshot, log: int) -> ShardAudit:
     """Verify the events of a shard, and compare its rows with them. Raises `Trouble`."""
     texts = [text for _, text in store.rows(queries.TEXTS, log, log)]
     lines, _ = queries.joined(store.rows(queries.LINES, log))
-    with contextlib.closing(program.TextFiles([protocol.HEADER + lines, *texts])) as opened:
+    with contextlib.closing(program.TextFiles([HEADER + lines, *texts])) as opened:
         done = ran(["audit", *opened.paths], opened)
         result = ShardAudit((done.stdout or done.stderr).strip(), done.returncode == GOOD)
         if not result.is_allowed:

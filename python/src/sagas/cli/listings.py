@@ -5,6 +5,8 @@ from __future__ import annotations
 import argparse
 import contextlib
 import dataclasses
+import shlex
+import sys
 import time
 from collections.abc import Callable, Sequence
 from typing import Any
@@ -12,19 +14,25 @@ from typing import Any
 from sagas.base.errors import NoSuchSchedule
 from sagas.base.wording import number
 from sagas.cli.formatting import GOOD, complain, moment, short, show_json, table
-from sagas.cli.options import add_app_option, add_limit_option, read_by
+from sagas.cli.options import (
+    add_app_option,
+    add_filter_options,
+    add_limit_option,
+    filter_of,
+    read_by,
+)
 from sagas.cli.snapshot import Snapshot
 from sagas.core.attention import Attention, AttentionReason
 from sagas.core.states import WAITS_FOR
 from sagas.definition.serialization import write as written
-from sagas.inspection import deliveries as delivery_questions, lists
-from sagas.inspection.deliveries import Delivery
+from sagas.inspection import delivery_questions as delivery_questions, lists, store_figures
+from sagas.inspection.delivery_questions import Delivery
 from sagas.inspection.lists import COUNTED
 from sagas.inspection.views import Waits
 from sagas.inspection.wording import span
 from sagas.storage import admin
 from sagas.storage.admin import Trouble
-from sagas.storage.deliveries import REDELIVER, DeliveryState
+from sagas.storage.webhook_deliveries import REDELIVER, DeliveryState
 from sagas.storage.filters import Filter
 from sagas.storage.schedules import Schedule, Schedules
 
@@ -37,7 +45,11 @@ NEEDS = {
     AttentionReason.UNKNOWN: "unknown outcome",
     AttentionReason.EXHAUSTED: "attempts used up",
     AttentionReason.CANNOT_DECODE: "cannot be decoded",
+    AttentionReason.PROGRAM_ERROR: "error in its program",
     AttentionReason.UNUSED_REPORT: "unused report",
+    AttentionReason.ON_END: "on_end not called",
+    AttentionReason.NO_DEFINITION: "no definition",
+    AttentionReason.NO_NODE: "no node",
     AttentionReason.DAMAGED: "damaged shard",
 }
 """Why a saga needs an operator, in words."""
@@ -48,15 +60,15 @@ def held_json(wait: Waits) -> Json:
     is_leased = wait.why == "external"
     return {
         "key": wait.key,
-        "step": wait.step,
-        "kind": "undo" if wait.undo else "run",
-        "attempt": wait.attempt,
+        "step": wait.step or None,
+        "kind": ("undo" if wait.undo else "run") if wait.step else "saga",
+        "attempt": wait.attempt or None,
         "why": wait.why,
         "count": wait.count,
         "since": wait.since,
         "until": wait.until,
-        "error": None if is_leased else wait.said,
-        "worker": wait.said if is_leased else None,
+        "error": None if is_leased else wait.detail,
+        "worker": wait.detail if is_leased else None,
     }
 
 
@@ -92,6 +104,10 @@ def waits_for(entry: Json) -> str:
         return f"its next attempt: it failed ({number(entry['count'], 'time')})"
     if why == AttentionReason.CANNOT_DECODE:
         return "a program that can read its stored values"
+    if why == AttentionReason.PROGRAM_ERROR:
+        return "an operator, or the next program: this one has an error"
+    if why in (AttentionReason.NO_DEFINITION, AttentionReason.NO_NODE):
+        return "a node that has its definition"
     if why == "external":
         if until > time.time():
             return f"a worker: {entry['worker']} has it"
@@ -107,12 +123,13 @@ def stats(path: str, options: argparse.Namespace) -> int:
     """Count sagas by name and phase."""
     with Snapshot(path) as store:
         name, counted = store.link.name, store.ask(lists.counts())
-        needed = store.ask(lists.attention_counts())
+        needed = store.ask(store_figures.attention_counts())
     undo_failed = needed["undo_failed"]
-    persons = sum(needed[why] for why in ("unknown", "exhausted", "cannot_decode", "approval"))
+    asks = ("unknown", "exhausted", "cannot_decode", "program_error", "no_definition", "approval")
+    persons = sum(needed[why] for why in asks)
     if options.json:
         counts = {"undo_failed": undo_failed, "attention_required": persons}
-        counts |= {"unused_report": needed["unused_report"]}
+        counts |= {"unused_report": needed["unused_report"], "on_end": needed["on_end"]}
         show_json({"sagas": counted, **counts, "damaged": needed["damaged"]})
         return GOOD
     rows = [(saga, *phases.values()) for saga, phases in counted.items()]
@@ -125,6 +142,8 @@ def stats(path: str, options: argparse.Namespace) -> int:
         )
     if unused := needed["unused_report"]:
         notes.append(f"{unused} with a report that was not used: {command} attention")
+    if not_called := needed["on_end"]:
+        notes.append(f"{not_called} with an on_end that is not called: {command} attention")
     if persons:
         wait = "waits" if persons == 1 else "wait"
         notes.append(f"{persons} {wait} for an operator: {command} pending")
@@ -179,14 +198,69 @@ def attention(path: str, options: argparse.Namespace) -> int:
     """List what needs an operator.
 
     These are stuck sagas, failed compensations, unused reports, steps whose attempts are used
-    up, unknown outcomes that are not retried, stored values that no program could read, and
-    sagas of damaged shards.
+    up, unknown outcomes that are not retried, errors of the program, stored values that no program
+    could read, on_end calls that no program could start, sagas that no node executes, and sagas of
+    damaged shards.
     """
     with Snapshot(path) as store:
-        entries = store.ask(lists.attention(options.limit or lists.ALL))
+        sagas = dataclasses.replace(filter_of(options), search=options.search, error=options.error)
+        listed = [
+            entry
+            for entry in store.ask(lists.attention(lists.ALL, sagas=sagas))
+            if options.kind in (None, entry.why) and options.step in (None, entry.step)
+        ]
+    entries, is_last = _page(listed, options.after, options.limit)
     if options.json:
         show_json([dataclasses.asdict(entry) for entry in entries])
-        return GOOD
+    else:
+        _show_attention(entries)
+    more = "" if is_last else _continued(entries[-1].key)
+    plural = "entry" if len(listed) == 1 else "entries"
+    print(f"{len(entries)} of {len(listed)} {plural}{more}", file=sys.stderr)
+    return GOOD
+
+
+def _page(listed: list[Attention], after: str | None, limit: int) -> tuple[list[Attention], bool]:
+    """Return a page of entries after those of a saga, and whether it is the last one.
+
+    The entries of a saga follow one another, and are on one page. Raises `Trouble` if the saga has
+    none.
+    """
+    by_key = dict[str, list[Attention]]()
+    for entry in listed:
+        by_key.setdefault(entry.key, []).append(entry)
+    keys = [*by_key]
+    if after is not None and after not in by_key:
+        raise Trouble(f"--after {after}: no entry of this saga is listed. List them again")
+    page = list[Attention]()
+    rest = keys if after is None else keys[keys.index(after) + 1 :]
+    for key in rest:
+        if limit and len(page) >= limit:
+            return page, False
+        page += by_key[key]
+    return page, True
+
+
+def _continued(key: str) -> str:
+    """Return how to list the entries that follow."""
+    text = shlex.quote(key)
+    return f": continue with --after{'=' if key.startswith('-') else ' '}{text}"
+
+
+def add_attention_options(part: argparse.ArgumentParser) -> None:
+    """Add the options of `attention`: the filters of the inbox."""
+    kinds = [reason.value for reason in AttentionReason]
+    part.add_argument("--kind", choices=kinds, help="only entries of this kind")
+    add_filter_options(part, "")
+    part.add_argument("--step", metavar="NAME", help="only entries of this step")
+    part.add_argument("--search", metavar="TEXT", help="only sagas whose keys contain this text")
+    part.add_argument("--error", metavar="TEXT", help="only sagas with an error that contains this")
+    part.add_argument("--after", metavar="KEY", help="continue after the entries of this saga")
+    add_limit_option(part, "entries")
+
+
+def _show_attention(entries: Sequence[Attention]) -> None:
+    """Print entries as a table."""
     cells = [
         (
             entry.key,
@@ -199,7 +273,6 @@ def attention(path: str, options: argparse.Namespace) -> int:
         for entry in entries
     ]
     print(table(["KEY", "SAGA", "WHY", "STEP", "SINCE", "DETAIL"], cells))
-    return GOOD
 
 
 def _detail(entry: Attention) -> str | None:
@@ -223,6 +296,7 @@ def pending(path: str, options: argparse.Namespace) -> int:
     with Snapshot(path) as store:
         waits = lists.waits(lists.ALL, person=False, offered_before=time.time() - UNCLAIMED)
         held = [held_json(wait) for wait in store.ask(waits)]
+        held += [held_json(wait) for wait in store.ask(lists.without_node(lists.ALL))]
         held += [start_json(*row) for row in store.link.starts()]
     if options.json:
         show_json(held)

@@ -48,7 +48,7 @@ def create_tables(name: str, role: str | None) -> str:
     try:
         from sagas.storage.postgresql import connections, schema
     except ImportError as error:
-        raise store_name.missing_client(error) from error
+        raise Trouble(str(store_name.missing_client(error)), CANNOT) from error
     database = connections.named(name)
     with connections.translate_errors(database):
         link = connections.connect_now(name)

@@ -14,8 +14,8 @@ from sagas.storage.admin import CANNOT, Trouble
 from sagas.storage.filters import Filter
 
 APP_HELP = (
-    "a store made by sagas.open, a client, or a codec: how the values of this store are encoded "
-    "(default: they are not)"
+    "a saga, a list of sagas, or a store made by sagas.open, whose codec decodes the values of "
+    "this store; or a client or a codec (default: values are not encoded)"
 )
 
 
@@ -48,15 +48,20 @@ def payloads_of(options: argparse.Namespace) -> Payloads:
     location = options.app
     if location is None:
         return PLAIN
+    from sagas.api.app import KINDS, App
+
     try:
         value = load_reference("--app", location)
-        return checked(getattr(value, "codec", value))
     except ValueError as error:
         raise Trouble(str(error), 2) from error
+    try:
+        return checked(App(location, value).codec)
+    except ValueError:
+        pass
+    try:
+        return checked(getattr(value, "codec", value))
     except TypeError as error:
-        raise Trouble(
-            f"--app {location}: must be a store made by sagas.open, a client or a codec", 2
-        ) from error
+        raise Trouble(f"--app {location}: must be {KINDS}, a client or a codec", 2) from error
 
 
 def add_filter_options(part: argparse.ArgumentParser, prefix: str) -> None:

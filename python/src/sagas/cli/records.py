@@ -16,7 +16,7 @@ from sagas.base.wording import escaped
 from sagas.cli.formatting import CANNOT, GOOD, NO, Progress, show_json, table
 from sagas.cli.nodes import check_database
 from sagas.cli.snapshot import Snapshot
-from sagas.core.fleet_record import Chunk, InvalidLine, Loss, Records, ShardRecord, Takeover
+from sagas.core.shard.fleet_record import Chunk, InvalidLine, Loss, Records, ShardRecord, Takeover
 from sagas.definition.capacity import SHARD_CAPACITY
 from sagas.storage.admin import Trouble
 from sagas.storage.record_file import number

@@ -6,6 +6,7 @@ import argparse
 import dataclasses
 import shlex
 import sys
+import time
 from collections.abc import Sequence
 from typing import Any
 
@@ -17,12 +18,14 @@ from sagas.cli.options import filter_of, read_by
 from sagas.cli.snapshot import Snapshot
 from sagas.core.history import FAILURE_EVENTS, was_called
 from sagas.core.results import HistoryEvent, Summary
-from sagas.core.states import known_state, state_text
+from sagas.core.states import known_state
 from sagas.definition import drawing
+from sagas.definition.saga_result import state_text
 from sagas.engine.plan import certificate_text
-from sagas.inspection import pages, picture
-from sagas.inspection.views import SagaView, StepView
-from sagas.inspection.wording import one_line
+from sagas.inspection import calls, pages, picture
+from sagas.inspection.calls import CallTimes
+from sagas.inspection.views import Relative, SagaView, StepView
+from sagas.inspection.wording import call_text, one_line
 from sagas.storage.admin import Trouble
 from sagas.storage.operator_requests import reason
 
@@ -43,7 +46,7 @@ def summary_json(summary: Summary) -> Json:
     """Return a saga of a list as JSON."""
     fields = dataclasses.asdict(summary)
     fields["at"] = fields.pop("started")
-    order = "id key saga phase at ended note undo_failed labels deadline"
+    order = "id key saga version phase at ended note undo_failed labels deadline"
     return {name: fields[name] for name in order.split()}
 
 
@@ -67,11 +70,12 @@ def list_sagas(path: str, options: argparse.Namespace) -> int:
             [{w: v for w, v in summary_json(summary).items() if w != "id"} for summary in listed]
         )
     else:
-        heads = ["KEY", "SAGA", "PHASE", "STARTED", "ENDED"]
+        heads = ["KEY", "SAGA", "VERSION", "PHASE", "STARTED", "ENDED"]
         cells = [
             [
                 summary.key,
                 summary.saga,
+                summary.version or "",
                 phase_of(summary),
                 moment(summary.started),
                 moment(summary.ended),
@@ -104,13 +108,17 @@ def show(path: str, options: argparse.Namespace) -> int:
     facts = [
         ("key", view.key),
         ("saga", view.saga),
+        ("version", str(view.summary.version or "")),
         ("phase", f"{phase_of(view.summary)}{', aborted' if view.aborted else ''}"),
         ("started", moment(view.started)),
         ("ended", moment(view.ended)),
         ("deadline", moment(view.summary.deadline)),
         ("labels", labels_text(view.summary)),
         ("parent", view.parent.key if view.parent else ""),
-        *(("child", f"{entry.key} ({entry.phase})") for entry in view.children),
+        *(("child", child_text(entry)) for entry in view.children),
+        ("on_end", view.end_call.text if view.end_call else ""),
+        ("restarts", restarted_text(view)),
+        *(("restart", f"{link.key} ({link.phase})") for link in view.restarts),
         ("input", short(view.input, 200)),
         ("unused", "" if view.note else ", ".join(f"report of {entry}" for entry in view.unused)),
         ("resolved", resolved_text(view)),
@@ -119,12 +127,20 @@ def show(path: str, options: argparse.Namespace) -> int:
     print("\n".join(f"{name:8} {escaped(text)}" for name, text in facts if text))
     print()
     show_steps(view)
+    show_calls(calls.repeated(view, time.time()))
     if view.plan:
         print(f"\n{view.plan}")
     if view.held:
         print()
         show_held([held_json(entry) for entry in view.held])
     return GOOD
+
+
+def child_text(child: Relative) -> str:
+    """Return a child of a saga with its phase, and how many children it has."""
+    count = child.children
+    below = f", {count:,} {'child' if count == 1 else 'children'}" if count else ""
+    return f"{child.key} ({child.phase}{below})"
 
 
 def view_json(view: SagaView) -> Json:
@@ -134,17 +150,27 @@ def view_json(view: SagaView) -> Json:
         "input": view.input,
         "parent": view.parent and view.parent.key,
         "children": [dataclasses.asdict(entry) for entry in view.children],
+        "end_call": view.end_call and dataclasses.asdict(view.end_call),
+        "restart_of": view.restart_of and view.restart_of.key,
+        "restarts": [dataclasses.asdict(link) for link in view.restarts],
         "end": view.end,
         "steps": [step_json(step) for step in view.steps],
+        "calls": [call_json(call) for call in calls.of(view, time.time())],
         "held": [held_json(entry) for entry in view.held],
     }
+
+
+def restarted_text(view: SagaView) -> str:
+    """Return the key of the saga that a saga restarts, and whether that one was deleted."""
+    old = view.restart_of
+    return old.key + ("" if old.phase else " (deleted)") if old else ""
 
 
 def resolved_text(view: SagaView) -> str:
     """Return when a saga was resolved, and by whom if this is known."""
     if (note := view.resolution) is None:
         return ""
-    return moment(note.at) + (f" by {note.told['by']}" if note.told.get("by") else "")
+    return moment(note.at) + (f" by {note.arguments['by']}" if note.arguments.get("by") else "")
 
 
 def step_json(step: StepView) -> Json:
@@ -152,10 +178,11 @@ def step_json(step: StepView) -> Json:
     return {
         "step": step.name,
         "state": known_state(step.state),
+        "optional_failure": step.is_optional_failure,
         "attempts": step.attempts,
         "started": step.began,
         "ended": step.ended,
-        "result": step.said,
+        "result": step.detail,
         "progress": step.progress and step.progress.fraction,
         "detail": step.progress and step.progress.detail,
         "early": step.early,
@@ -175,18 +202,50 @@ def show_steps(view: SagaView) -> None:
         undo = undos.get(step.name) if step.state == "undo_failed" else None
         early = f"reported early: {step.early}" if step.early else None
         detail = "; ".join(
-            filter(None, [short(str(step.progress or "") or step.said), undo, early])
+            filter(None, [short(str(step.progress or "") or step.detail), undo, early])
         )
         times = moment(step.began), moment(step.ended)
-        state = state_text(step.state, is_over=view.phase != "open")
+        is_over, is_optional = view.phase != "open", step.is_optional_failure
+        state = state_text(step.state, is_over, is_optional)
         cells.append((step.name, state, step.attempts, *times, detail))
     print(table(heads, cells))
 
 
+def show_calls(repeated: Sequence[CallTimes]) -> None:
+    """Print the calls of attempts that were called more than once."""
+    if not repeated:
+        return
+    heads = ["STEP", "CALL", "BEGAN", "ENDED", "OUTCOME", "NODE OR WORKER", "ERROR"]
+    cells = [
+        (
+            f"{call.step} (undo)" if call.undo else call.step,
+            call.number,
+            moment(call.began),
+            moment(call.ended),
+            call.outcome or "",
+            call.worker or call.node or "",
+            short(call.error or ""),
+        )
+        for call in repeated
+    ]
+    print()
+    print(table(heads, cells))
+
+
+def call_json(call: CallTimes) -> Json:
+    """Return a call as JSON."""
+    fields = dataclasses.asdict(call)
+    fields["kind"] = "undo" if fields.pop("undo") else "run"
+    return {name: value for name, value in fields.items() if name != "is_repeated"}
+
+
 def log(path: str, options: argparse.Namespace) -> int:
-    """Print the events of a saga. Commands of operators are `note` events."""
+    """Print the events of a saga.
+
+    Commands of operators are `note` events, and repeated calls of an attempt are `call` events.
+    """
     with Snapshot(path, read_by(options)) as store:
-        events = store.saga(options.key).history
+        events = calls.history(store.saga(options.key), time.time())
     if options.json:
         show_json([dataclasses.asdict(event) for event in events])
     else:
@@ -199,11 +258,17 @@ def log(path: str, options: argparse.Namespace) -> int:
 
 def detail_of(event: HistoryEvent) -> str:
     """Return the result of an event on one line; for a command, who sent it and why."""
+    if event.event == "fail" and (event.value or {}).get("optional") is True:
+        return short(f"optional: {event.value['error']}")
+    if event.event == calls.CALL:
+        return short(call_text(event.value))
     if event.event != "note":
         return short(event.value)
     command: Json = event.value
     answer = command["answer"]
     action = f"{command['what']} (undo)" if command.get("kind") == "undo" else command["what"]
+    if "new_key" in command:
+        action += f" as {command['new_key']}"
     by = f" by {command['by']}" if command.get("by") else ""
     why = "; ".join(filter(None, [command.get("note"), command.get("error")]))
     outcome = ""
@@ -255,12 +320,14 @@ def draw(path: str, options: argparse.Namespace) -> int:
 
 def export(path: str, options: argparse.Namespace) -> int:
     """Print everything that is stored of a saga, as JSON."""
-    with Snapshot(path, read_by(options)) as store:
+    read = read_by(options)
+    with Snapshot(path, read) as store:
         view = store.saga(options.key)
     show_json(
         view_json(view)
         | {
             "definition": view.definition,
+            "shape": None if view.shape is None else read(view.shape),
             "events": [{"at": at, **event} for at, event in view.lines],
             "results": results_json(view),
             "notes": [dataclasses.asdict(note.event) for note in view.notes],

@@ -1,8 +1,9 @@
 """`sagas store STORE COMMAND`: its arguments and its errors.
 
-Commands that only inspect the store change nothing. `abort`, `complete`, `fail`, `retry` and
-`compensate` store a request. The program that has the store open handles it, or the next one
-that opens it. `resolve` marks sagas as resolved by an operator.
+Commands that only inspect the store change nothing. `abort`, `complete`, `fail`, `retry`,
+`compensate` and `restart` store a request. The program that has the store open handles it, or the
+next one that opens it. `resolve` marks sagas as resolved by an operator. `pause` and `resume` are
+obeyed by each program that has the store open.
 """
 
 from __future__ import annotations
@@ -14,12 +15,14 @@ from collections.abc import Callable
 
 from sagas.base.errors import SagasError
 from sagas.base.options import not_negative
-from sagas.cli.actions import abort, compensate, complete, fail, resolve, retry
+from sagas.cli.actions import abort, compensate, complete, erase, fail, resolve, restart, retry
 from sagas.cli.audits import audit
+from sagas.cli.decisions import add_decisions_options, decisions
 from sagas.cli.formatting import CANNOT, INTERRUPTED, complain, drop_output, escape
 from sagas.cli.listings import (
     add_deliveries_options,
     add_schedules_options,
+    add_attention_options,
     attention,
     definitions,
     deliveries,
@@ -37,10 +40,12 @@ from sagas.cli.maintenance import (
     own_blobs,
     prune,
 )
-from sagas.cli.nodes import nodes
+from sagas.cli.nodes import add_drains, nodes
 from sagas.cli.options import add_app_option, add_filter_options, add_limit_option
+from sagas.cli.pauses import add_pauses
 from sagas.cli.records import record
 from sagas.cli.saga_views import draw, export, list_sagas, log, plan, show
+from sagas.cli.upgrade import add_check_options, check
 from sagas.storage.admin import Trouble
 from sagas.storage.queries import PHASES
 
@@ -55,14 +60,22 @@ EXAMPLES = {
     "log": "log order-1",
     "plan": "plan order-1",
     "draw": "draw order-1 | dot -Tsvg > order-1.svg",
+    "decisions": "decisions --key order-1",
     "abort": 'abort order-1 --note "customer left"',
     "complete": "complete order-1 review --result '\"yes\"'",
     "fail": 'fail order-1 review "unknown customer"',
     "retry": "retry order-1 charge",
     "compensate": "compensate order-1 charge",
+    "restart": "restart order-1 order-1-2",
     "resolve": 'resolve order-1 --note "sent by courier"',
+    "erase": "erase order-1 --yes",
     "export": "export order-1 > order-1.json",
+    "check": "check --app shop:SAGAS",
     "schedules": "schedules pause nightly",
+    "pause": 'pause pay charge --note "the bank is down"',
+    "resume": "resume pay charge",
+    "drain": 'drain web-1 --note "its machine is replaced"',
+    "undrain": "undrain web-1",
     "deliveries": "deliveries --state failed",
     "prune": "prune --older-than 30d",
     "init": "init --role shop",
@@ -80,10 +93,17 @@ REFUSED = {
     ),
     "retry": "no saga or step has the name, or the step cannot be attempted again",
     "compensate": "no saga or step has the name, or no report of the step is unused",
+    "restart": "no saga has the key, it cannot be restarted, or the new key has another saga",
     "resolve": "a saga does not exist, or does not need to be resolved",
+    "erase": "no saga has the key, it cannot be erased, or --yes is missing",
+    "check": "an open saga cannot continue, or could not be checked",
     "audit": "a shard has an event that was not allowed, or differs from the rows",
     "record": "a record is not allowed, or something that was acknowledged is missing",
     "schedules": "no schedule has the name",
+    "pause": "no definition or step has the name",
+    "resume": "the scope is not paused",
+    "drain": "no node has the name",
+    "undrain": "the node is not drained",
     "deliveries": "no delivery has the id",
     "prune": "another program is deleting ended sagas of this store",
 }
@@ -92,7 +112,8 @@ REFUSED = {
 
 def ending(name: str) -> str:
     """Return an example of a command, and its exit statuses."""
-    store = "postgresql:///shop" if name in ("init", "nodes", "record") else "shop.db"
+    is_database = name in ("init", "nodes", "record", "drain", "undrain")
+    store = "postgresql:///shop" if is_database else "shop.db"
     usage = "invalid arguments" + ("" if store == "shop.db" else ", or the store is a file")
     statuses = {0: "done", 1: REFUSED.get(name), 2: usage, 4: CANNOT_USE, 130: "interrupted"}
     lines = [f"  {status:<3}  {meaning}" for status, meaning in statuses.items() if meaning]
@@ -127,11 +148,14 @@ def parser() -> argparse.ArgumentParser:
 
     add_looks(add)
     add_asks(add)
+    add_pauses(add)
     add_schedules_options(add("schedules", schedules))
     add_deliveries_options(add("deliveries", deliveries))
+    add_check_options(add("check", check))
     add("audit", audit)
     add_files(add("record", record))
     add("nodes", nodes)
+    add_drains(add)
     add("migrate", migrate)
     add_role_option(add("init", init))
     add_app_option(add("export", export, key=True))
@@ -179,8 +203,9 @@ def add_looks(add: Add) -> None:
     add("stats", stats)
     add("definitions", definitions)
     add("stuck", stuck)
-    add_limit_option(add("attention", attention), "entries")
+    add_attention_options(add("attention", attention))
     add("pending", pending)
+    add_decisions_options(add("decisions", decisions))
 
 
 def add_asks(add: Add) -> None:
@@ -215,12 +240,20 @@ def add_asks(add: Add) -> None:
     part.add_argument("step", metavar="STEP", help="the step's name")
     add_note(part)
     add_timeout(part)
+    part = add("restart", restart, key=True)
+    part.add_argument("new_key", metavar="NEW_KEY", help="the key of the new saga")
+    add_note(part)
+    add_timeout(part)
     part = add("resolve", resolve)
     part.add_argument("key", metavar="KEY", nargs="*", help="the sagas' keys")
     part.add_argument("--all", action="store_true", help="every unresolved saga, instead of KEYs")
     add_filter_options(part, "with --all: ")
     part.add_argument("--count", action="store_true", help="with --all: only count them")
     part.add_argument("--note", required=True, metavar="TEXT", help="what was done")
+    add_by(part)
+    part = add("erase", erase, key=True)
+    part.add_argument("--yes", action="store_true", help="erase it (default: only ask)")
+    add_by(part)
 
 
 def add_steps(part: argparse.ArgumentParser, verb: str) -> None:
@@ -271,6 +304,14 @@ def add_early(part: argparse.ArgumentParser) -> None:
 def add_note(part: argparse.ArgumentParser) -> None:
     """Add the option for a note."""
     part.add_argument("--note", metavar="TEXT", help="the reason, stored with the time")
+    add_by(part)
+
+
+def add_by(part: argparse.ArgumentParser) -> None:
+    """Add the option for who decides."""
+    part.add_argument(
+        "--by", metavar="NAME", help="who decides, for `decisions` (default: the login name)"
+    )
 
 
 def add_timeout(part: argparse.ArgumentParser) -> None:

@@ -10,7 +10,7 @@ import dataclasses
 import enum
 
 from sagas.base.errors import StepNotWaiting
-from sagas.core.batch import SagaRow
+from sagas.core.shard.batch import SagaRow
 from sagas.core.states import undo_failures
 
 
@@ -33,6 +33,19 @@ class AttentionReason(enum.StrEnum):
     CANNOT_DECODE = "cannot_decode"
     """No program could read a stored value. Open the store with one that can, or report the outcome
     by `Store.complete`."""
+    PROGRAM_ERROR = "program_error"
+    """A function has a bug, and the attempt waits. Open the store with a program without it, or
+    answer by `Store.retry`, `Store.complete` or `Store.fail`."""
+    ON_END = "on_end"
+    """It has ended, and no program could start the call of its `on_end` function. Open the store
+    with one that has the function, and can read the stored values. A call that was started waits
+    with another reason, under its own key `KEY/::end`."""
+    NO_DEFINITION = "no_definition"
+    """The node that has its shard does not have all functions of its saga. Start a node that has
+    them."""
+    NO_NODE = "no_node"
+    """No node has had its shard for half a minute, because none runs, or none has the functions of
+    its sagas. Start a node that has them."""
     DAMAGED = "damaged"
     """The stored data of its shard is damaged, and no program can open the shard. The saga does
     not continue until the shard is repaired or deleted."""
@@ -47,7 +60,7 @@ class Attention:
         saga: The saga's name.
         why: The reason.
         step: The step; of a stuck saga, the last of the blocking steps; None if its shard is
-            damaged.
+            damaged, or if the reason is `on_end`.
         undo: Whether the step's compensation is meant.
         detail: What was raised or cannot be read; of a stuck saga, the blocking steps and what
             the step raised; of an unused report its result as JSON, or None if it cannot be

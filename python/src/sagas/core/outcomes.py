@@ -9,14 +9,24 @@ import traceback
 from collections.abc import Callable
 from typing import Any, NamedTuple, cast
 
-from sagas.base.errors import CannotDecode, Fail, NotSerializable, RetryAfter, Unknown
-from sagas.base.events import quoted
+from sagas.base.errors import (
+    CannotDecode,
+    Fail,
+    NotSerializable,
+    ProgramError,
+    Retry,
+    RetryAfter,
+    StepFailed,
+    Unknown,
+    WouldWaitForever,
+)
+from sagas.base.events import PACKAGE_FOLDER, quoted
 from sagas.base.logger import logger
 from sagas.core.states import OutcomeKind
 from sagas.definition import serialization
 from sagas.definition.waits import Answer
 from sagas.definition.payloads import BlobUnavailable, Payloads
-from sagas.definition.call_options import Manner, Unknowns
+from sagas.definition.call_options import Exceptions, Manner
 from sagas.definition.task import Task
 
 MAX_TEXT = 4000
@@ -24,11 +34,20 @@ MAX_TEXT = 4000
 SUCCEEDED, FAILED = OutcomeKind.SUCCEEDED, OutcomeKind.FAILED
 PERMANENT, UNKNOWN = OutcomeKind.FAILED_PERMANENTLY, OutcomeKind.UNKNOWN
 CANNOT_DECODE, ANSWERED = OutcomeKind.CANNOT_DECODE, OutcomeKind.ANSWERED
+PROGRAM_ERROR = OutcomeKind.PROGRAM_ERROR
+PROGRAM_ERRORS = (NameError, ImportError, ProgramError, WouldWaitForever)
+"""Exceptions that a repetition raises again: the program has to change."""
+SYNTAX_ERRORS = (SyntaxError, IndentationError, TabError)
+"""These, too, but not their other subclasses, which parsers of data raise."""
+HAS_TEXT = frozenset({UNKNOWN, CANNOT_DECODE, PROGRAM_ERROR})
+"""Outcomes whose value is a plain text."""
 UNREADABLE = "unreadable"
 """The key of a report whose task could not be given to a worker. No worker's report has it."""
 TEMPORARY = "passes"
 """The value of that key if the task's values may be readable later."""
-PRECEDENCE = (UNKNOWN, CANNOT_DECODE, PERMANENT, FAILED)
+BUG = "program_error"
+"""The key of a report of a worker whose function has a bug."""
+PRECEDENCE = (PROGRAM_ERROR, UNKNOWN, CANNOT_DECODE, PERMANENT, FAILED)
 """The kind of a group of exceptions: the first of these that any member has."""
 
 
@@ -37,10 +56,11 @@ class Outcome(NamedTuple):
 
     Attributes:
         kind: The kind of outcome.
-        value: JSON of the result or of the error. A plain text if the outcome is unknown or the
-            values could not be decoded.
+        value: JSON of the result or of the error. A plain text if the outcome is unknown, the
+            program has an error, or the values could not be decoded.
         called: Whether the function was called; else the attempt was given up.
-        error: The exception that the function raised, for the log's traceback. None for a `Fail`.
+        error: The exception that the function raised, for the log's traceback. None for a `Fail`
+            and an `Unknown`.
         encoded: Whether the codec has encoded the value already.
     """
 
@@ -116,6 +136,23 @@ def failure(
     return Outcome(PERMANENT if final else FAILED, serialization.write(detail), called)
 
 
+def optional_failure(detail: str) -> Outcome:
+    """Return the failure of an optional step, or of a collected item, as the engine gets it.
+
+    It is stored as the result, and no codec encodes it. `detail`: what was raised.
+    """
+    return Outcome(SUCCEEDED, serialization.write({serialization.FAILED: detail}), encoded=True)
+
+
+def is_optional_failure(outcome: Outcome | None) -> bool:
+    """Return whether an outcome is one of `optional_failure`."""
+    return (
+        outcome is not None
+        and outcome.encoded
+        and outcome.value.startswith(serialization.FAILED_HEAD)
+    )
+
+
 def values_unavailable(error: BlobUnavailable) -> Outcome:
     """Return the outcome of an attempt whose values the blob store cannot return now."""
     return _text_outcome(CANNOT_DECODE, str(error))._replace(error=error)
@@ -136,12 +173,29 @@ def read_report(kind: OutcomeKind, value: str) -> Outcome:
         if report[UNREADABLE] == TEMPORARY:
             return values_unavailable(BlobUnavailable(str(report["error"])))
         return _text_outcome(CANNOT_DECODE, str(report["error"]))
+    if kind is FAILED and BUG in value and (report := json.loads(value)).get(BUG):
+        return program_error(str(report["error"]))
     return Outcome(kind, value)
 
 
 def parked(text: str) -> Outcome:
     """Return the outcome of an attempt that only another program can make."""
     return _text_outcome(CANNOT_DECODE, text)
+
+
+def program_error(text: str, error: BaseException | None = None) -> Outcome:
+    """Return the outcome of a function with a bug."""
+    return _text_outcome(PROGRAM_ERROR, text)._replace(error=error)
+
+
+def worker_report(outcome: Outcome) -> Outcome:
+    """Return an outcome as a worker's report stores it. `read_report` returns it again.
+
+    A bug of the worker is a failure with a mark, so it counts only under the newest lease.
+    """
+    if outcome.kind is not PROGRAM_ERROR:
+        return outcome
+    return Outcome(FAILED, serialization.write({"error": outcome.value, BUG: True}))
 
 
 def unknown(text: str) -> Outcome:
@@ -154,34 +208,74 @@ def _text_outcome(kind: OutcomeKind, text: str) -> Outcome:
     return Outcome(kind, serialization.clean(text[:MAX_TEXT])[:MAX_TEXT])
 
 
+def overdue(text: str, manner: Manner) -> Outcome:
+    """Return the outcome of a call that its timeout has ended."""
+    return failure(text) if manner.transaction else unknown(text)
+
+
 def raised(error: BaseException, manner: Manner) -> Outcome:
     """Return the outcome of a function that raised `error`."""
-    kind = classify(error, manner.unknown)
+    kind = classify(error, manner.no_effect, manner.transaction)
     text = str(error) if isinstance(error, CannotDecode) else describe_error(error)
-    if kind is UNKNOWN or kind is CANNOT_DECODE:
+    if kind is CANNOT_DECODE:
         return _text_outcome(kind, text)
+    if kind is UNKNOWN:
+        return _text_outcome(kind, text)._replace(
+            error=None if isinstance(error, Unknown) else error
+        )
+    if kind is PROGRAM_ERROR:
+        return program_error(located(error, text), error)
     if kind is PERMANENT:
         return failure(text, final=True)
     after = error.seconds if isinstance(error, RetryAfter) else None
     return failure(text, retry_after=after)._replace(error=error)
 
 
-def classify(error: BaseException, unknown: Unknowns) -> OutcomeKind:
+def classify(
+    error: BaseException, no_effect: Exceptions = (), is_rolled_back: bool = False
+) -> OutcomeKind:
     """Return the kind of outcome of an exception.
 
     For a group, as `asyncio.TaskGroup` raises it, this is the first kind of `PRECEDENCE` that any
     member has.
+
+    Args:
+        error: What the function raised.
+        no_effect: Exceptions that mean that there was no effect.
+        is_rolled_back: Whether the function ran in a transaction, which is rolled back.
     """
     if isinstance(error, CannotDecode):
         return CANNOT_DECODE
-    if isinstance(error, Fail):
+    if isinstance(error, (Fail, StepFailed)):
         return PERMANENT
-    if isinstance(error, (Unknown, *unknown)):
+    if isinstance(error, Retry):
+        return FAILED
+    if isinstance(error, Unknown):
         return UNKNOWN
+    if isinstance(error, PROGRAM_ERRORS) or type(error) in SYNTAX_ERRORS:
+        return PROGRAM_ERROR
     if isinstance(error, BaseExceptionGroup):
-        kinds = {classify(member, unknown) for member in error.exceptions}
+        kinds = {classify(member, no_effect, is_rolled_back) for member in error.exceptions}
         return next(kind for kind in PRECEDENCE if kind in kinds)
-    return FAILED if isinstance(error, Exception) else UNKNOWN  # for example, sys.exit()
+    return FAILED if is_rolled_back or isinstance(error, no_effect) else UNKNOWN
+
+
+def located(error: BaseException, text: str) -> str:
+    """Return the text of an error with the file and the line of the user's code that raised it."""
+    frame = user_frame(error)
+    if frame is None and isinstance(error, BaseExceptionGroup):
+        bugs = [member for member in error.exceptions if classify(member) is PROGRAM_ERROR]
+        return located(bugs[0], text) if bugs else text
+    return f"{text} ({frame})" if frame else text
+
+
+def user_frame(error: BaseException) -> str | None:
+    """Return file, line and function of the innermost frame outside of this package."""
+    frames = traceback.extract_tb(error.__traceback__)
+    for frame in reversed(frames):
+        if not frame.filename.startswith((PACKAGE_FOLDER, "<frozen ")):
+            return f"{frame.filename}:{frame.lineno} in {frame.name}"
+    return None
 
 
 def describe_error(error: BaseException) -> str:
@@ -208,29 +302,13 @@ def _line_of(error: BaseException) -> str:
 
 def error_text(outcome: Outcome) -> str:
     """Return why an attempt did not succeed, for people; empty if it did."""
+    if is_optional_failure(outcome):
+        return serialization.optional_failure(outcome.value) or ""
     if outcome.kind in (SUCCEEDED, ANSWERED):
         return ""
-    if outcome.kind in (UNKNOWN, CANNOT_DECODE):
+    if outcome.kind in HAS_TEXT:
         return outcome.value
     return str(serialization.read(outcome.value).get("error"))
-
-
-def unknown_hint(error: BaseException | None, manner: Manner) -> str:
-    """Return what the log adds to a failure whose cause has an unknown outcome; else empty.
-
-    Clients often raise their own exceptions from a timeout.
-    """
-    seen, cause = set[int](), error
-    while cause is not None and id(cause) not in seen:
-        seen.add(id(cause))
-        cause = cause.__cause__ or (None if cause.__suppress_context__ else cause.__context__)
-        if isinstance(cause, (Unknown, *manner.unknown)):
-            name = f"{type(error).__module__}.{type(error).__qualname__}"
-            return (
-                f"; its cause is {type(cause).__name__}. If the outcome is unknown then, "
-                f"declare the step with unknown=({name},)"
-            )
-    return ""
 
 
 def approval_outcome(outcome: Outcome) -> Outcome:

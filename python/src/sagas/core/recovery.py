@@ -18,22 +18,26 @@ from collections.abc import Iterator, Mapping, Sequence
 from typing import Any
 
 from sagas.core import protocol
-from sagas.core.batch import LoadedShard, OpenSagaRow, StoredSuspension
-from sagas.core.effects import Abort, Effects, ReplyReader
-from sagas.core.attempt import Attempt, FINISHED, RUNNING
-from sagas.core.saga_instance import SagaInstance
+from sagas.core.shard.batch import LoadedShard, OpenSagaRow, StoredSuspension
+from sagas.core.effects import Abort, Effects
+from sagas.core.attempt.model import Attempt, FINISHED, RUNNING
+from sagas.core.attempt.instance import SagaInstance
 from sagas.core.outcomes import SUCCEEDED, Outcome, failure
+from sagas.core.protocol import ReplyReader
 from sagas.core.reports import EARLY_ATTEMPT
-from sagas.core.shard import ShardDriver
+from sagas.core.shard.driver import ShardDriver
 from sagas.core.states import (
     AFTER_FAILURE,
+    NEEDS_PROGRAM,
     PARKED,
     EarlyReason,
     EnginePhase,
     OutcomeKind,
+    RowState,
     Suspension,
 )
 from sagas.definition.capacity import SHARD_CAPACITY
+from sagas.definition.serialization import FAILED_HEAD
 from sagas.definition.start_options import StartOptions
 
 DEVIATION_EVENTS = re.compile(
@@ -139,7 +143,7 @@ def recover(
     now: float,
     previous: ShardDriver,
     known: Mapping[str, SagaInstance],
-    is_shared: bool = False,
+    supports_nodes: bool = False,
     overdue: Sequence[int] = (),
     log_text: str = "",
 ) -> Recovery:
@@ -151,7 +155,7 @@ def recover(
         now: Wall time in seconds.
         previous: The driver as this program knew it. It is `LOADING`, and becomes `ACTIVE`.
         known: The program's sagas by key.
-        is_shared: Whether other nodes have shards in the store: then a key that the program
+        supports_nodes: Whether other nodes have shards in the store: then a key that the program
             wanted to open elsewhere may belong to another saga.
         overdue: The numbers of the sagas that the engine was requested to abort.
         log_text: The event log's new lines, which are the aborts.
@@ -166,7 +170,7 @@ def recover(
     driver.restart(rows)
     recovery = Recovery(driver.effects(now))
     for row in rows.open:
-        _restore(recovery, driver, row, known, is_shared)
+        _restore(recovery, driver, row, known, supports_nodes)
     recovery.gone = [
         saga
         for saga in previous_sagas.values()
@@ -198,8 +202,9 @@ def _apply_aborts(
 ) -> None:
     """Apply the aborts of sagas whose deadlines have passed, before their attempts continue."""
     if overdue:
-        effects.batch.text = log_text
-        driver.events += effects.batch.count_lines()
+        batch = effects.batch
+        batch.text, batch.lines = log_text, log_text.count("\n")
+        driver.events += batch.lines
         ReplyReader(driver, effects).overdue([driver.sagas[number] for number in overdue], replies)
         for saga in effects.rare.overdue:
             saga.rare.may_cancel_work = (
@@ -221,12 +226,12 @@ def _restore(
     driver: ShardDriver,
     row: OpenSagaRow,
     known: Mapping[str, SagaInstance],
-    is_shared: bool,
+    supports_nodes: bool,
 ) -> None:
     """Restore an open saga of the store, with this program's object if it is the same saga."""
-    id, key, definition_index, text, deadline, traceparent, shape = row
+    id, key, definition_index, text, deadline, traceparent, shape, started_at = row
     saga = known.get(key)
-    if saga is not None and (saga.shard is driver or not is_shared):
+    if saga is not None and (saga.shard is driver or not supports_nodes):
         saga.forget()
     else:
         options = StartOptions(deadline=deadline, shape=shape, traceparent=traceparent)
@@ -234,7 +239,10 @@ def _restore(
         other, saga = saga, SagaInstance(key, text, kind, definition_index, options)
         if other is not None:
             recovery.replaced.append((other, saga))
-    saga.number, saga.shard, saga.committed = id % SHARD_CAPACITY, driver, True
+    saga.number, saga.shard = id % SHARD_CAPACITY, driver
+    saga.committed, saga.has_unchecked_key, saga.started_at = True, False, started_at
+    if saga.kind.missing_function is not None:
+        saga.rare.missing_function = saga.kind.missing_function
     driver.sagas[saga.number] = saga
     recovery.restored.append(saga)
 
@@ -248,14 +256,15 @@ def _apply_rows(driver: ShardDriver, rows: LoadedShard) -> None:
             early = driver.sagas[id % SHARD_CAPACITY].rare.early_reports
             early[step, kind] = (EarlyReason(why), text or "")
             continue
-        reason = Suspension(why)
-        if reason is Suspension.CANNOT_DECODE and until is None:
+        reason = Suspension.stored(why, until)
+        if reason in NEEDS_PROGRAM and until is None:
             continue  # it may be a wait whose end could not be computed
-        is_called = reason in PARKED  # its time was over
-        if is_called or (reason is Suspension.TIMER and until is not None):
-            due = driver.sagas[id % SHARD_CAPACITY].rare.wait_ends
-            time = 0.0 if is_called or until is None else until
-            due[step, kind] = min(time, due.get((step, kind), time))
+        extras = driver.sagas[id % SHARD_CAPACITY].rare
+        if reason is Suspension.WAIT_OVER or reason in PARKED:
+            extras.end_wait((step, kind))
+        elif reason is Suspension.TIMER and until is not None:
+            if (step, kind) not in extras.waits_over:
+                extras.wait_ends[step, kind] = min(until, extras.wait_ends.get((step, kind), until))
 
 
 def _apply_result(
@@ -264,7 +273,9 @@ def _apply_result(
     if outcome == "commit":
         saga.put_result(step, value)
     elif outcome == "undone":
-        saga.results.pop(step, None)
+        dropped = saga.results.pop(step, "")
+        if dropped.startswith(FAILED_HEAD):
+            saga.rare.failed[step] = dropped
         saga.has_deviated = True
     elif outcome != "ok":
         saga.has_deviated = True
@@ -318,6 +329,7 @@ def _resume(
         if row in stored_results and attempt.state is not FINISHED:
             *_, value, at = stored_results[row]
             attempt.finish(Outcome(SUCCEEDED, value or "null", encoded=True), at)
+            attempt.is_recorded = True  # so that a server without the row makes it again
         recovery.resumed.append(attempt)
     recovery.forgotten += old.values()
 
@@ -340,6 +352,7 @@ def _restored_attempt(
     attempt = Attempt(saga, *key, is_uncalled=previous is not None and is_ours)
     if (
         attempt.is_uncalled
+        and attempt.missing_function is None
         and attempt.manner.external
         and attempt.action_key not in saga.rare.final
     ):
@@ -350,14 +363,10 @@ def _restored_attempt(
 def _apply_suspension(attempt: Attempt, row: StoredSuspension) -> None:
     """Apply the stored suspension to an attempt."""
     _, _, _, _, why, count, since, until, error = row
-    reason = Suspension(why)
-    attempt.reason, attempt.waiting_since, attempt.until, attempt.has_row = (
-        reason,
-        since,
-        until,
-        True,
-    )
-    attempt.rare.last_note = why
+    reason = Suspension.stored(why, until)
+    attempt.reason, attempt.waiting_since, attempt.until = reason, since, until or None
+    attempt.row_state = RowState.STORED
+    attempt.rare.notes.last = why
     if reason in AFTER_FAILURE:
         attempt.rare.failures, attempt.outcome = count, failure(error or "")
         return

@@ -9,19 +9,21 @@ Reports are idempotent: the same report again is accepted, a different one confl
 
 from __future__ import annotations
 
+import contextlib
 import dataclasses
 import json
 from collections.abc import Collection, Iterable, Mapping
 from typing import Any
 
 from sagas.base.errors import ConflictingReport, InvalidResult, StepNotWaiting
-from sagas.core.batch import RequestRef, SagaRow, StoredSuspension
-from sagas.core.saga_instance import SagaInstance
-from sagas.core.outcomes import SUCCEEDED, Outcome
+from sagas.core.shard.batch import RequestRef, SagaRow, StoredSuspension
+from sagas.core.attempt.instance import SagaInstance
+from sagas.core.outcomes import SUCCEEDED, Outcome, failure
 from sagas.core.states import Action, EarlyReason, EnginePhase, OutcomeKind, SagaPhase
-from sagas.definition import children
+from sagas.definition import child_sagas, input_types
 from sagas.definition.compiled import ActionKey
 from sagas.definition.payloads import PLAIN, Payloads
+from sagas.definition.serialization import Decoder, optional_failure
 
 
 # -- early reports
@@ -92,7 +94,7 @@ def refusal_reason(saga: SagaInstance, step: int, kind: str) -> str | None:
     if kind == Action.COMPENSATE or declared is None:
         return NOT_STARTED_TEXT
     if declared.kind != "approval" and not declared.run.external:
-        return "it has not started, and is neither an approval nor external. Nobody reports it"
+        return "it has not started, and is neither an approval nor external, so it takes no report"
     if saga.aborted or saga.draining or saga.answer is not None:
         return "it has not started, and does not start any more: the saga is being undone"
     return None
@@ -100,9 +102,9 @@ def refusal_reason(saga: SagaInstance, step: int, kind: str) -> str | None:
 
 def stored_report(saga: SagaInstance, word: ActionKey) -> Outcome | None:
     """Return the report that is stored for a step, with its value as stored; None if none."""
-    if not saga.has_early or word not in saga.rare.early_reports:
+    if saga.extras is None or word not in saga.extras.early_reports:
         return None
-    reason, text = saga.rare.early_reports[word]
+    reason, text = saga.extras.early_reports[word]
     return Outcome(EARLY_OUTCOMES[reason], text)
 
 
@@ -120,7 +122,9 @@ def steps_without_effect(saga: SagaInstance) -> list[int]:
 
 
 def _unused_successes(saga: SagaInstance) -> list[int]:
-    early = saga.rare.early_reports if saga.has_early else {}
+    if saga.extras is None:
+        return []
+    early = saga.extras.early_reports
     return sorted(step for (step, _), (reason, _) in early.items() if reason is EarlyReason.RESULT)
 
 
@@ -152,7 +156,11 @@ def end_text(rows: Iterable[tuple[Any, ...]], step_index: int, kind: str) -> str
 
     `rows`: the rows of `RESULTS`.
     """
-    events = [event for step, action, event, _ in rows if (step, action) == (step_index, kind)]
+    events = [
+        "fail" if optional_failure(value) is not None else event
+        for step, action, event, value in rows
+        if (step, action) == (step_index, kind)
+    ]
     return END_TEXTS.get(events[-1]) if events else None
 
 
@@ -162,12 +170,15 @@ def first_outcome(rows: Iterable[tuple[Any, ...]], step_index: int, kind: str) -
     for step, word, outcome, value in rows:
         if (step, word) != (step_index, kind):
             continue
+        if (detail := optional_failure(value)) is not None:
+            result = failure(detail, final=True)
+            continue
         if outcome in SUCCESS_EVENTS:
             result = Outcome(OutcomeKind.SUCCEEDED, value or "null")
             continue
-        failure = json.loads(value or "{}")
-        if failure.get("called", True):
-            is_final = failure.get("final") or outcome in ("fail", "undo_fail")
+        error = json.loads(value or "{}")
+        if error.get("called", True):
+            is_final = error.get("final") or outcome in ("fail", "undo_fail")
             failed = Outcome(OutcomeKind.FAILED_PERMANENTLY, value or "{}")
             result = failed if is_final else None
     return result
@@ -229,6 +240,7 @@ def ended_error(row: SagaRow) -> StepNotWaiting:
 
 CHILD_RESULT_PARTS = {"key", "phase", "results"}
 CHILD_RESULT_FORM = '{"key": KEY, "phase": "completed", "results": {STEP: RESULT}}'
+EACH_RESULT_FORM = f"a list of {CHILD_RESULT_FORM}, one for each child"
 CHILDREN_QUERY = "SELECT s.key, {} FROM children c JOIN sagas s ON s.id = c.id WHERE c.parent = ?"
 """Select the children of a saga by its id. `{}` takes the expression of the phase."""
 
@@ -254,7 +266,7 @@ def check_child_result(
             no child. The message does not show the result.
     """
     children_phases = {
-        key_of: phase for key_of, phase in rows if children.is_of_step(key_of, key, step)
+        key_of: phase for key_of, phase in rows if child_sagas.is_of_step(key_of, key, step)
     }
     if problem := _form_error(result, steps) or _key_error(result["key"], children_phases):
         known = (
@@ -267,6 +279,62 @@ def check_child_result(
             f"{CHILD_RESULT_FORM}: KEY is that of its child ({known}), or null if there is "
             "nothing to undo. Nothing was stored"
         )
+
+
+def check_children_result(
+    key: str,
+    step: str,
+    result: Any,
+    rows: Collection[tuple[str, str]],
+    steps: Collection[str] | None,
+) -> None:
+    """Check a result that is reported by hand for a step that starts a child for each item.
+
+    The arguments are those of `check_child_result`, with the steps of one of the children.
+
+    Raises:
+        InvalidResult: It is not a list of results of children of one saga that has ended.
+    """
+    phases = {key_of: phase for key_of, phase in rows if child_sagas.is_of_step(key_of, key, step)}
+    problem = "this is not a list" if not isinstance(result, list) else None
+    for index, entry in enumerate(result if problem is None else ()):
+        problem = problem or (reason := _form_error(entry, steps)) and f"entry {index}: {reason}"
+    if problem is None:
+        made = {child_sagas.parent_of(entry["key"]) for entry in result if entry["key"]}
+        problem = "the keys are of children of several sagas" if len(made) > 1 else None
+        problem = problem or _key_error(next(iter(made), None), phases)
+    if problem is not None:
+        raise InvalidResult(
+            f"saga {key!r}, step {step!r}: {problem}. Complete a step that starts a child for each "
+            f"item with {EACH_RESULT_FORM}: KEY is that of the child, or null if there is nothing "
+            "to undo. Nothing was stored"
+        )
+
+
+def check_result_type(
+    key: str, step: str, outcome: Outcome, decoders: Mapping[str, Decoder]
+) -> None:
+    """Check a result that is reported by hand, because steps that read it would wait for ever.
+
+    Args:
+        key: The saga's key.
+        step: The step's name.
+        outcome: What is reported.
+        decoders: The decoders of results, by step.
+
+    Raises:
+        InvalidResult: The result does not have the type that the step's function declares. The
+            message does not show the result.
+    """
+    decode = decoders.get(step) if outcome.kind is OutcomeKind.SUCCEEDED else None
+    if decode is None:
+        return
+    with contextlib.suppress(NameError):  # a type that nothing can read
+        if fault := input_types.fault_of(outcome.value, decode):
+            raise InvalidResult(
+                f"saga {key!r}, step {step!r}: result{fault}. Report a result of the type that "
+                "the step's function declares. Nothing was stored"
+            )
 
 
 def _form_error(result: Any, steps: Collection[str] | None) -> str | None:

@@ -1,4 +1,4 @@
-"""Every set of states, its transitions and its words.
+"""Every set of states, its transitions and its words; attempts have `core.attempt.table`.
 
 `FINISHED` is final. If a report is refused, or a commit is lost, recovery makes new attempts from
 the rows of the store.
@@ -58,7 +58,13 @@ class Suspension(enum.StrEnum):
     """It failed, its attempts are used up, and an operator decides."""
     CANNOT_DECODE = "cannot_decode"
     """This program cannot read what the store has for it."""
+    PROGRAM_ERROR = "program_error"
+    """Its function has a bug, so this program does not call it again by itself."""
+    NO_DEFINITION = "no_definition"
+    """This program does not have all functions of its saga."""
     TIMER = "wait"
+    WAIT_OVER = "wait_over"
+    """Its time has come, and it is called when that is stored: as `TIMER`, with the time 0."""
     APPROVAL = "approval"
     EXTERNAL = "external"
     """An external worker does it, or will."""
@@ -66,15 +72,45 @@ class Suspension(enum.StrEnum):
     """Another saga does it, or will."""
     STEP_LIMIT = "limit"
     FLEET_LIMIT = "fleet"
+    PAUSED = "paused"
+    """An operator has paused its step."""
+
+    @classmethod
+    def stored(cls, text: str, until: float | None) -> Suspension:
+        """Return the reason of a stored row, from its text and its time."""
+        reason = cls(text)
+        return cls.WAIT_OVER if reason is cls.TIMER and until == 0 else reason
+
+    @property
+    def text(self) -> str:
+        """The text that is stored and shown."""
+        return Suspension.TIMER.value if self is Suspension.WAIT_OVER else self.value
+
+
+class RowState(enum.Enum):
+    """What the store has of an attempt's suspension."""
+
+    ABSENT = "absent"
+    """It has no row."""
+    PENDING = "pending"
+    """A row is being stored."""
+    STORED = "stored"
+    """It has a row, of this attempt or, for a wait, of an earlier one."""
 
 
 AFTER_FAILURE = frozenset({Suspension.RETRY, Suspension.EXHAUSTED})
 """Suspensions of an attempt whose last call had no effect."""
 COUNTS_FAILURES = AFTER_FAILURE | {Suspension.CHILD}
 """Suspensions whose row counts failures; others count unknown outcomes."""
-RETRYABLE = AFTER_FAILURE | {Suspension.UNKNOWN}
+UNCERTAIN = frozenset({Suspension.UNKNOWN, Suspension.PROGRAM_ERROR})
+"""Suspensions of an attempt whose last call may have had its effect."""
+RETRYABLE = AFTER_FAILURE | UNCERTAIN
 """Suspensions of an attempt that an operator may retry at once."""
-PARKED = RETRYABLE | {Suspension.CANNOT_DECODE}
+NEEDS_PROGRAM = frozenset(
+    {Suspension.CANNOT_DECODE, Suspension.PROGRAM_ERROR, Suspension.NO_DEFINITION}
+)
+"""Suspensions of an attempt that continues when the next program opens the store."""
+PARKED = RETRYABLE | NEEDS_PROGRAM
 """Suspensions of an attempt that was called and will be called again."""
 
 
@@ -85,6 +121,10 @@ class EarlyReason(enum.StrEnum):
     ERROR = "early_error"
     UNDONE = "early_undone"
     """It succeeded, its saga ended without it, and another saga undoes its effect, if any."""
+
+
+END_CALL = "end_call"
+"""The reason of the row by which the `on_end` call of an ended saga is due. Its step is -1."""
 
 
 class OutcomeKind(enum.StrEnum):
@@ -99,8 +139,19 @@ class OutcomeKind(enum.StrEnum):
     """It may have had its effect."""
     CANNOT_DECODE = "cannot_decode"
     """It was not called: this program cannot read what the store has for it."""
+    NO_DEFINITION = "no_definition"
+    """It was not called: this program does not have all functions of its saga."""
+    PROGRAM_ERROR = "program_error"
+    """Its function has a bug: it may have had its effect, and this program cannot complete it."""
     ANSWERED = "answered"
     """The function of an approval decided it, so no operator is asked."""
+
+
+PARKING = frozenset(
+    {OutcomeKind.CANNOT_DECODE, OutcomeKind.PROGRAM_ERROR, OutcomeKind.NO_DEFINITION}
+)
+"""Outcomes after which an attempt waits for another program: the `NEEDS_PROGRAM` of the same name.
+"""
 
 
 class StepState(enum.StrEnum):
@@ -161,27 +212,6 @@ class ShardState(enum.Enum):
     CLOSED = "closed"
 
 
-ATTEMPT_TRANSITIONS: Table[AttemptState] = {
-    AttemptState.CLAIMED: frozenset(
-        {
-            AttemptState.SUSPENDED,
-            AttemptState.QUEUED,
-            AttemptState.RUNNING,
-            AttemptState.FINISHED,
-        }
-    ),
-    AttemptState.SUSPENDED: frozenset(
-        {AttemptState.SUSPENDED, AttemptState.QUEUED, AttemptState.FINISHED}
-    ),
-    AttemptState.QUEUED: frozenset(
-        {AttemptState.SUSPENDED, AttemptState.RUNNING, AttemptState.FINISHED}
-    ),
-    # CLAIMED: the node's lease expired before the call, or its transaction may be committed
-    AttemptState.RUNNING: frozenset(
-        {AttemptState.CLAIMED, AttemptState.SUSPENDED, AttemptState.FINISHED}
-    ),
-    AttemptState.FINISHED: frozenset(),
-}
 STEP_TRANSITIONS: Table[StepState] = {
     StepState.WAITING: frozenset({StepState.RUNNING}),
     # WAITING: it failed, and is retried
@@ -239,12 +269,15 @@ WAITS_FOR: Mapping[str, str] = {
     Suspension.RETRY: "its next attempt",
     Suspension.EXHAUSTED: "a person, because its attempts are used up",
     Suspension.CANNOT_DECODE: "a program that can read its stored values",
+    Suspension.PROGRAM_ERROR: "a program without the error, or a retry",
+    Suspension.NO_DEFINITION: "a node that has its definition",
     Suspension.TIMER: "its time",
     Suspension.APPROVAL: "an approval",
     Suspension.EXTERNAL: "an external worker",
     Suspension.CHILD: "the end of its child saga",
     Suspension.STEP_LIMIT: "a slot of its concurrency",
     Suspension.FLEET_LIMIT: "its fleet_concurrency or its rate_limit",
+    Suspension.PAUSED: "the end of a pause",
     "concurrency": "a slot of its concurrency",
     "fleet_concurrency": "a slot of its fleet_concurrency",
     "rate_limit": "its rate_limit",
@@ -293,16 +326,6 @@ def known_state(state: str) -> str:
     The store does not show whether a started attempt is called or waits.
     """
     return "begun" if state == StepState.RUNNING else state
-
-
-def state_text(state: str, is_over: bool = False) -> str:
-    """Return a step's state for people.
-
-    A step that an ended saga never started is `not run`.
-    """
-    if is_over and state == StepState.WAITING:
-        return "not run"
-    return "undo failed" if state == StepState.COMPENSATION_FAILED else known_state(state)
 
 
 def saga_phase(phase: str | None, recovered: bool, note: str | None) -> SagaPhase:

@@ -16,6 +16,8 @@ from typing import Any
 from sagas.base.errors import InvalidKey, InvalidStore
 
 MAX_KEY = 512
+MAX_ENDING = 16
+"""Number of further characters of the key of a saga that calls `on_end`."""
 MAX_SHOWN = 80
 """Maximum length of a value in a message, in characters."""
 BELOW = "/:"
@@ -196,7 +198,8 @@ def key(value: Any, or_child: bool = False) -> None:
     Raises:
         InvalidKey: The key is not valid.
     """
-    if not isinstance(value, str) or not 0 < len(value) <= MAX_KEY or not value.isprintable():
+    limit = MAX_KEY + MAX_ENDING if or_child else MAX_KEY
+    if not isinstance(value, str) or not 0 < len(value) <= limit or not value.isprintable():
         raise InvalidKey(
             f"key={shown(value)}: must be a text of 1 to {MAX_KEY} printable characters"
         )

@@ -6,6 +6,8 @@ import functools
 import inspect
 from typing import Any
 
+from sagas.base.errors import ProgramError
+
 is_async = functools.lru_cache(maxsize=4096)(inspect.iscoroutinefunction)
 
 
@@ -25,13 +27,13 @@ def plain_result(value: Any) -> Any:
     The transaction ends when the function returns, so its result cannot be awaited.
 
     Raises:
-        TypeError: The result is awaitable.
+        ProgramError: The result is awaitable.
     """
     if not hasattr(value, "__await__"):
         return value
     if inspect.iscoroutine(value):
         value.close()
-    raise TypeError(
+    raise ProgramError(
         f"a plain function with transaction=True returned {type(value).__name__}, "
         "which must be awaited. Declare it with async def, and await it there"
     )

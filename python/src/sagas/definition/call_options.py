@@ -4,13 +4,16 @@ from __future__ import annotations
 
 import dataclasses
 import datetime
+import difflib
 import enum
 import inspect
 import random
-from collections.abc import Callable, Iterable, Iterator
-from typing import Any, Literal, Protocol, Union
+from collections.abc import Callable, Iterable, Iterator, Mapping
+from typing import Any, Literal, Protocol, TypeVar, TypedDict, Union, cast
 
 from sagas.definition.arguments import is_count
+
+Options = TypeVar("Options", bound=Mapping[str, object])
 
 
 class _Never(enum.Enum):
@@ -22,23 +25,53 @@ class _Never(enum.Enum):
 
 NEVER: Literal[_Never.NEVER] = _Never.NEVER
 """The cost of an operation that is not allowed."""
+
+
+class _Nothing(enum.Enum):
+    NOTHING = "nothing"
+
+    def __repr__(self) -> str:
+        return "sagas.NOTHING"
+
+
+NOTHING: Literal[_Nothing.NOTHING] = _Nothing.NOTHING
+"""The option `undo` of a step that has nothing to undo: it is undone without a call, at no cost.
+
+`undo=0` is the cost of a compensation instead.
+"""
+COST_NAMES = ("run", "undo", "skip", "keep")
 Cost = Union[int, Literal[_Never.NEVER]]
 """A whole number from 0 to 1,000,000,000, in any unit; or `NEVER`."""
 CostOf = Union[Cost, Callable[[Any], Any]]
 """A cost, or a function of the input that returns one (with `for_each`: of the item)."""
+Undo = Union[CostOf, Literal[_Nothing.NOTHING]]
+"""The option `undo`: the cost of the compensation, `NEVER` or `NOTHING`."""
 Function = Callable[[Any], Any]
 """The function of a step, or its compensation: it gets a `Task`."""
-Unknowns = tuple[type[BaseException], ...]
-UNKNOWN: Unknowns = (TimeoutError, ConnectionError)
-"""The exceptions after which the outcome of a function is unknown by default."""
+Exceptions = tuple[type[BaseException], ...]
+MaxUnknown = Union[int, datetime.timedelta, None]
+"""How many calls, or for how long calls, have an unknown outcome before an operator is asked.
+
+None: no operator is asked.
+"""
 EarlyUnused = Literal["ask", "compensate"]
 """The reaction to a report of a step that does not start before its saga ends."""
 OnExhausted = Literal["fail", "ask", "retry"]
 """The reaction to the failure of the last attempt of a step, or of a compensation."""
 Seconds = Union[float, datetime.timedelta]
 """A duration: seconds, or a timedelta."""
-MANY_TRIES = 9
-MAX_COST, MAX_TRIES = 1_000_000_000, 9
+DEFAULT_TRIES, MAX_TRIES = 10, 1000
+DEFAULT_MAX_UNKNOWN = 10
+ENGINE_TRIES = 9
+"""The maximum number of attempts in a definition."""
+SPARE_TRIES = 2
+"""The number of attempts in a definition if a function may have more than `ENGINE_TRIES`.
+
+The package counts those that follow. The second one is there for an attempt that was not called
+when its saga began to recover: the plan may include the step. More would cost a commit each, if the
+function raises `Fail`.
+"""
+MAX_COST = 1_000_000_000
 
 
 def is_cost(value: object) -> bool:
@@ -105,6 +138,8 @@ class Bounds:
 class RemoteQueue(Protocol):
     """A queue whose workers call a step's function: a `sagas.celery.Queue`."""
 
+    name: str | None
+    """The name by which operators pause it; None if it has none."""
     timeout: float
     """Seconds without a report after which the outcome is unknown, if the step has no timeout."""
 
@@ -131,8 +166,8 @@ class Manner:
     tries: int = 1
     timeout: float | None = None
     backoff: Backoff = Backoff()
-    unknown: Unknowns = UNKNOWN
-    max_unknown: int | datetime.timedelta | None = None
+    no_effect: Exceptions = ()
+    max_unknown: MaxUnknown = DEFAULT_MAX_UNKNOWN
     external: bool = False
     """Whether it has no function here: a person or another program reports the outcome."""
     transaction: bool = False
@@ -142,7 +177,7 @@ class Manner:
     implied: bool = False
     """Whether the compensation is not declared, and does nothing.
 
-    Waits, approvals and steps with `undo=0` have such a compensation.
+    Waits, approvals and steps with `undo=NOTHING` have such a compensation.
     """
     queue: RemoteQueue | None = None
     """The queue whose workers call the function; None for the program with the store."""
@@ -150,8 +185,13 @@ class Manner:
     """Whether the function is cancelled when its saga is aborted."""
     on_exhausted: OnExhausted = "fail"
     """The reaction to the failure of the last attempt."""
-    max_attempts: int | None = None
-    """The maximum number of attempts; None for `tries`."""
+    spare_tries: int = SPARE_TRIES
+    """The number of attempts in the definition if `tries` exceeds `ENGINE_TRIES`."""
+
+    @property
+    def engine_tries(self) -> int:
+        """The number of attempts in the definition, which the engine counts."""
+        return self.tries if self.tries <= ENGINE_TRIES else self.spare_tries
 
     @property
     def is_simple(self) -> bool:
@@ -173,32 +213,25 @@ ON_EXHAUSTED = ("fail", "ask", "retry")
 def option_faults(manner: Manner, role: str) -> Iterator[str]:
     """Yield the errors in the options of a function's calls."""
     if not is_count(manner.tries) or not 1 <= manner.tries <= MAX_TRIES:
-        yield f"tries={manner.tries!r} of its {role}: must be an integer from 1 to {MAX_TRIES}"
+        yield f"tries={manner.tries!r} of its {role}: must be an integer from 1 to {MAX_TRIES:,}"
     time = manner.timeout
     if time is not None and not (isinstance(time, (int, float)) and time > 0):
         rule = "must be seconds or a timedelta, > 0"
         yield f"timeout={time!r} of its {role}: {rule}"
     yield from _backoff_faults(manner.backoff, role)
     max_unknown = manner.max_unknown
-    is_number = is_count(max_unknown) and max_unknown >= 0  # type: ignore[operator]
+    is_number = is_count(max_unknown) and max_unknown >= 1  # type: ignore[operator]
     if max_unknown is not None and not (isinstance(max_unknown, datetime.timedelta) or is_number):
-        yield f"max_unknown={max_unknown!r} of its {role}: must be an integer >= 0 or a timedelta"
-    if not isinstance(manner.unknown, tuple) or not all(
-        isinstance(error, type) and issubclass(error, BaseException) for error in manner.unknown
+        rule = "must be an integer >= 1, a timedelta, or None"
+        yield f"max_unknown={max_unknown!r} of its {role}: {rule}"
+    if not isinstance(manner.no_effect, tuple) or not all(
+        isinstance(error, type) and issubclass(error, BaseException) for error in manner.no_effect
     ):
-        rule = "must be a tuple of exceptions: unknown=(TimeoutError,)"
-        yield f"unknown={manner.unknown!r} of its {role}: {rule}"
+        rule = "must be a tuple of exceptions: no_effect=(ConnectionRefusedError,)"
+        yield f"no_effect={manner.no_effect!r} of its {role}: {rule}"
     if manner.on_exhausted not in ON_EXHAUSTED:
         rule = f"must be one of {', '.join(ON_EXHAUSTED)}"
         yield f"on_exhausted={manner.on_exhausted!r} of its {role}: {rule}"
-    max_attempts = manner.max_attempts
-    if max_attempts is not None:
-        if not is_count(max_attempts) or max_attempts < manner.tries:
-            rule = f"must be an integer >= tries={manner.tries}"
-            yield f"max_attempts={max_attempts!r} of its {role}: {rule}"
-        elif manner.on_exhausted == "retry":
-            rule = "has no effect with on_exhausted='retry'; remove it"
-            yield f"max_attempts={max_attempts!r} of its {role}: {rule}"
     if manner.queue is not None and not hasattr(manner.queue, "declare"):
         yield f"queue={manner.queue!r} of its {role}: must be a sagas.celery.Queue"
     if not isinstance(manner.transaction, bool):
@@ -252,3 +285,98 @@ def function_faults(manner: Manner, role: str) -> Iterator[str]:
     if inspect.isgeneratorfunction(function) or inspect.isasyncgenfunction(function):
         rule = "which would not run. Return the result instead of yielding"
         yield f"its {role} is a generator, {rule}"
+
+
+# -- options by name
+
+
+class AttemptOptions(TypedDict, total=False):
+    """The options of attempts."""
+
+    tries: int
+    backoff: Backoff
+
+
+class ExhaustedOptions(TypedDict, total=False):
+    """The reaction to the last attempt."""
+
+    on_exhausted: OnExhausted
+
+
+class TimeoutOptions(TypedDict, total=False):
+    """The time limit of a call."""
+
+    timeout: Seconds | None
+
+
+class CallOptions(TypedDict, total=False):
+    """The options of calls of a step's function, and of its compensation."""
+
+    no_effect: Exceptions
+    max_unknown: MaxUnknown
+    queue: RemoteQueue | None
+
+
+class TransactionOptions(TypedDict, total=False):
+    """The options of calls within a transaction of the store's database."""
+
+    transaction: bool
+
+
+class CompensationOptions(
+    AttemptOptions,
+    TimeoutOptions,
+    CallOptions,
+    TransactionOptions,
+    ExhaustedOptions,
+    total=False,
+):
+    """The options of `Step.compensation`."""
+
+
+class SagaOptions(AttemptOptions, TimeoutOptions, CallOptions, ExhaustedOptions, total=False):
+    """The options that `Saga` takes for all of its steps and their compensations."""
+
+
+def compensation_defaults(step: Manner, saga: SagaOptions, external: bool) -> CompensationOptions:
+    """Return the defaults of a compensation: of its step, and of the saga.
+
+    A saga's `on_exhausted="fail"` is of its steps only: a failed compensation leaves an effect in
+    place, and asks.
+    """
+    on_exhausted = saga.get("on_exhausted", "ask")
+    return CompensationOptions(
+        tries=saga.get("tries", DEFAULT_TRIES),
+        timeout=None if external else saga.get("timeout"),
+        backoff=step.backoff,
+        no_effect=step.no_effect,
+        max_unknown=saga.get("max_unknown", DEFAULT_MAX_UNKNOWN),
+        transaction=step.transaction,
+        queue=step.queue,
+        on_exhausted="ask" if on_exhausted == "fail" else on_exhausted,
+    )
+
+
+def with_defaults(call: str, options: Options, defaults: Options) -> Options:
+    """Return the options of a call, with the defaults of those that it does not name.
+
+    Args:
+        call: The called function, for the message.
+        options: As given.
+        defaults: A value for each option that the call has.
+
+    Raises:
+        TypeError: The call has no such option.
+    """
+    check_names(call, options, defaults)
+    return cast(Options, {**defaults, **options})
+
+
+def check_names(call: str, options: Iterable[str], known: Iterable[str]) -> None:
+    """Raise `TypeError` for a name that is none of the known ones."""
+    names = [*known]
+    for name in options:
+        if name not in names:
+            near = difflib.get_close_matches(name, names, 1)
+            hint = f"; did you mean {near[0]!r}?" if near else ""
+            raise TypeError(f"{call}() got an unexpected keyword argument {name!r}{hint}")

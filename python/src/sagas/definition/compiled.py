@@ -2,43 +2,47 @@
 
 from __future__ import annotations
 
+import copy
+import functools
 import json
-from collections.abc import Callable, Mapping
-from typing import Any, TYPE_CHECKING
+from collections.abc import Callable, Iterator, Mapping
+from typing import Any, NamedTuple
 
 import tomllib
 
 from sagas.base.errors import CannotDecode, InvalidInput
-from sagas.definition import decoders, definition_text, serialization, type_checks
-from sagas.definition.call_options import Function
+from sagas.definition import definition_text, input_types, serialization, type_checks
+from sagas.definition.call_options import Function, Manner, nothing
 from sagas.definition.definition_text import name_of, version_of
+from sagas.definition.input_types import InputTypes
 from sagas.definition.layout import Layout, ShapeValues, layout_of
 from sagas.definition.payloads import PLAIN as PLAIN_PAYLOADS, Payloads
 from sagas.definition.serialization import Decoder
-from sagas.definition.shape import Declaration
-from sagas.definition.step import Step, plain_steps
-from sagas.definition.task import StepLocation
+from sagas.definition.declaration import Declaration
+from sagas.definition.parts import SagaParts, plain_steps
+from sagas.definition.step import Step
+from sagas.definition.step_location import StepLocation
 from sagas.definition.task_data import Context
-
-if TYPE_CHECKING:
-    from sagas.definition.saga import Saga
 
 ActionKey = tuple[int, str]
 """A step's number, and `run` or `undo`."""
 
 
-def _simple(step: Step[Any] | None, kind: str, is_fair: bool) -> Function | None:
+def _simple(
+    step: Step[Any] | None, kind: str, is_fair: bool, may_be_failed: bool
+) -> Function | None:
     """Return the async function of a step that can start at once, or None.
 
     Args:
         step: The step, or None if the program does not have it.
         kind: `run`, or `undo` for its compensation.
         is_fair: Whether the root saga shares its slots among tenants.
+        may_be_failed: Whether the step may have an optional failure as its result.
 
     Returns:
         None if the step has a limit, waits, or is done elsewhere.
     """
-    if step is None or is_fair or step.is_collected:
+    if step is None or is_fair or may_be_failed:
         return None
     if step.saga.undoes is not None or step.child is not None:
         return None
@@ -50,12 +54,32 @@ def _simple(step: Step[Any] | None, kind: str, is_fair: bool) -> Function | None
 def _fault(text: str, decoder: Decoder) -> type_checks.Mismatch | None:
     """Return why a decoder cannot read a stored value, or None if it can."""
     try:
-        decoder(serialization.read(text))
+        return input_types.fault_of(text, decoder)
     except NameError as error:
         return type_checks.Mismatch(f": {error}")
-    except Exception as error:  # of the type's own code
-        return type_checks.mismatch_of(error)
-    return None
+
+
+def _undoing_nothing(step: Step[Any]) -> Step[Any]:
+    """Return a step that has nothing to undo, unless it has a compensation by now."""
+    if step.has_compensation:
+        return step
+    step = copy.copy(step)
+    step.undo = Manner(nothing, implied=True)
+    return step
+
+
+class MissingPart(NamedTuple):
+    """A part of a stored definition that this program does not have.
+
+    Attributes:
+        step: The declared name of the step; None for the whole saga.
+        is_compensation: Whether it is the compensation, and not the function.
+        reason: What is missing, for people.
+    """
+
+    step: str | None
+    is_compensation: bool
+    reason: str
 
 
 class CompiledAction:
@@ -98,12 +122,13 @@ class CompiledAction:
         hint: Decoder | None,
         context: Context,
         is_fair: bool,
+        may_be_failed: bool,
     ) -> None:
         self.name, self.word, self.hint, self.context = name, word, hint, context
         self.needed_results = needed_results
         self.kind = word[1]
         self.undo = self.kind == "undo"
-        self.simple = _simple(step, self.kind, is_fair)
+        self.simple = _simple(step, self.kind, is_fair, may_be_failed)
         self.inside = bool(step and step.manner(self.kind).transaction)
         self.is_remote = bool(step and step.manner(self.kind).queue)
         self.is_external = self.is_remote or bool(step and step.manner(self.kind).external)
@@ -126,14 +151,19 @@ class CompiledDefinition:
         hooks: The webhooks that receive events of its sagas.
         declared: The declaration of the saga in this program.
         undoes: The name of the child that its sagas undo, or None.
+        starts_each: Whether its sagas start the children of one step, one for each item.
         below: The numbers of the steps that each step needs, directly or not.
+        optional: The numbers of the optional steps, as of the definition with which a saga started.
+        collected: The numbers of the steps that the program collects.
+        pivot: The name of its pivot, or None.
+        input_types: The types of the input of its sagas, as this program declares them.
         reads: Whether stored values are decoded before a function gets them.
     """
 
     def __init__(
         self,
         text: str,
-        saga: Saga | None,
+        saga: SagaParts | None,
         context: Context | None = None,
         payloads: Payloads = PLAIN_PAYLOADS,
         declared: Declaration | None = None,
@@ -145,6 +175,7 @@ class CompiledDefinition:
         listed = definition_text.shaped_steps(text) if is_shaped else tomllib.loads(text)["step"]
         self.layout: Layout | None = layout_of(text, listed) if is_shaped else None
         self.text, self.name = text, name_of(text)
+        self.starts_each = definition_text.starts_each(text)
         self.undoes = definition_text.child_of(text)
         if self.undoes is None and saga is not None and saga.undoes is not None:
             self.undoes = saga.undoes.name  # a text of an older release
@@ -158,6 +189,14 @@ class CompiledDefinition:
         number_of = {name: number for number, name in enumerate(self.names)}
         self.below = self._below(
             [[number_of[need] for need in step.get("needs", ())] for step in listed]
+        )
+        self.pivot = definition_text.pivot_of(text)
+        optional = definition_text.optional_steps(text)
+        self.optional = frozenset(number_of[name] for name in optional)
+        self.collected = frozenset(
+            number
+            for number, step in enumerate(self.steps)
+            if step is not None and step.is_collected
         )
         step_decoders = [self.declared.hints(step) for step in self.steps]
         self.inputs = [decoder for decoder, _, _ in step_decoders]
@@ -175,13 +214,6 @@ class CompiledDefinition:
             "run": self._actions("run", self.inputs, context or Context()),
             "undo": self._actions("undo", undo_inputs, context or Context()),
         }
-        self.firsts = self._firsts(
-            [
-                number
-                for number, step in enumerate(listed)
-                if not step.get("needs") and self.inputs[number] and "/" not in step.get("of", "")
-            ]
-        )
         self.has_bounds = any(step and step.bounds for step in self.steps)
         self.has_external = any(
             action.is_external for actions in self.actions.values() for action in actions
@@ -189,7 +221,15 @@ class CompiledDefinition:
         self.decoders = {
             name: decoder for name, (_, decoder, _) in zip(self.names, step_decoders) if decoder
         }
-        self.reads = bool(payloads.reads or self.decoders or any(self.inputs) or any(undo_inputs))
+        self.input_types: InputTypes = self.declared.input_types
+        is_typed = any((*self.inputs, *undo_inputs, *self.input_types.readers))
+        self.reads = bool(payloads.reads or self.decoders or is_typed)
+
+    @property
+    def calls_end(self) -> bool:
+        """Whether the program has an `on_end` function for the ends of its sagas."""
+        saga = self.declared.root
+        return saga is not None and saga.end_saga is not None
 
     def with_costs(self, text: str) -> CompiledDefinition:
         """Return the definition of a text that differs from this one's only in its costs."""
@@ -198,12 +238,18 @@ class CompiledDefinition:
         copy.text = text
         return copy
 
-    def _declared_steps(self, saga: Saga | None) -> list[Step[Any] | None]:
+    def _declared_steps(self, saga: SagaParts | None) -> list[Step[Any] | None]:
         """Return the steps as this program declares them."""
         if self.layout is not None:
-            return [self.declared.step(origin) for origin in self.layout.origins.values()]
-        plain = plain_steps(saga) if saga else {}
-        return [plain.get(name) for name in self.names]
+            steps = [self.declared.step(origin) for origin in self.layout.origins.values()]
+        else:
+            plain = plain_steps(saga) if saga else {}
+            steps = [plain.get(name) for name in self.names]
+        free = definition_text.steps_with_nothing(self.text)
+        return [
+            _undoing_nothing(step) if step is not None and name in free else step
+            for name, step in zip(self.names, steps)
+        ]
 
     def location(self, step: str, values: ShapeValues, input: str) -> StepLocation | None:
         """Return the location of a step; None if the steps do not come from the input.
@@ -223,7 +269,7 @@ class CompiledDefinition:
         return name if self.layout is None else self.layout.origins[name].declared
 
     @property
-    def saga(self) -> Saga | None:
+    def saga(self) -> SagaParts | None:
         """The saga with this name and version that this program declares, or None."""
         return self.declared.root
 
@@ -257,6 +303,7 @@ class CompiledDefinition:
                 hints[number],
                 context,
                 is_fair,
+                number in self.optional or number in self.collected,
             )
             for number, name in enumerate(self.names)
         ]
@@ -271,61 +318,55 @@ class CompiledDefinition:
                 below[step] = set(needs[step]).union(*(below[need] for need in needs[step]))
         return [sorted(below[step]) for step in range(len(needs))]
 
-    def _firsts(self, numbers: list[int]) -> dict[int, type_checks.Check | None]:
-        """Return one first step for each type of the input, with the type's check."""
-        checks: dict[int, type_checks.Check | None] = {}
-        hints: list[Any] = []
-        for number in numbers:
-            step = self.steps[number]
-            assert step and step.run.function
-            hint = decoders.input_hint(step.run.function)
-            if hint not in hints:
-                hints.append(hint)
-                checks[number] = type_checks.check(hint)
-        return checks
-
     def input_error(self, text: str) -> InvalidInput | None:
-        """Return why the first steps cannot read an input, or None if they can.
+        """Return why the functions of the saga cannot read an input, or None if they can."""
+        return self.input_types.error(text)
 
-        A value that decodes is checked as well: it may have another type than the hint.
+    def own_input(self, number: int, text: str | None, values: ShapeValues | None) -> str | None:
+        """Return the input that the functions of a step read, as JSON.
+
+        Args:
+            number: The step's number.
+            text: The input of the saga.
+            values: The values of its shape; None if they are not known.
+
+        Returns:
+            The input of the included saga if one declares the step. None if it is not known.
         """
-        for number, check in self.firsts.items():
-            step, decoder = self.steps[number], self.inputs[number]
-            assert decoder and step
-            try:
-                value = serialization.read(text)
-                if check:
-                    check(value)
-                decoder(value)
-            except NameError:  # a hint names what only a type checker imports
-                continue
-            except Exception as error:  # of the type's own code
-                return InvalidInput(
-                    f"saga {self.name!r}, step {step.name!r}: input{type_checks.mismatch_of(error)}"
-                )
-        return None
+        scope = self.layout.origins[self.names[number]].scope if self.layout is not None else ()
+        if not scope:
+            return text
+        return None if values is None else values.input(scope)
 
-    def unread(self, text: str | None, results: dict[int, str]) -> str | None:
+    def unread(
+        self, text: str | None, results: dict[int, str], shape: str | None = None
+    ) -> str | None:
         """Return the first value of an open saga that this program cannot read.
 
         Args:
             text: The stored input, or None if it is not to be checked.
             results: The stored results of committed steps, by number.
+            shape: The stored values of its shape, or None if they are not to be checked.
 
         Returns:
             The step and the error, or None if the program can read all values.
         """
+        decode = self.payloads.decode
         try:
-            text = None if text is None else self.payloads.decode(text)
-            results = {step: self.payloads.decode(stored) for step, stored in results.items()}
+            inputs = [] if text is None else [(self.input_types, decode(text))]
+            values = None if shape is None else ShapeValues.read(decode(shape))
+            results = {step: decode(stored) for step, stored in results.items()}
         except CannotDecode as error:
             return str(error)
-        for number, (run, undo) in enumerate(
-            zip(self.inputs, (action.hint for action in self.actions["undo"]))
-        ):
-            for decoder in (run, undo):
-                if decoder and text is not None and (fault := _fault(text, decoder)):
-                    return f"step {self.names[number]!r}: input{fault}"
+        if values is not None:
+            inputs += [
+                (self.declared.types_within(path), serialization.write(value))
+                for path, value in values.inputs.items()
+            ]
+        for types, input in inputs:
+            for name, reader in types.readers:
+                if fault := _fault(input, reader):
+                    return f"{types.saga if name is None else f'step {name!r}'}: input{fault}"
         for number, text in results.items():
             decoder = self.decoders.get(self.names[number])
             if (
@@ -336,6 +377,11 @@ class CompiledDefinition:
                 return f"step {self.names[number]!r}: result{fault}"
         return None
 
+    @functools.cached_property
+    def missing_function(self) -> str | None:
+        """See `lacks`."""
+        return self.lacks()
+
     def lacks(self) -> str | None:
         """Return which function of the definition this program does not have.
 
@@ -343,92 +389,36 @@ class CompiledDefinition:
             The first step without a function, or without a compensation that may be called; or
             None.
         """
+        return next((missing.reason for missing in self.missing()), None)
+
+    def missing(self) -> Iterator[MissingPart]:
+        """Yield the functions of the definition that this program does not have."""
         if self.saga is None:
-            return "this program did not open the store with that saga"
+            reason = "this program did not open the store with that saga"
+            if (ended := definition_text.ended_of(self.text)) is not None:
+                reason = f"this program has no on_end function of saga {ended!r}"
+            yield MissingPart(None, False, reason)
+            return
         for path, (name, version) in definition_text.included(self.text).items():
             inner = self.declared.included(path)
             if inner is None or (inner.name, inner.version) != (name, version):
                 has = f"version {inner.version} of {inner.name!r}" if inner else "no saga"
-                return (
+                reason = (
                     f"it includes saga {name!r} (version {version}) as {path!r}, and this program "
                     f"includes {has} there"
                 )
+                yield MissingPart(path, False, reason)
+                return
         function = "function" if self.undoes is None else "compensation"
-        for listed, step in zip(definition_text.listed_steps(self.text), self.steps):
+        for number, listed in enumerate(definition_text.listed_steps(self.text)):
+            step = self.steps[number]
             if step is None:
-                return f"step {listed.name!r} has no {function} in this program"
+                reason = f"step {listed.name!r} has no {function} in this program"
+                yield MissingPart(self.declared_name(number), self.undoes is not None, reason)
+                continue
             has_compensation = step.has_compensation and not (
                 step.undo.implied and listed.is_compensated
             )
             if listed.undo != "never" and not has_compensation:
-                return f"step {listed.name!r} has no compensation in this program"
-        return None
-
-
-# -- equality of two inputs
-
-
-def input_differences(definition: CompiledDefinition | Saga, first: str, second: str) -> list[str]:
-    """Return the paths of the values in which two inputs differ, under their present types.
-
-    A stored input may be older than a field of its type, so it is decoded before it is compared.
-    The list is empty if the decoders of all functions make equal values of both inputs. If some
-    function reads the input without a type, fields that no type declares are compared as well. If
-    a decoder fails, the inputs are compared as JSON.
-
-    Args:
-        definition: The saga or its definition.
-        first: An input as JSON.
-        second: Another input as JSON.
-    """
-    decoders, is_complete = _input_readers(definition)
-    values = serialization.read(first), serialization.read(second)
-    if not decoders:
-        return list(type_checks.differences(*values))
-    paths: dict[str, None] = {}
-    for decoder in decoders:
-        normalized = _normalized(first, decoder), _normalized(second, decoder)
-        if normalized[0] is None or normalized[1] is None:
-            return list(type_checks.differences(*values))
-        pair = serialization.read(normalized[0]), serialization.read(normalized[1])
-        if not is_complete:
-            pair = _merged(values[0], pair[0]), _merged(values[1], pair[1])
-        paths |= dict.fromkeys(type_checks.differences(*pair))
-    return list(paths)
-
-
-def _input_readers(definition: CompiledDefinition | Saga) -> tuple[list[Decoder], bool]:
-    """Return the decoders of the functions' inputs, and whether each function has one."""
-    by_hint: dict[Any, Decoder] = {}
-    is_complete = True
-    for step in definition.steps:
-        for manner in (step.run, step.undo) if step else ():
-            if manner.function is None:
-                is_complete = is_complete and not manner.external
-            elif not manner.implied:
-                hint = decoders.input_hint(manner.function)
-                decoder = decoders.decoder(hint)
-                is_complete = is_complete and decoder is not None
-                if decoder:
-                    by_hint[repr(hint), id(hint)] = decoder
-    return list(by_hint.values()), is_complete
-
-
-def _normalized(text: str, decoder: Decoder) -> str | None:
-    """Return the JSON of a value after decoding it; None if it cannot be decoded."""
-    try:
-        return serialization.write(decoder(serialization.read(text)))
-    except Exception:  # of the type's own code
-        return None
-
-
-def _merged(value: Any, normalized: Any) -> Any:
-    """Return a normalized value with those fields that its type does not have."""
-    if isinstance(value, dict) and isinstance(normalized, dict):
-        return value | {
-            name: _merged(value[name], part) if name in value else part
-            for name, part in normalized.items()
-        }
-    if isinstance(value, list) and isinstance(normalized, list) and len(value) == len(normalized):
-        return [_merged(item, part) for item, part in zip(value, normalized)]
-    return normalized
+                reason = f"step {listed.name!r} has no compensation in this program"
+                yield MissingPart(self.declared_name(number), True, reason)

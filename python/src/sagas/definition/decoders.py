@@ -1,7 +1,13 @@
-"""Decoders of JSON values, made from type hints."""
+"""Strict decoders of JSON values, made from type hints.
+
+This is the only walk over types. A decoder checks a value and makes the Python value of it, or
+raises `Mismatch`. Inputs are decoded when a saga starts, stored values when a function reads them,
+and two inputs are compared by what a decoder makes of both.
+"""
 
 from __future__ import annotations
 
+import collections
 import collections.abc
 import contextlib
 import dataclasses
@@ -9,19 +15,31 @@ import datetime
 import decimal
 import enum
 import functools
-import inspect
+import math
 import types
 import typing
 import uuid
-from collections.abc import Callable, Iterable
-from typing import Any
+from collections.abc import Callable, Iterable, Sequence
+from typing import Any, NoReturn
 
-from sagas.base.errors import NotSerializable
-from sagas.definition import serialization, type_checks
+from sagas.definition import serialization, type_hints
 from sagas.definition.serialization import Decoder, is_old_model
-from sagas.definition.type_checks import Mismatch
+from sagas.definition.type_checks import (
+    Mismatch,
+    NAMES,
+    lacking_fields,
+    mismatch_of,
+    missing_names,
+    part_path,
+    wrong_type,
+)
 
-_MADE: dict[Any, type] = {
+NONE: type = types.NoneType
+NATIVE = (str, int, float, bool, NONE)
+JSON_TYPES: frozenset[type] = frozenset({*NATIVE, dict, list})
+MAX_EXACT = 2**53
+"""Up to this, a `float` has each integer, so it was not rounded."""
+MADE: dict[Any, type] = {
     collections.abc.Sequence: list,
     collections.abc.MutableSequence: list,
     collections.abc.Collection: list,
@@ -34,96 +52,96 @@ _MADE: dict[Any, type] = {
 """The class of the decoded value, by the abstract class that a hint names."""
 
 
-def _decimal(value: Any) -> decimal.Decimal:
-    """Return a decimal number as JSON writes it: 19.99, not a binary fraction."""
-    if isinstance(value, bool) or not isinstance(value, (str, int, float)):
-        raise TypeError
-    return decimal.Decimal(repr(value) if isinstance(value, float) else value)
+# -- decoders of functions
 
 
-_BY_TEXT: dict[type, Decoder] = {
-    datetime.datetime: datetime.datetime.fromisoformat,
-    datetime.date: datetime.date.fromisoformat,
-    datetime.time: datetime.time.fromisoformat,
-    uuid.UUID: uuid.UUID,
-    decimal.Decimal: _decimal,
-}
+def input_decoder(function: Callable[..., Any]) -> Decoder | None:
+    """Return the decoder of a function's input, by its hint `Task[Order]`.
 
-
-def hints(function: Callable[..., Any]) -> tuple[Decoder | None, Decoder | None]:
-    """Return the decoders of a function's input and of its result.
-
-    The input's type is that of the parameter's hint, `Task[Order]`. If a hint cannot be read, for
-    example because only a type checker imports its name, both decoders are None.
+    It is None if the function has no hint, or one that cannot be read, for example because only a
+    type checker imports its name.
     """
-    try:
-        type_hints = typing.get_type_hints(_hinted_function(function))
-    except Exception:
-        return None, None
-    return decoder(input_hint(function)), decoder(type_hints.get("return", Any))
+    return hinted(type_hints.input_hint(function))
 
 
-def input_hint(function: Callable[..., Any]) -> Any:
-    """Return the type of a function's input, `Order` of the hint `Task[Order]`."""
-    arguments = task_hints(function)
-    return arguments[0] if arguments else None
+def result_decoder(function: Callable[..., Any]) -> Decoder | None:
+    """Return the decoder of a function's result; None if the function returns None."""
+    hint = type_hints.result_hint(function)
+    return None if type_hints.bare(hint) is NONE else decoder(hint)
 
 
-def task_hints(function: Callable[..., Any]) -> tuple[Any, ...]:
-    """Return the type arguments of a function's task, `Order` of `Task[Order]`."""
-    try:
-        type_hints = typing.get_type_hints(_hinted_function(function))
-        names = [name for name in type_hints if name != "return"]
-        if isinstance(function, functools.partial):  # without the parameters that have values
-            names = [*inspect.signature(function).parameters]
-    except Exception:  # as in `hints`
-        return ()
-    return typing.get_args(type_hints.get(names[0])) if names else ()
+def hinted(hint: Any) -> Decoder | None:
+    """Return the decoder of a type hint, or None without a hint."""
+    return None if hint is None else decoder(hint)
 
 
-def _hinted_function(function: Any) -> Any:
-    """Return the function with the hints, for a partial function or a callable object."""
-    function = inspect.unwrap(function)
-    if isinstance(function, functools.partial):
-        return _hinted_function(function.func)
-    is_object = callable(function) and not isinstance(function, type)
-    return type(function).__call__ if is_object and not inspect.isroutine(function) else function
-
-
-def unread(function: Callable[..., Any]) -> str | None:
-    """Return why the type hints of a function cannot be read, or None if they can."""
-    try:
-        typing.get_type_hints(_hinted_function(function))
-    except NameError as error:
-        return str(error)
-    except Exception:  # for example, it is not a function
-        return None
-    return None
+# -- one type
 
 
 def decoder(hint: Any) -> Decoder | None:
     """Return a function that makes a value of this type from JSON.
 
-    None means that the JSON value is used unchanged.
+    It raises `Mismatch` if the value does not have the type. None means that each JSON value has
+    the type, and is used unchanged.
     """
-    hint = type_checks.bare(hint)
+    hint = type_hints.bare(hint)
     if isinstance(hint, type) and not isinstance(hint, types.GenericAlias):
-        return _of_class(hint)
-    origin, arguments = typing.get_origin(hint), typing.get_args(hint)
-    origin = _MADE.get(origin, origin)
+        return _of_class(MADE.get(hint, hint))
+    arguments = typing.get_args(hint)
+    origin: Any = MADE.get(typing.get_origin(hint), typing.get_origin(hint))
     if origin in (typing.Union, types.UnionType):
-        return _of_union(arguments)
+        return _of_union([type_hints.bare(argument) for argument in arguments])
+    if origin is typing.Literal:
+        return _of_literal(arguments)
     if origin in (list, set, frozenset) or (
         origin is tuple and len(arguments) == 2 and arguments[1] is Ellipsis
     ):
-        return _of_items(origin, decoder(arguments[0]))
+        return _of_items(origin, arguments[0])
     if origin is tuple:
-        return _of_tuple([decoder(argument) or _same for argument in arguments])
+        return _of_tuple(tuple, arguments, len(arguments))
     if origin is dict:
-        return _of_dict(_key(arguments[0]), decoder(arguments[1]))
+        return _of_dict(arguments[0], arguments[1])
     if dataclasses.is_dataclass(origin):
         return _of_dataclass(origin, hint)
+    if type_hints.is_typed_dict(origin):
+        return _of_typed_dict(origin, hint)
+    if isinstance(origin, type) and issubclass(origin, dict) and len(arguments) == 2:
+        return _of_subclass(origin, _of_dict(arguments[0], arguments[1]))
     return None
+
+
+class _Part(typing.NamedTuple):
+    """The type of a part of a value.
+
+    Attributes:
+        unchanged: The JSON types whose values have the type and are used unchanged, so that they
+            need no call of the decoder.
+        decode: The decoder.
+    """
+
+    unchanged: frozenset[type]
+    decode: Decoder
+
+    @classmethod
+    def of(cls, hint: Any) -> _Part:
+        decode = decoder(hint)
+        return cls(JSON_TYPES, _same) if decode is None else cls(_unchanged(hint), decode)
+
+    def or_none(self) -> _Part:
+        """Return the type that has null, too."""
+        return _Part(self.unchanged | {NONE}, self.decode)
+
+
+def _unchanged(hint: Any) -> frozenset[type]:
+    hint = type_hints.bare(hint)
+    if isinstance(hint, type) and hint in _NATIVE_DECODERS:
+        return frozenset({hint})
+    if typing.get_origin(hint) in (typing.Union, types.UnionType):
+        members = [type_hints.bare(member) for member in typing.get_args(hint)]
+        if all(member in NATIVE for member in members):
+            return frozenset(members)
+        return frozenset({NONE} if NONE in members else ())
+    return frozenset()
 
 
 def _same(value: Any) -> Any:
@@ -131,159 +149,367 @@ def _same(value: Any) -> Any:
 
 
 def _of_class(hint: type) -> Decoder | None:
+    if hint in _NATIVE_DECODERS:
+        return _NATIVE_DECODERS[hint]
+    if hint in (object, Any):
+        return None
     if hasattr(hint, "model_validate"):
-        return _leaf(typing.cast(Decoder, hint.model_validate))
+        return _of_model(typing.cast(Decoder, hint.model_validate))
     if is_old_model(hint):
-        return _leaf(typing.cast(Decoder, getattr(hint, "parse_obj")))
+        return _of_model(typing.cast(Decoder, getattr(hint, "parse_obj")))
     if dataclasses.is_dataclass(hint):
         return _of_dataclass(hint, hint)
+    if type_hints.is_typed_dict(hint):
+        return _of_typed_dict(hint, hint)
     if issubclass(hint, enum.Enum):
-        return _named_leaf(_of_enum(hint), f": not a value of {hint.__name__}")
+        return _of_enum(hint)
     if hint in (tuple, set, frozenset):
-        return _of_items(hint, None)
+        return _of_items(hint, Any)
     if issubclass(hint, tuple) and hasattr(hint, "_fields"):
         return _of_named_tuple(hint)
-    make = _BY_TEXT.get(hint)
-    return _named_leaf(make, f": cannot be read as {hint.__name__}") if make else None
+    if hint in _BY_TEXT:
+        return _of_text(hint, _BY_TEXT[hint])
+    return _of_other_class(hint)
 
 
-def _leaf(make: Decoder) -> Decoder:
-    """Wrap a class of a user or of another package: its errors may show the value."""
+# -- leaves
+
+
+def _decode_text(value: Any) -> str:
+    if type(value) is str:
+        return value
+    raise wrong_type(NAMES[str], value)
+
+
+def _decode_integer(value: Any) -> int:
+    """Return an integer: also of a number without a fraction, which is the same in JSON."""
+    if type(value) is int:
+        return value
+    if type(value) is float:
+        if value.is_integer() and abs(value) <= MAX_EXACT:
+            return int(value)
+        raise Mismatch(": must be an integer, not a number with a fraction")
+    raise wrong_type(NAMES[int], value)
+
+
+def _decode_float(value: Any) -> float:
+    """Return a float: also of an integer that a float has exactly."""
+    if type(value) is float:
+        return value
+    if type(value) is int:
+        with contextlib.suppress(OverflowError):
+            if (number := float(value)) == value:
+                return number
+        raise Mismatch(": must be a number, not an integer with more digits than a float has")
+    raise wrong_type(NAMES[float], value)
+
+
+def _decode_boolean(value: Any) -> bool:
+    if type(value) is bool:
+        return value
+    raise wrong_type(NAMES[bool], value)
+
+
+def _decode_null(value: Any) -> None:
+    if value is not None:
+        raise wrong_type(NAMES[NONE], value)
+
+
+def _decode_object(value: Any) -> dict[str, Any]:
+    if type(value) is dict:
+        return value
+    raise wrong_type(NAMES[dict], value)
+
+
+def _decode_list(value: Any) -> list[Any]:
+    if type(value) is list:
+        return value
+    raise wrong_type(NAMES[list], value)
+
+
+_NATIVE_DECODERS: dict[type, Decoder] = {
+    str: _decode_text,
+    int: _decode_integer,
+    float: _decode_float,
+    bool: _decode_boolean,
+    NONE: _decode_null,
+    dict: _decode_object,
+    list: _decode_list,
+}
+
+
+def _decimal(value: Any) -> decimal.Decimal:
+    """Return a decimal number as JSON writes it: 19.99, not a binary fraction."""
+    if isinstance(value, bool) or not isinstance(value, (str, int, float)):
+        raise TypeError
+    return decimal.Decimal(repr(value) if isinstance(value, float) else value)
+
+
+def _datetime(value: Any) -> datetime.datetime:
+    if len(value) <= len("2026-01-02"):
+        raise ValueError  # a date has no time
+    return datetime.datetime.fromisoformat(value)
+
+
+_BY_TEXT: dict[type, Decoder] = {
+    datetime.datetime: _datetime,
+    datetime.date: datetime.date.fromisoformat,
+    datetime.time: datetime.time.fromisoformat,
+    uuid.UUID: uuid.UUID,
+    decimal.Decimal: _decimal,
+}
+
+
+def _of_text(hint: type, make: Decoder) -> Decoder:
+    """Wrap a class with an error of its own: those of the class may show the value."""
+
+    def read(value: Any) -> Any:
+        try:
+            return make(value)
+        except Mismatch as error:
+            if error.path:
+                raise
+            raise Mismatch(f": cannot be read as {hint.__name__}") from None
+        except Exception:
+            raise Mismatch(f": cannot be read as {hint.__name__}") from None
+
+    return read
+
+
+def _of_subclass(hint: type, plain: Decoder) -> Decoder:
+    """Return the decoder of a class that is stored as the class that it inherits from.
+
+    Args:
+        hint: The class.
+        plain: The decoder of the other class.
+    """
+    make: Callable[[Any], Any] = hint
+    if issubclass(hint, collections.defaultdict):
+        make = functools.partial(hint, None)
+    return _of_text(hint, lambda value: make(plain(value)))
+
+
+def _of_other_class(hint: type) -> Decoder:
+    """Return the decoder of a class that JSON does not have."""
+    base = next((base for base in (str, int, float, dict, list) if issubclass(hint, base)), None)
+    if base is not None:
+        return _of_subclass(hint, _NATIVE_DECODERS[base])
+
+    def read(value: Any) -> Any:
+        try:
+            is_of_hint = isinstance(value, hint)
+        except TypeError:  # a protocol, for example
+            return value
+        if not is_of_hint:
+            raise Mismatch(f": cannot be read as {hint.__name__}")
+        return value
+
+    return read
+
+
+def _of_model(make: Decoder) -> Decoder:
+    """Wrap a pydantic model: its errors may show the value."""
 
     def read(value: Any) -> Any:
         try:
             return make(value)
         except Exception as error:
-            raise type_checks.mismatch_of(error) from None
+            raise mismatch_of(error) from None
 
     return read
 
 
-def _named_leaf(make: Decoder, why: str) -> Decoder:
-    """Wrap a class with a fixed error message: its own errors may show the value."""
+def _values_by_form(members: Iterable[tuple[Any, Any]]) -> Decoder:
+    """Return a function that finds a member by its JSON value. It raises `KeyError`.
 
-    def read(value: Any) -> Any:
-        try:
-            return make(value)
-        except Exception:
-            raise Mismatch(why) from None
+    Args:
+        members: The JSON value of each member, or what is written as it, and the member.
+    """
+    scalars: dict[tuple[type, Any], Any] = {}
+    texts: dict[str, Any] = {}
+    for form, member in members:
+        if type(form) in NATIVE:
+            scalars.setdefault((type(form), form), member)
+        else:
+            try:
+                texts.setdefault(serialization.write(form), member)
+            except TypeError:  # it has no form in JSON: `NotSerializable`
+                continue
 
-    return read
+    def find(value: Any) -> Any:
+        if type(value) in NATIVE and (type(value), value) in scalars:
+            return scalars[type(value), value]
+        return texts[serialization.write(value)]
+
+    return find
 
 
 def _of_enum(hint: type[enum.Enum]) -> Decoder:
-    def make(value: Any) -> Any:
-        try:
-            return hint(value)
-        except ValueError:  # a member whose value has another form in JSON: a tuple, a date
-            text = serialization.write(value)
-            for member in hint:
-                with contextlib.suppress(NotSerializable):
-                    if serialization.write(member.value) == text:
-                        return member
-            raise
+    find = _values_by_form((member.value, member) for member in hint)
+    makes_members = issubclass(hint, enum.Flag) or "_missing_" in vars(hint)
 
-    return make
+    def read(value: Any) -> Any:
+        try:
+            return find(value)
+        except KeyError:
+            if makes_members:
+                return _made_member(hint, value)
+            raise Mismatch(f": not a value of {hint.__name__}") from None
+
+    return read
+
+
+def _made_member(hint: type[enum.Enum], value: Any) -> Any:
+    """Return the member that an enum makes of another value, or combines of flags."""
+    try:
+        return hint(value)
+    except Exception:
+        raise Mismatch(f": not a value of {hint.__name__}") from None
+
+
+def _of_literal(options: Sequence[Any]) -> Decoder:
+    find = _values_by_form(
+        (option.value if isinstance(option, enum.Enum) else option, option) for option in options
+    )
+
+    def read(value: Any) -> Any:
+        try:
+            return find(value)
+        except KeyError:
+            forms = (
+                option.value if isinstance(option, enum.Enum) else option for option in options
+            )
+            raise Mismatch(f": must be one of {', '.join(map(repr, forms))}") from None
+
+    return read
+
+
+# -- objects
 
 
 def _of_dataclass(hint: Any, whole: Any) -> Decoder:
-    parts: dict[str, Decoder | None] = {}
+    parts: list[tuple[str, _Part]] = []
 
     def make(value: Any) -> Any:
-        if not isinstance(value, dict):
+        if type(value) is not dict:
             raise Mismatch(f": {hint.__name__} requires an object")
         if not parts:  # not before the first value, since a class may name itself
-            field_hints = type_checks.field_hints(whole)
-            parts.update(
-                {
-                    field.name: decoder(field_hints[field.name])
-                    for field in dataclasses.fields(hint)
-                    if field.init
-                }
-            )
+            parts[:] = _field_parts(hint, whole)
         decoded = {}
-        for name, part in parts.items():
+        for name, (unchanged, decode) in parts:
             if name in value:
-                try:
-                    decoded[name] = value[name] if part is None else part(value[name])
-                except NameError:
-                    raise
-                except Exception as error:
-                    raise type_checks.mismatch_of(error, type_checks.part_path(name)) from None
+                item = value[name]
+                decoded[name] = item if type(item) in unchanged else _decoded(decode, item, name)
         try:
             return hint(**decoded)
         except Exception as error:
-            missing = type_checks.lacking_fields(value, hint)
-            raise missing or Mismatch(
+            raise lacking_fields(value, hint) or Mismatch(
                 f": {hint.__name__} rejects it ({type(error).__name__})"
             ) from None
 
     return make
 
 
-def _of_named_tuple(hint: Any) -> Decoder:
+def _field_parts(hint: Any, whole: Any) -> list[tuple[str, _Part]]:
+    """Return the fields of a dataclass with their types. A field with the default None has null."""
+    field_hints = type_hints.field_hints(whole)
+    parts: list[tuple[str, _Part]] = []
+    for field in dataclasses.fields(hint):
+        if field.init:
+            part = _Part.of(field_hints[field.name])
+            parts.append((field.name, part.or_none() if field.default is None else part))
+    return parts
+
+
+def _decoded(decode: Decoder, value: Any, name: object) -> Any:
+    """Return the decoded value of a field or an entry. Its error has the path."""
+    try:
+        return decode(value)
+    except NameError:
+        raise
+    except Exception as error:
+        raise mismatch_of(error, part_path(name)) from None
+
+
+def _of_typed_dict(hint: Any, whole: Any) -> Decoder:
+    """Return the decoder of a `TypedDict`. Entries that it does not name stay unchanged."""
+    parts: dict[str, _Part] = {}
+    required: list[str] = []
+
     def make(value: Any) -> Any:
-        field_hints = typing.get_type_hints(hint)
-        parts = [decoder(field_hints.get(name)) or _same for name in hint._fields]
-        if not isinstance(value, (list, tuple)) or len(value) != len(parts):
-            raise Mismatch(f": {hint.__name__} requires a list of {len(parts)}")
-        return hint(*_each(value, parts))
+        if type(value) is not dict:
+            raise Mismatch(f": {hint.__name__} requires an object")
+        if not parts:  # as for a dataclass
+            hints = type_hints.field_hints(whole).items()
+            required[:] = sorted(type_hints.required_keys(hint))
+            parts.update({name: _Part.of(field_hint) for name, field_hint in hints})
+        if missing := missing_names(value, hint.__name__, required, parts):
+            raise missing
+        decoded = {}
+        for name, item in value.items():
+            part = parts.get(name)
+            is_same = part is None or type(item) in part.unchanged
+            decoded[name] = item if is_same or part is None else _decoded(part.decode, item, name)
+        return decoded
 
     return make
 
 
-def _of_items(make: Decoder, inner: Decoder | None) -> Decoder | None:
-    if inner is None and make is list:
-        return None
-    part = inner or _same
+def _of_dict(key_hint: Any, hint: Any) -> Decoder:
+    key, (unchanged, decode) = _key_decoder(type_hints.bare(key_hint)), _Part.of(hint)
 
     def read(value: Any) -> Any:
-        if not isinstance(value, (list, tuple)):
-            raise Mismatch(": must be a list")
-        try:
-            return make([part(item) for item in value])
-        except Exception:
-            raise _first_error(value, part) or Mismatch(": its items cannot be read") from None
+        if type(value) is not dict:
+            raise wrong_type(NAMES[dict], value)
+        if key is None and set(map(type, value.values())) <= unchanged:
+            return value
+        decoded = {}
+        for text, item in value.items():
+            name = text if key is None else _decoded(key, text, text)
+            decoded[name] = item if type(item) in unchanged else _decoded(decode, item, text)
+        return decoded
 
     return read
 
 
-def _first_error(value: Iterable[Any], part: Decoder) -> Exception | None:
-    """Return the error of the first item that cannot be decoded."""
-    for index, item in enumerate(value):
-        try:
-            part(item)
-        except NameError as error:
-            return error
-        except Exception as error:
-            return type_checks.mismatch_of(error, f"[{index}]")
-    return None
-
-
-def _each(value: Iterable[Any], parts: Iterable[Decoder]) -> list[Any]:
-    """Decode each item with its own decoder."""
-    decoded: list[Any] = []
-    for index, (part, item) in enumerate(zip(parts, value)):
-        try:
-            decoded.append(part(item))
-        except NameError:
-            raise
-        except Exception as error:
-            raise type_checks.mismatch_of(error, f"[{index}]") from None
-    return decoded
-
-
-def _key(hint: Any) -> Decoder | None:
+def _key_decoder(hint: Any) -> Decoder | None:
     """Return the decoder of the keys of a dict, which are texts in JSON."""
-    if isinstance(hint, typing.NewType):
-        return _key(hint.__supertype__)
-    if hint in (int, float):
-        return typing.cast(Decoder, hint)
     if hint is bool:
-        return {"true": True, "false": False}.__getitem__
-    if isinstance(hint, type) and issubclass(hint, enum.Enum):
-        return _enum_key(hint)
-    return _BY_TEXT.get(hint) if isinstance(hint, type) else None
+        make: Decoder = {"true": True, "false": False}.__getitem__
+    elif hint is int:
+        make = _integer_key
+    elif hint is float:
+        make = _finite_key
+    elif typing.get_origin(hint) is typing.Literal:
+        return decoder(hint)
+    elif isinstance(hint, type) and issubclass(hint, enum.Enum):
+        make = _enum_key(hint)
+    elif isinstance(hint, type) and hint in _BY_TEXT:
+        make = _BY_TEXT[hint]
+    else:
+        return None
+
+    def read(text: Any) -> Any:
+        try:
+            return make(text)
+        except Exception:
+            raise Mismatch(f": its key cannot be read as {hint.__name__}") from None
+
+    return read
+
+
+def _integer_key(text: str) -> int:
+    number = int(text)
+    if str(number) != text:
+        raise ValueError
+    return number
+
+
+def _finite_key(text: str) -> float:
+    number = float(text)
+    if not math.isfinite(number):
+        raise ValueError
+    return number
 
 
 def _enum_key(hint: type[enum.Enum]) -> Decoder:
@@ -291,111 +517,165 @@ def _enum_key(hint: type[enum.Enum]) -> Decoder:
     return lambda key: by_text[key] if key in by_text else hint(key)
 
 
-def _of_dict(key: Decoder | None, inner: Decoder | None) -> Decoder | None:
-    if key is None and inner is None:
-        return None
-    name, part = _named(key) if key else _same, inner or _same
+# -- lists
+
+
+def _of_items(make: Any, hint: Any) -> Decoder:
+    unchanged, decode = _Part.of(hint)
 
     def read(value: Any) -> Any:
-        if not isinstance(value, dict):
-            raise Mismatch(": must be an object")
-        decoded = {}
-        for text, item in value.items():
-            try:
-                decoded[name(text)] = part(item)
-            except NameError:
-                raise
-            except Exception as error:
-                raise type_checks.mismatch_of(error, type_checks.part_path(text)) from None
-        return decoded
-
-    return read
-
-
-def _of_tuple(parts: list[Decoder]) -> Decoder:
-    def read(value: Any) -> Any:
-        if not isinstance(value, (list, tuple)):
-            raise Mismatch(": must be a list")
-        return tuple(_each(value, parts))
-
-    return read
-
-
-def _named(key: Decoder) -> Decoder:
-    """Return a decoder that leaves a key that is not of its type unchanged."""
-
-    def make(text: Any) -> Any:
+        if type(value) is not list:
+            raise wrong_type(NAMES[list], value)
+        if set(map(type, value)) <= unchanged:
+            items = value
+        else:
+            items = []
+            for index, item in enumerate(value):
+                if type(item) in unchanged:
+                    items.append(item)
+                else:
+                    items.append(_decoded_item(decode, item, index))
+        if make is list:
+            return items
         try:
-            return key(text)
-        except (TypeError, ValueError, KeyError):
-            return text
+            return make(items)
+        except Exception:  # an item of a set has no hash
+            raise Mismatch(": its items cannot be read") from None
 
-    return make
+    return read
 
 
-def _of_union(members: tuple[Any, ...]) -> Decoder | None:
-    pairs = [(member, decoder(member)) for member in members]
-    parts = [part for _, part in pairs if part is not None]
-    plain = [member for member, part in pairs if part is None]
-    numbers = [hint for hint in plain if hint in (int, float) and decimal.Decimal in members]
+def _decoded_item(decode: Decoder, value: Any, index: int) -> Any:
+    """Return the decoded value of an item. Its error has the path."""
+    try:
+        return decode(value)
+    except NameError:
+        raise
+    except Exception as error:
+        raise mismatch_of(error, f"[{index}]") from None
+
+
+def _of_tuple(make: Any, hints: Sequence[Any], required: int) -> Decoder:
+    """Return the decoder of a tuple, whose last items may have defaults.
+
+    Args:
+        make: Makes the tuple of its items.
+        hints: The types of the items.
+        required: The number of items without a default.
+    """
+    parts = [_Part.of(hint) for hint in hints]
+
+    def read(value: Any) -> Any:
+        if type(value) is not list:
+            raise wrong_type(NAMES[list], value)
+        if not required <= len(value) <= len(parts):
+            raise Mismatch(f": must be a list of {len(parts)}, not of {len(value)}")
+        return make(
+            [
+                item if type(item) in part.unchanged else _decoded_item(part.decode, item, index)
+                for index, (part, item) in enumerate(zip(parts, value))
+            ]
+        )
+
+    return read
+
+
+def _of_named_tuple(hint: Any) -> Decoder:
+    made: list[Decoder] = []
+
+    def read(value: Any) -> Any:
+        if not made:  # as for a dataclass
+            field_hints = typing.get_type_hints(hint)
+            hints = [field_hints.get(name, Any) for name in hint._fields]
+            required = len(hints) - len(hint._field_defaults)
+            made.append(_of_tuple(lambda items: hint(*items), hints, required))
+        if type(value) is not list:
+            raise Mismatch(f": {hint.__name__} requires a list of {len(hint._fields)}")
+        return made[0](value)
+
+    return read
+
+
+# -- unions
+
+
+def _of_union(members: Sequence[Any]) -> Decoder | None:
+    """Return the decoder of a union.
+
+    Null and numbers are what they are in JSON. Of the other types, the first counts that can read
+    the value and has all its fields; texts come last.
+    """
+    natives = [member for member in members if member in NATIVE]
+    others = [(member, decoder(member)) for member in members if member not in NATIVE]
+    decode_native = _of_natives(natives)
+    if not others:
+        return decode_native
+    parts = [(member, part) for member, part in others if part is not None]
+    has_any = len(parts) < len(others)
+    has_numbers_first = decimal.Decimal in members and (int in natives or float in natives)
     if not parts:
         return None
 
-    def make(value: Any) -> Any:
-        if value is None and type(None) in plain:
+    def read(value: Any) -> Any:
+        if value is None and NONE in natives:
             return None
-        if any(_may_be(value, hint) for hint in numbers):  # a `Decimal` is stored as a text
-            return value
-        errors, decoded = list[Exception](), list[Any]()
-        for part in parts:
+        if has_numbers_first and type(value) in (int, float):  # a `Decimal` is stored as a text
+            return decode_native(value)
+        errors, decoded = list[Mismatch](), list[Any]()
+        for member, part in parts:
             try:
                 decoded.append(part(value))
-            except (TypeError, ValueError, KeyError, AttributeError) as error:
-                errors.append(error)
+            except NameError:
+                raise
+            except Exception as error:
+                errors.append(mismatch_of(error))
                 continue
-            if len(parts) == 1 or _has_all_fields(decoded[-1], value):
+            if len(parts) == 1 or _has_all_fields(member, value):
                 return decoded[-1]
         if decoded:
             return decoded[0]
-        if any(_may_be(value, hint) for hint in plain):
+        if has_any:
             return value
-        has_more = any(hint is not type(None) for hint in plain)
-        if len(errors) == 1 and (isinstance(value, dict) or not has_more):
-            raise type_checks.mismatch_of(errors[0])
-        raise Mismatch(": matches none of its types")
+        try:
+            return decode_native(value)
+        except Mismatch:
+            _raise_nearest(errors, value, [member for member in natives if member is not NONE])
 
-    return make
+    return read
 
 
-def _has_all_fields(decoded: Any, value: Any) -> bool:
-    """Return whether a decoded value has fields for all entries of the JSON object."""
-    if not isinstance(value, dict):
+def _raise_nearest(errors: list[Mismatch], value: Any, natives: Sequence[Any]) -> NoReturn:
+    """Raise the error of the type of a union that comes nearest to a value."""
+    if len(errors) == 1 and (isinstance(value, (dict, list)) or not natives):
+        raise errors[0]
+    deepest = max(errors, key=lambda error: len(error.path))
+    raise deepest if deepest.path else Mismatch(": matches none of its types")
+
+
+def _of_natives(members: Sequence[Any]) -> Decoder:
+    """Return the decoder of a union of texts, numbers, booleans and null."""
+    unchanged = frozenset(members)
+    expected = " or ".join(NAMES[member] for member in members)
+    number = next((member for member in (int, float) if member in unchanged), None)
+
+    def read(value: Any) -> Any:
+        if type(value) in unchanged:
+            return value
+        if number is not None and type(value) in (int, float):
+            return _NATIVE_DECODERS[number](value)
+        raise wrong_type(expected, value)
+
+    return read
+
+
+def _has_all_fields(hint: Any, value: Any) -> bool:
+    """Return whether a type has fields for all entries of a JSON object."""
+    if type(value) is not dict:
         return True
-    if dataclasses.is_dataclass(decoded):
-        names = {field.name for field in dataclasses.fields(decoded)}
-    else:
-        fields = getattr(type(decoded), "model_fields", None) or getattr(
-            decoded, "__fields__", None
-        )
-        if fields is None:
-            return True
-        names = {*fields, *(str(getattr(field, "alias", "")) for field in fields.values())}
-    return names >= set(value)
-
-
-_JSON: dict[Any, tuple[type, ...]] = {
-    str: (str,),
-    int: (int,),
-    float: (int, float),
-    bool: (bool,),
-    dict: (dict,),
-    list: (list,),
-    type(None): (type(None),),
-}
-"""The JSON types that a plain hint accepts. Any other hint accepts every value."""
-
-
-def _may_be(value: Any, hint: Any) -> bool:
-    """Return whether a hint that needs no decoder accepts a JSON value."""
-    kinds = _JSON.get(typing.get_origin(hint) or hint)
-    return kinds is None or isinstance(value, kinds)
+    kind = typing.get_origin(hint) or hint
+    names = type_hints.field_names(kind)
+    if names is None:
+        return True
+    fields = getattr(kind, "model_fields", None) or getattr(kind, "__fields__", None) or {}
+    aliases = {str(getattr(field, "alias", "")) for field in fields.values()}
+    return names | aliases >= value.keys()

@@ -6,18 +6,29 @@ import dataclasses
 import functools
 import hashlib
 import re
-from collections.abc import Iterable
+from collections.abc import Collection, Iterable
 from typing import Any, Union
 
 import tomllib
 
 VERSION = re.compile(r"# version (\d+)\n")
 NAME = re.compile(r'^name = "(.*)"$', re.M)
+WRITTEN = re.compile(
+    r"# (?:version \d+|pivot \S+|undoes \S+|of \S+|includes \S+ \S+ \d+(?: given)?|sees.*"
+    r"|compensated|nothing to undo|optional)"
+)
+"""The comments that the package writes."""
 
 
 def digest_of(text: str) -> str:
     """Return the digest of one definition, given its text."""
     return hashlib.sha256(text.encode()).hexdigest()[:16]
+
+
+def is_written(text: str) -> bool:
+    """Return whether the package may have written a definition: it has only its comments."""
+    lines = text.splitlines()
+    return all(not line.startswith(("#", "[defaults")) or WRITTEN.fullmatch(line) for line in lines)
 
 
 def version_of(text: str) -> int:
@@ -43,7 +54,19 @@ COMPENSATED = "# compensated"
 
 The cost `undo` does not show it: a step that needs no compensation may have the cost 0, too.
 """
-MARKED = re.compile(rf'^name = "(.*)"\n(?:# of .*\n)?{COMPENSATED}$', re.M)
+NOTHING = "# nothing to undo"
+"""The line in its place for a step with `undo=NOTHING`.
+
+A step without either line is a wait, an approval or a child, was declared with `undo=0` and no
+compensation, or is of an older release.
+"""
+OPTIONAL = "# optional"
+"""The line after that of a step whose failure does not make the saga recover."""
+MARKED = re.compile(r'^name = "(.*)"\n((?:# .*\n)+)', re.M)
+"""The name of a step, and the lines that say more about it."""
+PIVOT_HEAD = "# pivot "
+PIVOT = re.compile(rf"^{PIVOT_HEAD}(\S+)$", re.M)
+"""The line of the head with the name of the step that is the saga's pivot."""
 ListedCost = Union[int, str]
 """A cost in the text of a definition: a number, or `never`."""
 
@@ -63,6 +86,8 @@ class ListedStep:
         undo_tries: The maximum number of attempts of its compensation.
         is_compensated: Whether the program that started the saga had a compensation for it; False
             in definitions of old releases, which do not say it.
+        has_nothing: Whether it was declared with `undo=NOTHING`.
+        is_optional: Whether its failure does not make the saga recover.
     """
 
     name: str
@@ -74,6 +99,13 @@ class ListedStep:
     keep: ListedCost
     undo_tries: int = 1
     is_compensated: bool = False
+    has_nothing: bool = False
+    is_optional: bool = False
+
+
+def steps_with_nothing(text: str) -> frozenset[str]:
+    """Return the names of the steps of a definition that have nothing to undo."""
+    return _marked_steps(text, NOTHING)
 
 
 @functools.lru_cache(MAX_KEPT)
@@ -82,13 +114,31 @@ def listed_steps(text: str) -> tuple[ListedStep, ...]:
 
     `tomllib` takes 30 ms for 1,024 steps, and one view of a saga needs them several times.
     """
-    marked = {*MARKED.findall(text)}
+    marks = {name: lines.splitlines() for name, lines in MARKED.findall(text)}
     return tuple(
-        _listed_step(table, table["name"] in marked) for table in tomllib.loads(text)["step"]
+        _listed_step(table, marks.get(table["name"], ())) for table in tomllib.loads(text)["step"]
     )
 
 
-def _listed_step(table: dict[str, Any], is_compensated: bool) -> ListedStep:
+def optional_steps(text: str) -> frozenset[str]:
+    """Return the names of the optional steps of a definition."""
+    return _marked_steps(text, OPTIONAL)
+
+
+def _marked_steps(text: str, mark: str) -> frozenset[str]:
+    """Return the names of the steps of a definition that have this line."""
+    if f"\n{mark}\n" not in text:
+        return frozenset()
+    return frozenset(name for name, lines in MARKED.findall(text) if mark in lines.splitlines())
+
+
+def pivot_of(text: str) -> str | None:
+    """Return the name of the pivot of a definition, whose costs the package computed; or None."""
+    match = PIVOT.search(text)
+    return match[1] if match else None
+
+
+def _listed_step(table: dict[str, Any], marks: Collection[str]) -> ListedStep:
     run, undo, skip, keep = (table.get(name, 0) for name in ("run", "undo", "skip", "keep"))
     return ListedStep(
         table["name"],
@@ -99,7 +149,9 @@ def _listed_step(table: dict[str, Any], is_compensated: bool) -> ListedStep:
         skip,
         keep,
         table.get("undo_tries", 1),
-        is_compensated,
+        COMPENSATED in marks,
+        NOTHING in marks,
+        OPTIONAL in marks,
     )
 
 
@@ -129,7 +181,7 @@ def included(text: str) -> dict[str, tuple[str, int]]:
 
 def giving(text: str) -> frozenset[str]:
     """Return the paths of the inclusions that have a function `given=`."""
-    return frozenset(path for path, _, _, given in INCLUDES.findall(text) if given)
+    return frozenset(path for path, _, _, ending in INCLUDES.findall(text) if ending)
 
 
 def without_costs(text: str) -> str:
@@ -157,11 +209,31 @@ def shaped_steps(text: str) -> list[dict[str, Any]]:
     return steps
 
 
-# -- definitions of sagas that undo a child
+# -- definitions of sagas that the package makes
 
 
 MAX_NAME = 32
 """Maximum length of the name of a saga or of a step, in characters."""
+EACH_ENDING = "-each"
+STARTS_EACH = re.compile(r"^# starts each child of (\S+)$", re.M)
+"""The line of the head with the step whose children a saga starts, one for each item."""
+
+
+def each_name_of(saga: str, step: str) -> str:
+    """Return the name of the saga that starts the children of a step."""
+    return _name_with(f"{saga}-{step}", EACH_ENDING)
+
+
+def each_line(step: str) -> str:
+    """Return the line of the head of a saga that starts the children of a step."""
+    return f"# starts each child of {step}"
+
+
+def starts_each(text: str) -> bool:
+    """Return whether the sagas of a definition start the children of one step."""
+    return STARTS_EACH.search(text) is not None
+
+
 UNDO_ENDING = "-undo"
 UNDOES = re.compile(r"^# undoes (\S+)$", re.M)
 """The line of the head with the name of the child."""
@@ -192,10 +264,15 @@ class Compensation:
 
 def undo_name_of(child: str) -> str:
     """Return the name of the saga that undoes the child with this name."""
-    if len(child) + len(UNDO_ENDING) <= MAX_NAME:
-        return f"{child}{UNDO_ENDING}"
-    digest = hashlib.sha256(child.encode()).hexdigest()[:6]
-    return f"{child[: MAX_NAME - len(UNDO_ENDING) - 7]}-{digest}{UNDO_ENDING}"
+    return _name_with(child, UNDO_ENDING)
+
+
+def _name_with(saga: str, ending: str) -> str:
+    """Return a saga's name with an ending, and shortened to `MAX_NAME` if it is too long."""
+    if len(saga) + len(ending) <= MAX_NAME:
+        return f"{saga}{ending}"
+    digest = hashlib.sha256(saga.encode()).hexdigest()[:6]
+    return f"{saga[: MAX_NAME - len(ending) - 7]}-{digest}{ending}"
 
 
 def child_of(text: str) -> str | None:
@@ -252,3 +329,22 @@ def read_compensations(text: str) -> list[Compensation]:
         )
         for step in listed_steps(text)
     ]
+
+
+# -- definitions of sagas that call `on_end`
+
+
+END_ENDING = "-end"
+ENDS = re.compile(r"^# ends (\S+)$", re.M)
+"""The line of the head with the name of the saga after whose end the function is called."""
+
+
+def end_name_of(saga: str) -> str:
+    """Return the name of the saga that calls the `on_end` function of the saga with this name."""
+    return _name_with(saga, END_ENDING)
+
+
+def ended_of(text: str) -> str | None:
+    """Return the name of the saga after whose end a definition's sagas call, or None."""
+    match = ENDS.search(text)
+    return match[1] if match else None

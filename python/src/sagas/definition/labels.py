@@ -15,6 +15,11 @@ TOKEN = "=token"
 Its value is the size of the input in bytes and the name of the token. Callers cannot set it, and no
 list shows it.
 """
+RESTART = "=restart"
+"""The name of a hidden label of sagas that restart another one.
+
+Its value is the id and the key of that one, as `restart_value` writes them.
+"""
 NONE: dict[str, str] = {}
 MAX_LABELS, MAX_NAME, MAX_VALUE = 16, 64, 256
 RULE = (
@@ -26,6 +31,22 @@ RULE = (
 def with_token(labels: Labels, token: str, size: int) -> Labels:
     """Return labels with the hidden one: the token of the start, and the input's size."""
     return {**labels, TOKEN: f"{size} {token}"}
+
+
+def is_hidden(name: str) -> bool:
+    """Return whether a label is one of the package, which no list shows."""
+    return name.startswith("=")
+
+
+def restart_value(id: int, key: str) -> str:
+    """Return the value of the hidden label of a restart of the saga with this id and key."""
+    return f"{id} {key}"
+
+
+def restarted(value: str) -> tuple[int, str]:
+    """Return the id and the key that a value of `restart_value` has."""
+    id, _, key = value.partition(" ")
+    return int(id), key
 
 
 def is_text(value: Any, maximum: int) -> bool:

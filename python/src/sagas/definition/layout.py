@@ -188,7 +188,7 @@ class Layout:
             if origin.scope[:count] == scope:
                 yield name[cut:], name
 
-    def own(self, scope: Scope, name: str, index: int | None) -> str:
+    def item_name(self, scope: Scope, name: str, index: int | None) -> str:
         """Return the full name of a declared step's item.
 
         Raises:
@@ -222,8 +222,8 @@ class Layout:
         count = values.count(scope, name)
         if not rest:
             if count is None:
-                return value_of(self.own(scope, name, None))
-            gathered = [value_of(self.own(scope, name, index)) for index in range(count)]
+                return value_of(self.item_name(scope, name, None))
+            gathered = [value_of(self.item_name(scope, name, index)) for index in range(count)]
         else:
             if count is None:
                 return self.gather((*scope, (name, None)), rest, values, value_of)
@@ -245,7 +245,7 @@ class RemoteLayout(Layout):
         super().__init__((), ())
         self._values = values
 
-    def own(self, scope: Scope, name: str, index: int | None) -> str:
+    def item_name(self, scope: Scope, name: str, index: int | None) -> str:
         """Return the full name of a declared step's item, which may have no result.
 
         Raises:

@@ -10,6 +10,7 @@ from collections.abc import Awaitable, Iterable
 from typing import Any, NamedTuple, Protocol
 
 from sagas.base.errors import CannotDecode, NotSerializable, StoreUnavailable
+from sagas.definition import erasure, serialization
 from sagas.definition.arguments import shown
 
 
@@ -155,7 +156,14 @@ ESCAPED = '{"$plain":'
 """The beginning of a stored value that is escaped, because it begins as a reserved one."""
 ABSENT = '{"$absent":true}'
 """The placeholder of a stored value that is not in memory. It is never stored."""
-RESERVED = ('{"$codec":', '{"$blob":', '{"$absent":', ESCAPED)
+RESERVED = (
+    '{"$codec":',
+    '{"$blob":',
+    '{"$absent":',
+    serialization.FAILED_HEAD,
+    erasure.ERASED_HEAD,
+    ESCAPED,
+)
 """The beginnings of stored texts that are not plain values."""
 
 

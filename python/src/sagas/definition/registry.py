@@ -7,7 +7,7 @@ import hashlib
 import json
 import weakref
 from collections import OrderedDict
-from collections.abc import Callable, Iterable, Iterator, Sequence
+from collections.abc import Callable, Iterable, Iterator, Mapping, Sequence
 from typing import Any, NamedTuple, TypeVar
 
 from sagas.base.errors import DefinitionError, MissingStep, SagasError
@@ -16,14 +16,16 @@ from sagas.definition.capacity import MAX_DEFINITIONS, SHARD_CAPACITY
 from sagas.definition.compiled import CompiledDefinition, Hooks
 from sagas.definition.definition_text import listed_steps, name_of, version_of
 from sagas.definition.payloads import PLAIN as PLAIN_PAYLOADS, Payloads
+from sagas.definition.parts import SagaParts
 from sagas.definition.saga import Saga, declared_text
-from sagas.definition.shape import Declaration, Shape, Template
+from sagas.definition.declaration import Declaration
+from sagas.definition.shape import Shape, Template
 from sagas.definition.step import Step
 from sagas.definition.task_data import Context
 from sagas.definition.waits import check_is_saga
 
 
-def digest_and_texts(sagas: Iterable[Saga]) -> tuple[str, list[str]]:
+def digest_and_texts(sagas: Iterable[Saga[Any]]) -> tuple[str, list[str]]:
     """Return the digest of a set of definitions, and their texts sorted by name."""
     texts = [
         declared_text(saga) for saga in sorted(sagas, key=lambda saga: (saga.name, saga.version))
@@ -64,12 +66,33 @@ class Fitted(NamedTuple):
     wrong: SagasError | None
 
 
+def with_end_sagas(sagas: Mapping[tuple[str, int], Saga[Any]]) -> dict[tuple[str, int], Saga[Any]]:
+    """Return the sagas of a store, with those that call `on_end` functions.
+
+    Raises:
+        DefinitionError: A saga has the name of one that calls such a function.
+    """
+    complete = dict(sagas)
+    for saga in sagas.values():
+        if (end_saga := saga.end_saga) is None:
+            continue
+        if (end_saga.name, end_saga.version) in complete:
+            other = complete[end_saga.name, end_saga.version]
+            raise DefinitionError(
+                f"{other.where}: saga {other.name!r}: the saga that calls on_end of {saga.name!r} "
+                "has this name. Set another name"
+            )
+        complete[end_saga.name, end_saga.version] = end_saga
+    return complete
+
+
 class DefinitionRegistry:
     """The sagas of an open store, and the definitions that it compiled for them.
 
     Attributes:
         declared: The sagas that the store was opened with.
-        sagas: These sagas, and the sagas that undo their children, by name and version.
+        sagas: These sagas, by name and version, with the sagas that undo their children, and those
+            that call their `on_end` functions.
         context: The context that their functions share.
         payloads: How inputs and results are stored.
         digest: The digest of the definitions.
@@ -79,8 +102,8 @@ class DefinitionRegistry:
         by_name: The definitions of the sagas with fixed steps, by name and version.
     """
 
-    def __init__(self, sagas: Iterable[Saga], payloads: Payloads = PLAIN_PAYLOADS) -> None:
-        self.sagas: dict[tuple[str, int], Saga] = {}
+    def __init__(self, sagas: Iterable[Saga[Any]], payloads: Payloads = PLAIN_PAYLOADS) -> None:
+        self.sagas: dict[tuple[str, int], Saga[Any]] = {}
         self.context, self.payloads = Context(), payloads
         self._hooks: Callable[[str], Hooks] = lambda name: {}
         if isinstance(sagas, Saga) or not isinstance(sagas, Iterable):
@@ -100,24 +123,36 @@ class DefinitionRegistry:
         if not self.sagas:
             raise DefinitionError("a store needs at least one saga")
         self.declared = list(self.sagas.values())
-        self.sagas = undo_sagas.with_undo_sagas(self.sagas)
+        self.sagas = with_end_sagas(undo_sagas.with_undo_sagas(self.sagas))
         self.digest, self.texts = digest_and_texts(self.sagas.values())
         self._kinds: dict[str, CompiledDefinition] = {}
-        self._report_undos: dict[tuple[str, int, str], Saga] = {}
+        self._report_undos: dict[tuple[str, int, str], Saga[Any]] = {}
         self._shaped = ShapedKinds(self)
         self.kinds = [self.kind(saga.toml()) for saga in self._fixed()]
         self._check_queues()
         self.room = SHARD_CAPACITY
         self.by_name = {(kind.name, kind.version): kind for kind in self.kinds}
-        self._fitted = {
+        self._fitted: dict[SagaParts, Fitted] = {
             saga: Fitted(self.by_name[name], None, None)
             for name, saga in self.sagas.items()
             if name in self.by_name
         }
         self._sets = dict(self._divided())
-        self._calling: dict[Saga, bool] = {}  # whether functions compute the steps
+        self._calling: dict[SagaParts, bool] = {}  # whether functions compute the steps
 
-    def report_undo(self, saga: Saga, step: Step[Any]) -> Saga:
+    def end_kind(self, kind: CompiledDefinition) -> CompiledDefinition | None:
+        """Return the definition of the saga that calls `on_end` after the end of another one.
+
+        Args:
+            kind: The definition that the saga ran with.
+
+        Returns:
+            None if this program has no such function for it.
+        """
+        end_saga = kind.saga.end_saga if kind.saga is not None else None
+        return None if end_saga is None else self.by_name[end_saga.name, end_saga.version]
+
+    def report_undo(self, saga: SagaParts, step: Step[Any]) -> Saga[Any]:
         """Return the saga that calls the compensation of a step with an unused report.
 
         `report_undos.fault` must allow it.
@@ -136,7 +171,7 @@ class DefinitionRegistry:
             self._sets[kind] = DefinitionSet(digest_of_texts([kind.text]), [kind])
         return self._report_undos[name]
 
-    def _undoing(self, text: str) -> Saga | None:
+    def _undoing(self, text: str) -> Saga[Any] | None:
         """Return the saga that undoes an unused report, given its stored definition."""
         name, version = name_of(text), version_of(text)
         if definition_text.child_of(text) is not None or not name.endswith(
@@ -158,7 +193,7 @@ class DefinitionRegistry:
                     return self.report_undo(saga, step)
         return None
 
-    def _fixed(self) -> list[Saga]:
+    def _fixed(self) -> list[Saga[Any]]:
         """Return the sagas whose steps do not come from their input, sorted by name."""
         fixed = (saga for saga in self.sagas.values() if not saga.is_shaped)
         return sorted(fixed, key=lambda saga: (saga.name, saga.version))
@@ -186,9 +221,9 @@ class DefinitionRegistry:
 
     def kind(self, text: str) -> CompiledDefinition:
         """Return the definition of a text."""
-        if definition_text.is_shaped(text):
-            return self._shaped.kind(text)
-        if text not in self._kinds:
+        if text not in self._kinds:  # those of shaped sagas are elsewhere
+            if definition_text.is_shaped(text):
+                return self._shaped.kind(text)
             saga = self._undoing(text) or self._saga(text)
             if text in self._kinds:
                 return self._kinds[text]
@@ -196,7 +231,7 @@ class DefinitionRegistry:
             kind.hooks = self._hooks_of(kind)
         return self._kinds[text]
 
-    def _saga(self, text: str) -> Saga | None:
+    def _saga(self, text: str) -> Saga[Any] | None:
         """Return the saga with the functions of a definition, or None.
 
         The saga that undoes a child follows the stored definition, even if the program declares
@@ -236,7 +271,7 @@ class DefinitionRegistry:
         """Return the webhooks that receive events of the sagas with this name."""
         return self._hooks(name)
 
-    def fit(self, saga: Saga, text: str) -> Fitted | None:
+    def fit(self, saga: SagaParts, text: str) -> Fitted | None:
         """Return the definition of a saga for an input.
 
         Args:
@@ -249,7 +284,7 @@ class DefinitionRegistry:
         Raises:
             DefinitionError: The store was not opened with this saga.
         """
-        if not isinstance(saga, Saga):
+        if not isinstance(saga, SagaParts):
             check_is_saga(saga)
         fitted = self._fitted.get(saga)
         if fitted is not None and (kind := fitted.kind) is not None:
@@ -264,7 +299,7 @@ class DefinitionRegistry:
             self._calling[saga] = saga.calls_functions
         return None if self._calling[saga] else self.shaped(text, self.shaping(saga, text)())
 
-    def shaping(self, saga: Saga, text: str) -> Callable[[], Shape | SagasError]:
+    def shaping(self, saga: SagaParts, text: str) -> Callable[[], Shape | SagasError]:
         """Return a function that computes the shape of a saga for an input.
 
         It calls functions of the declaration, which may be slow, so call it in a thread. It returns
@@ -303,12 +338,14 @@ class DefinitionRegistry:
     def _hooks_of(self, kind: CompiledDefinition) -> Hooks:
         """Return the webhooks that receive events of the sagas of a definition.
 
-        If the sagas undo children, these are also the webhooks of the children.
+        If the sagas undo children, or call `on_end`, these are also the webhooks of the children,
+        or of the sagas that have ended.
         """
-        hooks, child = self._hooks(kind.name), kind.saga and kind.saga.undoes
-        if not child:
+        saga = kind.saga
+        hooks, other = self._hooks(kind.name), saga and (saga.undoes or saga.ends)
+        if not other:
             return hooks
-        more = self._hooks(child.name)
+        more = self._hooks(other.name)
         types = dict.fromkeys((*hooks, *more))
         return {
             name: (*dict.fromkeys((*hooks.get(name, ()), *more.get(name, ()))),) for name in types
@@ -388,7 +425,7 @@ class ShapedKinds:
             self._declared[name, version] = Declaration(self._registry.sagas.get((name, version)))
         return self._declared[name, version]
 
-    def shaping(self, saga: Saga, text: str) -> Callable[[], Shape]:
+    def shaping(self, saga: SagaParts, text: str) -> Callable[[], Shape]:
         """Return a function that computes the shape of a saga for an input.
 
         A thread may call it. It raises `InvalidInput` if the steps cannot be computed from the

@@ -2,33 +2,37 @@
 
 from __future__ import annotations
 
-import datetime
 import hashlib
 import sys
-from collections.abc import Awaitable, Callable, Iterable, Iterator, Mapping, Sequence
-from typing import Any, Literal, TypeVar, overload
+from collections.abc import Awaitable, Callable, Iterable, Mapping, Sequence
+from typing import Any, Generic, Literal, TypeVar, Unpack, overload
 
 from sagas.base import program
 from sagas.base.errors import DefinitionError
 from sagas.base.wording import number
-from sagas.definition import definition_text, drawing, serialization, shape, validation
+from sagas.definition import (
+    definition_text,
+    drawing,
+    end_calls,
+    pivot,
+    serialization,
+    shape,
+    validation,
+)
 from sagas.definition.call_options import (
-    Backoff,
     Bounds,
-    CostOf,
-    EarlyUnused,
+    Cost,
     Manner,
     NEVER,
-    OnExhausted,
-    RemoteQueue,
+    SagaOptions,
     Seconds,
-    UNKNOWN,
-    Unknowns,
+    Undo,
     nothing,
     rate_limit_of,
     seconds,
+    with_defaults,
 )
-from sagas.definition.serialization import Decoder
+from sagas.definition.parts import Order, SagaParts
 from sagas.definition.step import (
     Declare,
     DeclareEach,
@@ -43,18 +47,24 @@ from sagas.definition.step import (
     R,
     Step,
     caller,
-    has_computed_costs,
-    is_compensated,
-    is_shaped_step,
     location_of,
     mark_collected,
+    mark_lines,
+)
+from sagas.definition.step_options import (
+    EndOptions,
+    ExternalOptions,
+    FunctionOptions,
+    StepOptions,
+    step_defaults,
 )
 from sagas.definition.waits import WaitSteps, check_is_saga
 
+I = TypeVar("I")
 T = TypeVar("T")
 
 
-class Saga(WaitSteps):
+class Saga(WaitSteps, Generic[I]):
     """Declare a type of saga: a name, a version, and its steps in order.
 
     Open sagas of an older version continue with its functions, as long as `open` gets both
@@ -67,8 +77,18 @@ class Saga(WaitSteps):
             has not ended (default: none). `Store.start` may set another one.
         fair_by: A function of the input as a JSON value, whose result names a tenant. The slots of
             `open(concurrency=...)` are shared among tenants in turn (default: None).
-        input: The type of the input, for the functions that compute steps and costs (default:
-            the hint of the first step that has one).
+        input: The type of the input: a dataclass, a `TypedDict`, a pydantic model or another type.
+            `start` decodes the input with it, and a type checker refuses an input of another type.
+            Functions that compute steps and costs get it (default: the hint of the first step that
+            has one).
+        order: `needs`: steps that do not need one another run in parallel. `declared`: each step
+            also needs the step, or the included saga, that is declared before it (default:
+            `needs`).
+        defaults: `tries`, `backoff`, `timeout`, `no_effect`, `max_unknown`, `on_exhausted` and
+            `queue` of all its steps and their compensations, for those that do not have their own.
+            See `StepOptions`. Waits, approvals and steps done elsewhere take those that they can
+            have. For an approval, `timeout` is that of its function. Child sagas and included sagas
+            have their own. With `on_exhausted="fail"`, a compensation asks nevertheless.
 
     Attributes:
         name: The name.
@@ -77,14 +97,18 @@ class Saga(WaitSteps):
         where: File and line of the declaration.
         fair_by: The function that names the tenant, or None.
         input_type: As given.
+        order: As given.
+        defaults: As given, by name.
         parts: The steps and the inclusions, in the order of their declaration.
         steps: The steps.
         outers: The sagas that include it.
         decorators: Decorators that no function has yet.
         has_children: Whether a step of it, or of a saga that it includes, starts another saga.
+        end_saga: The saga that calls its `on_end` function, or None.
 
     Raises:
-        DefinitionError: The name, the version or the deadline is not valid.
+        DefinitionError: The name, the version, the deadline or a default is not valid.
+        TypeError: An option does not exist.
 
     Example:
         >>> import sagas, sagas.testing
@@ -100,6 +124,45 @@ class Saga(WaitSteps):
         ...     raise sagas.Fail("sold out")
     """
 
+    @overload
+    def __init__(
+        self: Saga[Any],
+        name: str,
+        *,
+        version: int = 1,
+        deadline: Seconds | None = None,
+        fair_by: Callable[[Any], Any] | None = None,
+        input: None = None,
+        **defaults: Unpack[SagaOptions],
+    ) -> None:
+        ...
+
+    @overload
+    def __init__(
+        self,
+        name: str,
+        *,
+        input: type[I],
+        version: int = 1,
+        deadline: Seconds | None = None,
+        fair_by: Callable[[Any], Any] | None = None,
+        **defaults: Unpack[SagaOptions],
+    ) -> None:
+        ...
+
+    @overload
+    def __init__(
+        self: Saga[Any],
+        name: str,
+        *,
+        input: Any,
+        version: int = 1,
+        deadline: Seconds | None = None,
+        fair_by: Callable[[Any], Any] | None = None,
+        **defaults: Unpack[SagaOptions],
+    ) -> None:
+        ...
+
     def __init__(
         self,
         name: str,
@@ -108,16 +171,21 @@ class Saga(WaitSteps):
         deadline: Seconds | None = None,
         fair_by: Callable[[Any], Any] | None = None,
         input: Any = None,
+        order: Order = "needs",
+        **defaults: Unpack[SagaOptions],
     ) -> None:
         self.name, self.version, self.where = name, version, caller(2)
         self.deadline, self.fair_by = deadline, fair_by
-        self.input_type = input
+        self.input_type, self.order, self.defaults = input, order, defaults
+        self._roles: tuple[int, Mapping[str, pivot.Role]] = (0, {})
         self.parts: list[Part] = []
         self.steps: list[Step[Any]] = []
-        self.outers: list[Saga] = []
+        self.outers: list[SagaParts] = []
         self.decorators: list[Decorator] = []
         validation.check_name(self)
         validation.check_key(fair_by, f"{self.where}: saga {name!r}: fair_by")
+        validation.check_order(self)
+        validation.check_defaults(self)
 
     @overload
     def step(self, function: Callable[[Any], Awaitable[R]], /) -> Step[R]:
@@ -134,20 +202,8 @@ class Saga(WaitSteps):
         /,
         *,
         external: Literal[True],
-        name: str,
-        needs: Iterable[Need] = (),
-        run: CostOf = 0,
-        undo: CostOf | None = None,
-        skip: CostOf = 0,
-        keep: CostOf = 0,
-        tries: int = 1,
-        backoff: Backoff = Backoff(),
-        concurrency: int | None = None,
-        on_exhausted: OnExhausted = "fail",
-        max_attempts: int | None = None,
         for_each: None = None,
-        when: Callable[[Any], Any] | None = None,
-        early_unused: EarlyUnused = "ask",
+        **options: Unpack[ExternalOptions],
     ) -> Step[Any]:
         ...
 
@@ -158,20 +214,8 @@ class Saga(WaitSteps):
         /,
         *,
         external: Literal[True],
-        name: str,
         for_each: ForEach,
-        needs: Iterable[Need] = (),
-        run: CostOf = 0,
-        undo: CostOf | None = None,
-        skip: CostOf = 0,
-        keep: CostOf = 0,
-        tries: int = 1,
-        backoff: Backoff = Backoff(),
-        concurrency: int | None = None,
-        on_exhausted: OnExhausted = "fail",
-        max_attempts: int | None = None,
-        when: Callable[[Any], Any] | None = None,
-        early_unused: EarlyUnused = "ask",
+        **options: Unpack[ExternalOptions],
     ) -> FanOut[Any, Any]:
         ...
 
@@ -182,58 +226,13 @@ class Saga(WaitSteps):
         /,
         *,
         for_each: Callable[[Any], Mapping[str, T]],
-        name: str | None = None,
-        needs: Iterable[Need] = (),
-        run: CostOf = 0,
-        undo: CostOf | None = None,
-        skip: CostOf = 0,
-        keep: CostOf = 0,
-        tries: int = 1,
-        timeout: Seconds | None = None,
-        backoff: Backoff = Backoff(),
-        unknown: Unknowns = UNKNOWN,
-        max_unknown: int | datetime.timedelta | None = None,
-        concurrency: int | None = None,
-        transaction: bool = False,
-        queue: RemoteQueue | None = None,
-        fleet_concurrency: int | None = None,
-        rate_limit: tuple[int, Seconds] | None = None,
-        on_exhausted: OnExhausted = "fail",
-        max_attempts: int | None = None,
-        cancel_on_abort: bool = False,
-        concurrency_by: Callable[[Any], Any] | None = None,
-        when: Callable[[Any], Any] | None = None,
+        **options: Unpack[FunctionOptions],
     ) -> DeclareKeyed[T]:
         ...
 
     @overload
     def step(
-        self,
-        function: None = None,
-        /,
-        *,
-        for_each: str,
-        name: str | None = None,
-        needs: Iterable[Need] = (),
-        run: CostOf = 0,
-        undo: CostOf | None = None,
-        skip: CostOf = 0,
-        keep: CostOf = 0,
-        tries: int = 1,
-        timeout: Seconds | None = None,
-        backoff: Backoff = Backoff(),
-        unknown: Unknowns = UNKNOWN,
-        max_unknown: int | datetime.timedelta | None = None,
-        concurrency: int | None = None,
-        transaction: bool = False,
-        queue: RemoteQueue | None = None,
-        fleet_concurrency: int | None = None,
-        rate_limit: tuple[int, Seconds] | None = None,
-        on_exhausted: OnExhausted = "fail",
-        max_attempts: int | None = None,
-        cancel_on_abort: bool = False,
-        concurrency_by: Callable[[Any], Any] | None = None,
-        when: Callable[[Any], Any] | None = None,
+        self, function: None = None, /, *, for_each: str, **options: Unpack[FunctionOptions]
     ) -> DeclareEach[Any]:
         ...
 
@@ -244,180 +243,86 @@ class Saga(WaitSteps):
         /,
         *,
         for_each: Callable[[Any], Sequence[T]],
-        name: str | None = None,
-        needs: Iterable[Need] = (),
-        run: CostOf = 0,
-        undo: CostOf | None = None,
-        skip: CostOf = 0,
-        keep: CostOf = 0,
-        tries: int = 1,
-        timeout: Seconds | None = None,
-        backoff: Backoff = Backoff(),
-        unknown: Unknowns = UNKNOWN,
-        max_unknown: int | datetime.timedelta | None = None,
-        concurrency: int | None = None,
-        transaction: bool = False,
-        queue: RemoteQueue | None = None,
-        fleet_concurrency: int | None = None,
-        rate_limit: tuple[int, Seconds] | None = None,
-        on_exhausted: OnExhausted = "fail",
-        max_attempts: int | None = None,
-        cancel_on_abort: bool = False,
-        concurrency_by: Callable[[Any], Any] | None = None,
-        when: Callable[[Any], Any] | None = None,
+        **options: Unpack[FunctionOptions],
     ) -> DeclareEach[T]:
         ...
 
     @overload
-    def step(
-        self,
-        function: None = None,
-        /,
-        *,
-        name: str | None = None,
-        needs: Iterable[Need] = (),
-        run: CostOf = 0,
-        undo: CostOf | None = None,
-        skip: CostOf = 0,
-        keep: CostOf = 0,
-        tries: int = 1,
-        timeout: Seconds | None = None,
-        backoff: Backoff = Backoff(),
-        unknown: Unknowns = UNKNOWN,
-        max_unknown: int | datetime.timedelta | None = None,
-        concurrency: int | None = None,
-        transaction: bool = False,
-        queue: RemoteQueue | None = None,
-        fleet_concurrency: int | None = None,
-        rate_limit: tuple[int, Seconds] | None = None,
-        on_exhausted: OnExhausted = "fail",
-        max_attempts: int | None = None,
-        cancel_on_abort: bool = False,
-        concurrency_by: Callable[[Any], Any] | None = None,
-        when: Callable[[Any], Any] | None = None,
-    ) -> Declare:
+    def step(self, function: None = None, /, **options: Unpack[FunctionOptions]) -> Declare:
         ...
 
     def step(
-        self,
-        function: Callable[[Any], Any] | None = None,
-        /,
-        *,
-        name: str | None = None,
-        needs: Iterable[Need] = (),
-        run: CostOf = 0,
-        undo: CostOf | None = None,
-        skip: CostOf = 0,
-        keep: CostOf = 0,
-        tries: int = 1,
-        timeout: Seconds | None = None,
-        backoff: Backoff = Backoff(),
-        unknown: Unknowns = UNKNOWN,
-        max_unknown: int | datetime.timedelta | None = None,
-        concurrency: int | None = None,
-        transaction: bool = False,
-        external: bool = False,
-        queue: RemoteQueue | None = None,
-        fleet_concurrency: int | None = None,
-        rate_limit: tuple[int, Seconds] | None = None,
-        on_exhausted: OnExhausted = "fail",
-        max_attempts: int | None = None,
-        cancel_on_abort: bool = False,
-        concurrency_by: Callable[[Any], Any] | None = None,
-        when: Callable[[Any], Any] | None = None,
-        early_unused: EarlyUnused = "ask",
-        for_each: ForEach | None = None,
+        self, function: Callable[[Any], Any] | None = None, /, **options: Unpack[StepOptions]
     ) -> Any:
         """Declare a function as a step, by `@saga.step` or `@saga.step(...)`.
 
         The function gets a `Task`. It may be called again, for example after a crash: send
         `task.idempotency_key` to services. Its result is stored as JSON before a step that needs it
-        starts. If it raises, it had no effect, except for the exceptions in `unknown`. Plain
-        functions run in threads; async ones run in the event loop, and must not block it.
+        starts. If it raises, its effect may have happened, and the same attempt repeats. `Fail`
+        means that it had no effect and never will; `Retry`, and the exceptions in `no_effect`, that
+        it had none now. Plain functions run in threads; async ones run in the event loop, and must
+        not block it.
 
         Args:
             function: The function, if no option is given.
-            name: The step's name, as a saga's (default: the function's).
-            needs: Steps, or their names, to commit first. A step is undone before those it needs.
-            run: Cost of running it, if a plan finds it not started (default: 0). Each of the costs
-                may be a function of the input that returns it, when the saga is started.
-            undo: Cost of undoing it (default: 0 with a compensation, else `NEVER`). With `NEVER`,
-                neither this step nor the steps that it needs are undone. Set 0 without a
-                compensation if there is nothing to undo.
-            skip: Cost of ending without it (default: 0). `NEVER`: it is mandatory.
-            keep: Cost of leaving its effect in place after a failure (default: 0).
-            tries: Maximum number of attempts, 1 to 9 (default: 1).
-            timeout: Seconds, or a timedelta, after which the outcome is unknown (default: none). A
-                thread cannot be stopped: sagas waits for it.
-            backoff: Pauses between attempts (default: `Backoff()`).
-            unknown: Exceptions after which the outcome is unknown. The attempt repeats with its
-                key, and still counts once (default: `(TimeoutError, ConnectionError)`).
-            max_unknown: After more unknown outcomes, or this timedelta since the first, wait for
-                `Store.complete` or `Store.fail` (default: repeat without end).
-            concurrency: Maximum concurrent calls in this program (default: no limit).
-            transaction: Over PostgreSQL, `task.connection` is a psycopg connection. Rows that you
-                write there commit with the result, so exactly once (default: False).
-            external: The work is done elsewhere (default: False). Give `name`, and no function;
-                `Store.complete`, `Store.fail` or a `Worker` reports the outcome.
-            queue: A `sagas.celery.Queue` whose workers call it (default: this program).
-            fleet_concurrency: Maximum concurrent calls over all nodes (default: no limit).
-            rate_limit: `(calls, seconds)`: the maximum number of calls that start in any such
-                period, over all nodes. Retries count; compensations have neither limit (default:
-                no limit).
-            on_exhausted: What follows the last attempt: `fail`, `ask` (wait for `Store.retry`,
-                `Store.complete` or `Store.fail`) or `retry` (retry without end, with the longest
-                pause). `Fail` fails the step in any case (default: `fail`).
-            max_attempts: Maximum number of attempts if 9 are too few (default: `tries`).
-            concurrency_by: A function of the input. `concurrency` and `fleet_concurrency` then
-                apply separately to each result, for example to each account (default: None).
-            for_each: The name of a list or a dict in the input, or a function of the input that
-                returns one: the step exists once for each item (default: once). `task.item` and
-                `task.index` have the item, and costs may be functions of it. If another step has
-                the same `for_each`, its `needs=[ship.each]` means the step of the same item. A
-                type checker takes a name as that of a list.
-            when: A function of the input: the step exists if it returns true (default: always).
-                Otherwise steps that need this one need the steps that it needs.
-            early_unused: What follows if an external step is reported as a success before it
-                starts, and the saga ends without it: `ask` (wait for `Store.compensate` or
-                `Store.resolve`), or `compensate` (call its compensation at once) (default: `ask`).
-            cancel_on_abort: Whether an abort raises `asyncio.CancelledError` in the async function
-                (default: False). Unhandled, the outcome is unknown, and the attempt repeats.
+            options: See `StepOptions`.
 
         Returns:
             The `Step`, or a decorator that returns it.
 
         Raises:
             DefinitionError: An argument is not valid. The message has the file and the line.
+            TypeError: An option does not exist.
         """
+        external = options.get("external", False)
         if not isinstance(external, bool):
             raise DefinitionError(
                 f"{caller(2)}: saga {self.name!r}: external={external!r}: must be " "True or False"
             )
+        chosen = with_defaults("Saga.step", options, step_defaults(self.defaults, external))
+        timeout = chosen["timeout"]
 
         def declare(function: Callable[[Any], Any] | None) -> Step[Any]:
             manner = Manner(
                 function,
-                tries,
+                chosen["tries"],
                 timeout if timeout is None else seconds(timeout),
-                backoff,
-                unknown,
-                max_unknown,
+                chosen["backoff"],
+                chosen["no_effect"],
+                chosen["max_unknown"],
                 function is None,
-                transaction,
-                queue=queue,
-                on_exhausted=on_exhausted,
-                max_attempts=max_attempts,
-                cancel_on_abort=cancel_on_abort,
+                chosen["transaction"],
+                queue=chosen["queue"],
+                on_exhausted=chosen["on_exhausted"],
+                cancel_on_abort=chosen["cancel_on_abort"],
             )
-            costs: dict[str, CostOf | None] = {"run": run, "undo": undo, "skip": skip, "keep": keep}
             step = self._add(
-                function, name, "step", needs, costs, manner, concurrency, for_each, when
+                function,
+                chosen["name"],
+                "step",
+                chosen["needs"],
+                {
+                    "run": chosen["run"],
+                    "undo": chosen["undo"],
+                    "skip": chosen["skip"],
+                    "keep": chosen["keep"],
+                },
+                manner,
+                chosen["concurrency"],
+                chosen["for_each"],
+                chosen["when"],
+                chosen["optional"],
+                chosen["pivot"],
             )
-            step.concurrency_by, step.early_unused = concurrency_by, early_unused
+            step.concurrency_by = chosen["concurrency_by"]
+            step.early_unused = chosen["early_unused"]
             validation.check_early_unused(step)
-            if fleet_concurrency is not None or rate_limit is not None:
-                rate, is_keyed = rate_limit_of(rate_limit), concurrency_by is not None
-                step.bounds = Bounds(fleet_concurrency, rate, is_keyed)
+            if chosen["fleet_concurrency"] is not None or chosen["rate_limit"] is not None:
+                rate, is_keyed = (
+                    rate_limit_of(chosen["rate_limit"]),
+                    step.concurrency_by is not None,
+                )
+                step.bounds = Bounds(chosen["fleet_concurrency"], rate, is_keyed)
                 validation.check_bounds(step, step.bounds)
             validation.check_concurrency_by(step)
             return step
@@ -425,7 +330,7 @@ class Saga(WaitSteps):
         return (
             declare(function)
             if function is not None or external
-            else Decorator(self, f"{self.name}.step", name, declare)
+            else Decorator(self, f"{self.name}.step", chosen["name"], declare)
         )
 
     def _add(
@@ -434,19 +339,23 @@ class Saga(WaitSteps):
         name: str | None,
         kind: str,
         needs: Iterable[Need],
-        costs: dict[str, CostOf | None],
+        costs: Mapping[str, Undo | None],
         manner: Manner,
         concurrency: int | None,
         for_each: ForEach | None = None,
         when: Callable[[Any], Any] | None = None,
+        is_optional: bool = False,
+        is_pivot: bool = False,
+        make: type[Step[Any]] | None = None,
     ) -> Step[Any]:
-        where = location_of(function) or caller(4)
+        location = location_of(function) or caller(4)
         step_name = name or str(getattr(function, "__name__", "?"))
-        needed = validation.listed_needs(needs, self, step_name, where)
-        make: type[Step[Any]] = Step if for_each is None else FanOut
-        step = make(self, step_name, where, kind, needed, costs, manner, for_each, when)
-        step.concurrency = concurrency
-        if costs["undo"] is not NEVER and (kind != "step" or costs["undo"] == 0):
+        needed = self._ordered_needs(validation.listed_needs(needs, self, step_name, location))
+        make = make or (Step if for_each is None else FanOut)
+        step = make(self, step_name, location, kind, needed, costs, manner, for_each, when)
+        step.concurrency, step.is_optional, step.is_pivot = concurrency, is_optional, is_pivot
+        undo = 0 if is_optional and costs["undo"] is None else step.declared_cost("undo")
+        if undo is not NEVER and not is_pivot and (kind != "step" or undo == 0):
             step.undo = Manner(nothing, implied=True)
         validation.check_step(step)
         mark_collected(needed)
@@ -459,7 +368,7 @@ class Saga(WaitSteps):
     @overload
     def include(
         self,
-        saga: Saga,
+        saga: Saga[Any],
         *,
         name: str | None = None,
         needs: Iterable[Need] = (),
@@ -473,7 +382,7 @@ class Saga(WaitSteps):
     @overload
     def include(
         self,
-        saga: Saga,
+        saga: Saga[Any],
         *,
         for_each: ForEach,
         name: str | None = None,
@@ -486,7 +395,7 @@ class Saga(WaitSteps):
 
     def include(
         self,
-        saga: Saga,
+        saga: Saga[Any],
         *,
         name: str | None = None,
         needs: Iterable[Need] = (),
@@ -518,11 +427,11 @@ class Saga(WaitSteps):
             DefinitionError: An argument is not valid.
         """
         check_is_saga(saga)
-        where = caller(2)
+        location = caller(2)
         inclusion_name = saga.name if name is None else name
-        needed = validation.listed_needs(needs, self, inclusion_name, where)
+        needed = self._ordered_needs(validation.listed_needs(needs, self, inclusion_name, location))
         make = Inclusion if for_each is None else FanOutInclusion
-        inclusion = make(self, saga, inclusion_name, where, needed, input, given, for_each, when)
+        inclusion = make(self, saga, inclusion_name, location, needed, input, given, for_each, when)
         validation.check_inclusion(inclusion)
         mark_collected(needed)
         self.parts.append(inclusion)
@@ -530,68 +439,121 @@ class Saga(WaitSteps):
         self.has_children = self.has_children or saga.has_children
         return inclusion
 
-    @property
-    def is_shaped(self) -> bool:
-        """Whether its steps, or their costs, come from its input."""
-        return any(isinstance(part, Inclusion) or is_shaped_step(part) for part in self.parts)
+    def _ordered_needs(self, needs: tuple[Any, ...]) -> tuple[Any, ...]:
+        """Return the needs of the next part, with the part before it if the order says so."""
+        if self.order == "needs" or not self.parts:
+            return needs
+        previous = self.parts[-1]
+        is_needed = any(previous.name == getattr(need, "name", need) for need in needs)
+        return needs if is_needed else (*needs, previous)
 
-    @property
-    def calls_functions(self) -> bool:
-        """Whether functions of the input determine its steps or their costs."""
-        return any(
-            callable(part.for_each)
-            or part.when is not None
-            or (
-                callable(part.input) or part.inner.calls_functions
-                if isinstance(part, Inclusion)
-                else has_computed_costs(part)
-            )
-            for part in self.parts
-        )
+    @overload
+    def on_end(self, function: Callable[[Any], T], /) -> Callable[[Any], T]:
+        ...
 
-    @property
-    def parts_by_name(self) -> dict[str, Part]:
-        """Its steps and inclusions, by name."""
-        return {part.name: part for part in self.parts}
+    @overload
+    def on_end(
+        self, function: None = None, /, *, external: Literal[True], **options: Unpack[EndOptions]
+    ) -> None:
+        ...
 
-    def outer(self, name: str, version: int) -> Saga | None:
-        """Return this saga, or one that includes it, directly or not.
+    @overload
+    def on_end(
+        self,
+        function: None = None,
+        /,
+        *,
+        external: Literal[False] = False,
+        **options: Unpack[EndOptions],
+    ) -> Callable[[Callable[[Any], T]], Callable[[Any], T]]:
+        ...
+
+    def on_end(
+        self,
+        function: Callable[[Any], Any] | None = None,
+        /,
+        *,
+        external: bool = False,
+        **options: Unpack[EndOptions],
+    ) -> Any:
+        """Declare the function to call after each end of a saga, by `@saga.on_end`.
+
+        It is called at least once, however the saga ends: `completed`, `recovered` or `stuck`. That
+        includes sagas that are aborted, and those that another saga starts as children. The call is
+        due with the commit of the end, and survives a crash. It is a saga of its own, with the key
+        `KEY/::end` and the name `NAME-end`, and never changes how the first saga ended.
+
+        The function gets an `EndTask`: `task.end` is the `SagaResult`. It is called as the function
+        of a step is: what it raises has the same meaning, and it may be called again. After its
+        last attempt, or if it raises `Fail`, it waits for a person: see `Store.attention`.
 
         Args:
-            name: The name of the saga to return.
-            version: Its version.
+            function: The function, if no option is given.
+            external: A `Worker` calls it, or another program reports it: call
+                `saga.on_end(external=True)` (default: False).
+            options: `tries`, `timeout`, `backoff`, `no_effect`, `max_unknown`, `queue` and
+                `on_exhausted`, whose defaults are those of the saga, and `transaction`,
+                `concurrency`, `fleet_concurrency` and `rate_limit`. See `StepOptions`.
+                `on_exhausted` is `ask` or `retry` (default: `ask`).
 
         Returns:
-            The saga, or None.
+            The function, or a decorator that returns it.
+
+        Raises:
+            DefinitionError: The saga has such a function already, or an argument is not valid.
+            TypeError: The option is unknown.
+
+        Example:
+            >>> parcel = sagas.Saga("parcel")
+            >>> @parcel.step
+            ... def send(task):
+            ...     raise sagas.Fail("sold out")
+            >>> @parcel.on_end(tries=5)
+            ... def apologize(task):
+            ...     if not task.end.ok:
+            ...         print("sorry:", task.end.errors["send"])
+            >>> trial = sagas.testing.run(parcel)
+            sorry: sagas.Fail: sold out
         """
-        if (self.name, self.version) == (name, version):
-            return self
-        candidates = (outer.outer(name, version) for outer in self.outers)
-        return next((candidate for candidate in candidates if candidate is not None), None)
+        chosen = end_calls.options_of(options, self.defaults, external)
 
-    @property
-    def declared_steps(self) -> Iterator[tuple[str, Step[Any]]]:
-        """Its steps and those of included sagas, with their declared names: `hotel/room`."""
-        for part in self.parts:
-            if isinstance(part, Inclusion):
-                for name, step in part.inner.declared_steps:
-                    yield f"{part.name}/{name}", step
-            else:
-                yield part.name, part
+        def declare(function: Callable[[Any], Any] | None) -> Callable[[Any], Any] | None:
+            location = location_of(function) or caller(3)
+            if self.end_saga is not None:
+                end_calls.refuse_second(self, location)
+            end_calls.check_options(self, chosen, location)
+            end_saga = Saga[Any](definition_text.end_name_of(self.name), version=self.version)
+            end_saga.where, end_saga.ends = location, self
+            end_saga.fair_by = end_calls.of_ended_input(self.fair_by)
+            step_options: Any = {"name": end_calls.STEP, "undo": NEVER, "skip": NEVER, **chosen}
+            step: Step[Any] = (
+                end_saga.step(external=True, **step_options)
+                if function is None
+                else end_saga.step(**step_options)(function)
+            )
+            step.where = location
+            if function is not None:
+                step.run.function = end_calls.wrapped(function, self)
+            self.end_saga = end_saga
+            return function
 
-    @property
-    def all_steps(self) -> Iterator[Step[Any]]:
-        """Its steps, and those of the sagas that it includes."""
-        for part in self.parts:
-            if isinstance(part, Inclusion):
-                yield from part.inner.all_steps
-            else:
-                yield part
+        if function is not None or external:
+            return declare(function)
+        return Decorator(self, f"{self.name}.on_end", None, declare)
 
-    @property
-    def input_decoder(self) -> Decoder | None:
-        """The decoder of its input, for the functions that determine steps and costs."""
-        return shape.saga_input_decoder(self)
+    def cost_of(self, step: Step[Any], word: str) -> Cost:
+        """Return one of the costs of a step, as `Step.cost` does.
+
+        Args:
+            step: A step of this saga.
+            word: `run`, `undo`, `skip` or `keep`.
+        """
+        count, roles = self._roles
+        if count != len(self.parts):
+            roles = pivot.roles_of(self)
+            self._roles = len(self.parts), roles
+        role = roles.get(step.name)
+        return step.own_cost(word) if role is None else pivot.cost_of(step, word, role)
 
     def check(self) -> None:
         """Check the whole definition, as `toml` and `open` do.
@@ -620,9 +582,9 @@ class Saga(WaitSteps):
             TooLarge: The saga has too many steps or needs for the input.
             NotSerializable: The input is not JSON.
         """
-        self.check()
         if not self.is_shaped:
-            return fixed_text(self)
+            return validation.checked_text(self)
+        self.check()
         text = serialization.write_value(input, "input")
         return shape.write_definition(shape.Shape(self, text))
 
@@ -648,40 +610,15 @@ class Saga(WaitSteps):
 # -- texts
 
 
-def fixed_text(saga: Saga) -> str:
-    """Return the definition of a saga whose steps do not come from its input."""
-    if saga.undo_text:
-        return saga.undo_text
-    lines = [f"# version {saga.version}"] if saga.version != 1 else []
-    lines += ["format = 2", f'name = "{saga.name}"']
-    for step in saga.steps:
-        lines += ["", "[[step]]", f'name = "{step.name}"']
-        if is_compensated(step):
-            lines.append(definition_text.COMPENSATED)
-        if step.needs:
-            lines.append("needs = [" + ", ".join(f'"{need}"' for need in step.needs) + "]")
-        for word in ("run", "undo", "skip", "keep"):
-            cost = step.cost(word)
-            if cost is NEVER:
-                lines.append(f'{word} = "never"')
-            elif cost:
-                lines.append(f"{word} = {cost}")
-        if step.run.tries != 1:
-            lines.append(f"tries = {step.run.tries}")
-        if step.undo.tries != 1:
-            lines.append(f"undo_tries = {step.undo.tries}")
-    return "\n".join(lines) + "\n"
-
-
-def declared_text(saga: Saga) -> str:
+def declared_text(saga: SagaParts) -> str:
     """Return a text that differs if the declaration differs.
 
     It is the definition. If the steps come from the input, it lists the declared parts instead.
     """
     if not saga.is_shaped:
-        return saga.toml()
-    saga.check()
-    lines = [f"# version {saga.version}", f'name = "{saga.name}"']
+        return validation.checked_text(saga)
+    validation.check_saga(saga)
+    lines = [f"# version {saga.version}", *pivot.pivot_lines(saga), f'name = "{saga.name}"']
     for part in saga.parts:
         needs = [repr(need) for need in part._needs]
         lines += [f'[{part.kind}] "{part.name}"', f"needs = {needs}"]
@@ -692,8 +629,8 @@ def declared_text(saga: Saga) -> str:
             continue
         step: Any = part
         lines += [f"{word} = {_option_text(cost)}" for word, cost in step._costs.items()]
-        lines.append(f"tries = {step.run.tries}, {step.undo.tries}")
-        lines += [definition_text.COMPENSATED] * is_compensated(step)
+        lines.append(f"tries = {step.run.engine_tries}, {step.undo.engine_tries}")
+        lines += mark_lines(step)
     return "\n".join(lines) + "\n"
 
 

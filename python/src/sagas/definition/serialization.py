@@ -10,7 +10,7 @@ import enum
 import json
 import re
 import uuid
-from collections.abc import Callable, Iterable
+from collections.abc import Callable, Iterable, Mapping
 from typing import Any
 
 from sagas.base.errors import CannotDecode, NotSerializable, ResultNotSerializable, StepFailed
@@ -26,7 +26,9 @@ def is_old_model(kind: type) -> bool:
 NUMBERS = {int, float, bool}
 UNSTORABLE = "unstorable"
 FAILED = "$failed"
-"""The only key of the stored result of an item whose failure was collected."""
+"""The only key of the stored result of an optional failure: of an optional step, or an item."""
+FAILED_HEAD = f'{{"{FAILED}":'
+"""The beginning of the stored text of an optional failure. No codec encodes it."""
 MAX_LEVELS = 64
 """Maximum nesting of a value.
 
@@ -243,9 +245,25 @@ def unstorable(value: Any) -> str | None:
 
 
 def failed(value: Any) -> str | None:
-    """Return the collected error in a stored value, or None if it has none."""
+    """Return the error in the value of an optional failure; None for any other value."""
     detail = value.get(FAILED) if type(value) is dict and len(value) == 1 else None
     return detail if isinstance(detail, str) else None
+
+
+def optional_failure(text: str | None) -> str | None:
+    """Return the error in the stored text of an optional failure; None for any other text."""
+    if text is None or not text.startswith(FAILED_HEAD):
+        return None
+    return failed(_decode(text))
+
+
+def optional_failures(results: Mapping[int, str]) -> dict[int, str]:
+    """Return the errors of the steps with an optional failure, from stored results by step."""
+    return {
+        step: detail
+        for step, text in results.items()
+        if text.startswith(FAILED_HEAD) and (detail := failed(_decode(text))) is not None
+    }
 
 
 def is_plain(value: Any) -> bool:
@@ -258,7 +276,7 @@ def stored(value: Any, step: str) -> Any:
 
     Raises:
         ResultNotSerializable: The result could not be stored.
-        StepFailed: The step failed, and its failure was collected.
+        StepFailed: The step is optional, or an item that is collected, and has failed.
     """
     if (detail := failed(value)) is not None:
         raise StepFailed(step, detail)
@@ -273,7 +291,7 @@ def returned(text: str, decoder: Decoder | None, step: str) -> Any:
 
     Raises:
         ResultNotSerializable: The result could not be stored.
-        StepFailed: The step failed, and its failure was collected.
+        StepFailed: The step is optional, or an item that is collected, and has failed.
     """
     value = stored(_decode(text), step)
     return value if decoder is None else decoder(value)

@@ -6,38 +6,32 @@ values of the shape.
 
 from __future__ import annotations
 
-import collections.abc
 import dataclasses
-import inspect
 import traceback
-import typing
 from collections.abc import Callable, Iterator, Mapping, Sequence
-from typing import Any, TYPE_CHECKING
+from typing import Any
 
 from sagas.base.errors import InvalidInput, SagasError, TooLarge
-from sagas.definition import children, decoders, definition_text, layout, serialization, type_checks
-from sagas.definition.call_options import Cost, MAX_COST, Manner, is_cost, nothing
-from sagas.definition.definition_text import OF
+from sagas.definition import serialization, type_checks
+from sagas.definition.call_options import COST_NAMES, Cost, MAX_COST, NEVER, is_cost
+from sagas.definition.declaration import Declaration, joining_step
+from sagas.definition.definition_text import OF, each_line
 from sagas.definition.layout import JOIN_ENDING, Scope, ShapeValues, StepOrigin
-from sagas.definition.serialization import Decoder
+from sagas.definition.parts import SagaParts
+from sagas.definition.pivot import cost_of, pivot_lines, roles_of
 from sagas.definition.step import (
-    FanOut,
     ForEach,
     Inclusion,
     MAX_NEEDS,
     MAX_STEPS,
     Part,
     Step,
-    is_compensated,
     is_each,
+    mark_lines,
     need_name,
 )
 
-if TYPE_CHECKING:
-    from sagas.definition.saga import Saga
-    from sagas.definition.task import Task
-
-ONE = (None,)
+NO_INDEX = (None,)
 """The numbers of items of a part without `for_each`."""
 MAX_PAIRS = 256
 """Maximum number of needs between two fan-outs. With more needs a joining step connects them."""
@@ -58,7 +52,8 @@ class Level:
 
     Attributes:
         outer: The level of the inclusion, the inclusion and its number; None for the root.
-        indices: The numbers of each part's items; `ONE` without `for_each`, () if it is left out.
+        indices: The numbers of each part's items; `NO_INDEX` without `for_each`, ()
+            if it is left out.
         inner: The levels of included sagas, by the part and the number.
     """
 
@@ -66,7 +61,7 @@ class Level:
 
     def __init__(
         self,
-        saga: Saga,
+        saga: SagaParts,
         scope: Scope,
         prefix: str,
         outer: tuple[Level, Inclusion, int | None] | None = None,
@@ -115,11 +110,11 @@ class Shape:
         values: The values to store with the saga.
         structure: The numbers that determine steps and needs. Two shapes of a saga with the same
             structure differ only in costs.
-        costs: The computed costs, in the order of `steps` and `COSTS`.
+        costs: The computed costs, in the order of `steps` and `COST_NAMES`.
         count: The number of steps, without joining steps.
     """
 
-    def __init__(self, saga: Saga, text: str, declared: Declaration | None = None) -> None:
+    def __init__(self, saga: SagaParts, text: str, declared: Declaration | None = None) -> None:
         """Compute the shape.
 
         Args:
@@ -177,14 +172,14 @@ class Shape:
     def _indices(
         self, level: Level, part: Part, value: Any, kept: dict[Any, tuple[str, int, set[str]]]
     ) -> Sequence[int | None]:
-        """Keep a part's items and return their numbers; `ONE` if it has no `for_each`."""
+        """Keep a part's items and return their numbers; `NO_INDEX` if it has no `for_each`."""
         if part.when is not None:
             is_included = _called(part, "when", _truth(part.when), value)
             self.structure.append(is_included)
             if not is_included:
                 return ()
         if part.for_each is None:
-            return ONE
+            return NO_INDEX
         group = StepOrigin(level.scope, part.name).path if level.scope else part.name
         if part.for_each in kept:
             self.values.items[group], count, types = kept[part.for_each]
@@ -194,6 +189,9 @@ class Shape:
             kept[part.for_each] = group, count, types
         if types:
             self._check_types(level, part, types)
+        if self._declared.has_unread_items(part):
+            for index in range(count):
+                self._item(part, StepOrigin(level.scope, part.name, index))
         self.structure.append(count)
         return range(count)
 
@@ -231,6 +229,8 @@ class Shape:
         if not is_cost(cost):
             rule = f"an integer from 0 to {MAX_COST:,}, or sagas.NEVER"
             raise _invalid(step, f"{word}= returned a {type(cost).__name__} that is not {rule}")
+        if step.is_optional and word in ("undo", "skip") and cost is NEVER:
+            raise _invalid(step, f"{word}= returned sagas.NEVER, but the step is optional")
         return cost
 
     def _item(self, part: Part, origin: StepOrigin) -> Any:
@@ -251,6 +251,8 @@ class Shape:
             value = serialization.read(text, self._declared.input(scope))
         except Exception as error:  # of the type's own code
             raise _invalid(part, f"input{type_checks.mismatch_of(error)}") from None
+        if invalid := self._declared.types_of(part.inner).error(text):
+            raise invalid
         return self._fill(Level(part.inner, scope, prefix, (level, part, index)), value)
 
     # -- needs
@@ -319,9 +321,9 @@ class Shape:
 
     def _join(self, level: Level, part: Part, names: list[str]) -> str:
         """Return the name of the joining step that needs all steps of a part."""
-        name = level.prefix + part.name + layout.JOIN_ENDING
+        name = level.prefix + part.name + JOIN_ENDING
         if name not in self._joins:
-            origin = StepOrigin(level.scope, part.name + layout.JOIN_ENDING)
+            origin = StepOrigin(level.scope, part.name + JOIN_ENDING)
             step = joining_step(level.saga, origin.name)
             assert step is not None
             self._joins[name] = level, ShapedStep(name, step, origin, names)
@@ -421,13 +423,13 @@ def _plain(part: Part, name: str, value: Any) -> Any:
         raise _invalid(part, str(error)) from None
 
 
-# -- the definition of a shape
+# -- definitions
 
 
 class Template:
     """The text that the definitions of all shapes with one structure have in common."""
 
-    __slots__ = ("_pieces", "_cost_names")
+    __slots__ = ("_pieces", "_cost_names", "_roles")
 
     def __init__(self, shape: Shape) -> None:
         """Make the template from one of the shapes.
@@ -438,12 +440,16 @@ class Template:
         self._pieces: list[str] = []  # with a computed cost between each two pieces
         self._cost_names: list[str] = []
         saga, needs = shape.saga, 0
+        self._roles = roles_of(saga)
         lines = [f"# version {saga.version}"] if saga.version != 1 else []
         lines += [
             f"# includes {path} {part.inner.name} {part.inner.version}"
             f"{' given' if part.given else ''}"
             for path, part in inclusions(saga)
         ]
+        lines += pivot_lines(saga)
+        if saga.starts_for is not None:
+            lines.append(each_line(saga.starts_for.name))
         lines += ["format = 2", f'name = "{saga.name}"']
         for step in shape.steps():
             needs += len(step.needs)
@@ -458,22 +464,28 @@ class Template:
     def _step(self, shaped: ShapedStep, lines: list[str]) -> list[str]:
         """Add a step to the lines, and return the lines after the last computed cost."""
         lines += ("", "[[step]]", f'name = "{shaped.name}"', f"{OF}{shaped.origin.path}")
-        if is_compensated(shaped.step):
-            lines.append(definition_text.COMPENSATED)
+        lines += mark_lines(shaped.step)
         if shaped.needs:
             lines.append("needs = [" + ", ".join([f'"{need}"' for need in shaped.needs]) + "]")
-        for name in COSTS:
+        for name in COST_NAMES:
             if callable(shaped.step.declared_cost(name)):
                 self._pieces.append(_joined_lines(lines))
                 self._cost_names.append(name)
                 lines = []
-            elif cost := _cost_line(name, shaped.step.cost(name)):
+            elif cost := _cost_line(name, self._cost(shaped, name)):
                 lines.append(cost[:-1])
-        if shaped.step.run.tries != 1:
-            lines.append(f"tries = {shaped.step.run.tries}")
-        if shaped.step.undo.tries != 1:
-            lines.append(f"undo_tries = {shaped.step.undo.tries}")
+        if shaped.step.run.engine_tries != 1:
+            lines.append(f"tries = {shaped.step.run.engine_tries}")
+        if shaped.step.undo.engine_tries != 1:
+            lines.append(f"undo_tries = {shaped.step.undo.engine_tries}")
         return lines
+
+    def _cost(self, shaped: ShapedStep, word: str) -> Cost:
+        """Return a cost of a step. In a saga with a pivot, included steps have the part's role."""
+        scope = shaped.origin.scope
+        part = scope[0][0] if scope else shaped.origin.name.removesuffix(JOIN_ENDING)
+        role = self._roles.get(part)
+        return shaped.step.own_cost(word) if role is None else cost_of(shaped.step, word, role)
 
     def text(self, costs: Sequence[Cost]) -> str:
         """Return the definition with these computed costs."""
@@ -492,6 +504,30 @@ def write_definition(shape: Shape) -> str:
     return Template(shape).text(shape.costs)
 
 
+def fixed_text(saga: SagaParts) -> str:
+    """Return the definition of a saga whose steps do not come from its input."""
+    if saga.undo_text:
+        return saga.undo_text
+    lines = [f"# version {saga.version}"] if saga.version != 1 else []
+    lines += [f"# ends {saga.ends.name}"] if saga.ends is not None else []
+    lines += [*pivot_lines(saga), "format = 2", f'name = "{saga.name}"']
+    for step in saga.steps:
+        lines += ["", "[[step]]", f'name = "{step.name}"', *mark_lines(step)]
+        if step.needs:
+            lines.append("needs = [" + ", ".join(f'"{need}"' for need in step.needs) + "]")
+        for word in COST_NAMES:
+            cost = step.cost(word)
+            if cost is NEVER:
+                lines.append(f'{word} = "never"')
+            elif cost:
+                lines.append(f"{word} = {cost}")
+        if step.run.engine_tries != 1:
+            lines.append(f"tries = {step.run.engine_tries}")
+        if step.undo.engine_tries != 1:
+            lines.append(f"undo_tries = {step.undo.engine_tries}")
+    return "\n".join(lines) + "\n"
+
+
 def _joined_lines(lines: list[str]) -> str:
     return "".join([f"{line}\n" for line in lines])
 
@@ -503,205 +539,10 @@ def _cost_line(name: str, cost: Cost) -> str:
     return f'{name} = "never"\n'
 
 
-def inclusions(saga: Saga, outer: str = "") -> Iterator[tuple[str, Inclusion]]:
+def inclusions(saga: SagaParts, outer: str = "") -> Iterator[tuple[str, Inclusion]]:
     """Yield the inclusions of a saga and of its included sagas, each with its path."""
     for part in saga.parts:
         if isinstance(part, Inclusion):
             path = f"{outer}{part.name}"
             yield path, part
             yield from inclusions(part.inner, f"{path}/")
-
-
-# -- the declaration of a saga
-
-
-COSTS = ("run", "undo", "skip", "keep")
-ComputedCosts = Sequence[tuple[str, Callable[[Any], Any]]]
-"""The costs of a step that are functions, in the order of `COSTS`."""
-Hints = tuple[Decoder | None, Decoder | None, Decoder | None]
-"""The decoders of a step's input, of its result, and of the input of its compensation."""
-
-
-class Declaration:
-    """A saga as this program declares it. Look up its steps by their origins.
-
-    It caches what it looks up, since the definitions of all shapes of the saga look up the same.
-    """
-
-    def __init__(self, saga: Saga | None) -> None:
-        self.root: Saga | None = saga
-        self._sagas: dict[tuple[str, ...], Saga | None] = {(): saga}
-        self._hints: dict[Step[Any], Hints] = {}
-        self._inputs: dict[Saga, Decoder | None] = {}
-        self._items: dict[Any, Decoder | None] = {}
-        self._costs: dict[Step[Any], ComputedCosts] = {}
-
-    def _within(self, names: tuple[str, ...]) -> Saga | None:
-        if names not in self._sagas:
-            part = self._part(names[:-1], names[-1])
-            self._sagas[names] = part.inner if isinstance(part, Inclusion) else None
-        return self._sagas[names]
-
-    def _part(self, names: tuple[str, ...], name: str) -> Any:
-        saga = self._within(names)
-        return None if saga is None else saga.parts_by_name.get(name)
-
-    def step(self, origin: StepOrigin) -> Step[Any] | None:
-        """Return the step that is declared at an origin.
-
-        Returns:
-            None if the program does not declare the step, or if only one of the program and the
-            definition has items for it.
-        """
-        names = tuple(name for name, _ in origin.scope)
-        part = self._part(names, origin.name)
-        if part is None and (saga := self._within(names)) is not None:
-            part = joining_step(saga, origin.name)
-        if part is None or isinstance(part, Inclusion):
-            return None
-        step: Step[Any] = part
-        return step if (step.for_each is None) == (origin.number is None) else None
-
-    def included(self, path: str) -> Saga | None:
-        """Return the saga that is included at a path of names, for example `p/hotel`."""
-        return self._within(tuple(path.split("/")))
-
-    def hints(self, step: Step[Any] | None) -> Hints:
-        """Return the decoders of a step's values."""
-        if step is None:
-            return None, None, None
-        if step not in self._hints:
-            undo = step.undo.function
-            undo_input = decoders.hints(undo)[0] if undo else None
-            self._hints[step] = (*children.hints(step), undo_input)
-        return self._hints[step]
-
-    def computed_costs(self, step: Step[Any]) -> ComputedCosts:
-        """Return the costs of a step that are functions of the input."""
-        if step not in self._costs:
-            costs = ((name, step.declared_cost(name)) for name in COSTS)
-            self._costs[step] = [(name, cost) for name, cost in costs if callable(cost)]
-        return self._costs[step]
-
-    # -- of a scope
-
-    def saga(self, scope: Scope) -> str:
-        """Return the name of the saga in a scope."""
-        saga = self._within(tuple(name for name, _ in scope))
-        return saga.name if saga else ""
-
-    def input(self, scope: Scope) -> Decoder | None:
-        """Return the decoder of the input of the saga in a scope."""
-        saga = self._within(tuple(name for name, _ in scope))
-        if saga is None:
-            return None
-        if saga not in self._inputs:
-            self._inputs[saga] = saga.input_decoder
-        return self._inputs[saga]
-
-    def item(self, origin: StepOrigin) -> Decoder | None:
-        """Return the decoder of the items of a step, or of an inclusion."""
-        part = self._part(tuple(name for name, _ in origin.scope), origin.name)
-        if part is None:
-            return None
-        if part not in self._items:
-            self._items[part] = item_decoder(part)
-        return self._items[part]
-
-    def fan_outs(self, scope: Scope) -> Sequence[str]:
-        """Return the names of the fan-outs of the saga in a scope."""
-        saga = self._within(tuple(name for name, _ in scope))
-        parts = saga.parts_by_name.values() if saga else ()
-        return [part.name for part in parts if isinstance(part, FanOut)]
-
-    def given(self, scope: Scope) -> Callable[[Any], Any] | None:
-        """Return the function `given=` of the inclusion of a scope, or None."""
-        names = tuple(name for name, _ in scope)
-        part = self._part(names[:-1], names[-1])
-        return part.given if isinstance(part, Inclusion) else None
-
-
-async def _join(task: Task[Any]) -> None:
-    """Do nothing: the step exists for its needs."""
-
-
-def joining_step(saga: Saga, name: str) -> Step[Any] | None:
-    """Return the joining step with this name, or None if the saga has no such part."""
-    part = saga.parts_by_name.get(name.removesuffix(JOIN_ENDING))
-    if part is None or not name.endswith(JOIN_ENDING):
-        return None
-    costs: dict[str, Any] = dict.fromkeys(("run", "undo", "skip", "keep"), 0)
-    step: Step[Any] = Step(saga, name, part.where, "step", (part.name,), costs, Manner(_join))
-    step.undo = Manner(nothing, implied=True)
-    return step
-
-
-# -- types of inputs and items
-
-
-LISTS = (list, tuple, set, frozenset, collections.abc.Sequence, collections.abc.Iterable)
-DICTS = (dict, collections.abc.Mapping)
-
-
-def saga_input_hint(saga: Saga) -> Any:
-    """Return the type of a saga's input: declared, or of the first type hint."""
-    if saga.input_type is not None:
-        return saga.input_type
-    functions = (step.run.function for step in saga.steps if step.run.function)
-    hints = (decoders.input_hint(function) for function in functions)
-    return next((hint for hint in hints if hint is not None), None)
-
-
-def saga_input_decoder(saga: Saga) -> Decoder | None:
-    """Return the decoder of a saga's input for the functions that compute its shape."""
-    return decoders.decoder(saga_input_hint(saga))
-
-
-def item_decoder(part: Part) -> Decoder | None:
-    """Return the decoder of the items of a fan-out."""
-    return decoders.decoder(_item_hint(part))
-
-
-def _item_hint(part: Part) -> Any:
-    """Return the item's type: of the hint `ItemTask[..., T]`, else of `for_each`."""
-    if isinstance(part, Step) and part.run.function:
-        arguments = decoders.task_hints(part.run.function)
-        if len(arguments) > 1:
-            return arguments[1]
-    items = part.for_each
-    hint = (
-        _hint_by_name(saga_input_hint(part.saga), items)
-        if isinstance(items, str)
-        else _returned_hint(items)
-    )
-    return _hint_inside(hint)
-
-
-def _function_hints(function: Any) -> dict[str, Any]:
-    try:
-        return typing.get_type_hints(inspect.unwrap(function))
-    except Exception:  # only a type checker imports a name, or it is not a function
-        return {}
-
-
-def _returned_hint(function: Any) -> Any:
-    return _function_hints(function).get("return")
-
-
-def _hint_by_name(hint: Any, path: str) -> Any:
-    """Return the type of a part of a value, for a path such as `hotel.rooms`."""
-    for name in path.split("."):
-        if not isinstance(hint, type):
-            return None
-        hint = _function_hints(hint).get(name)
-    return hint
-
-
-def _hint_inside(hint: Any) -> Any:
-    """Return the type of the items of a list or a dict."""
-    origin, arguments = typing.get_origin(hint), typing.get_args(hint)
-    if origin in LISTS and arguments:
-        return arguments[0]
-    if origin in DICTS and len(arguments) == 2:
-        return arguments[1]
-    return None

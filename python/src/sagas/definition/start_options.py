@@ -4,11 +4,16 @@ from __future__ import annotations
 
 import dataclasses
 import datetime
+from typing import Any, TypeVar
 
 from sagas.definition import arguments, labels as labels_module
 from sagas.definition.call_options import Seconds, seconds
 from sagas.definition.labels import Labels
 
+I = TypeVar("I")
+"""The input of a saga."""
+NO_INPUT: Any = None
+"""The input of a start without one. A type checker accepts it for each type of input."""
 Deadline = Seconds | datetime.datetime
 """A duration from now, or a datetime with a time zone."""
 LAST = datetime.datetime(9999, 1, 1, tzinfo=datetime.timezone.utc).timestamp()

@@ -5,40 +5,53 @@ from __future__ import annotations
 import dataclasses
 import datetime
 import inspect
-import re
 import sys
-import types
-from collections.abc import Awaitable, Callable, Iterable, Iterator, Mapping, Sequence
-from typing import Any, Generic, NamedTuple, Protocol, TYPE_CHECKING, TypeVar, Union, overload
+from collections.abc import Awaitable, Callable, Iterable, Mapping, Sequence
+from typing import (
+    Any,
+    Generic,
+    Protocol,
+    TYPE_CHECKING,
+    TypeVar,
+    Union,
+    Unpack,
+    overload,
+)
 
 from sagas.base.errors import DefinitionError, StepFailed
+from sagas.definition import definition_text
 from sagas.definition.call_options import (
-    Backoff,
     Bounds,
+    CompensationOptions,
     Cost,
     CostOf,
     EarlyUnused,
     Manner,
     NEVER,
-    OnExhausted,
-    RemoteQueue,
-    Seconds,
-    Unknowns,
+    NOTHING,
+    Undo,
+    compensation_defaults,
     function_faults,
     option_faults,
     seconds,
+    with_defaults,
 )
 
 if TYPE_CHECKING:
-    from sagas.definition.saga import Saga
-    from sagas.definition.task import ItemTask
-    from sagas.definition.waits import Until
+    from sagas.definition.parts import SagaParts
+    from sagas.definition.task import ItemTask, Task, UndoTask
 
 MAX_STEPS, MAX_NEEDS = 1024, 8192
 R_co = TypeVar("R_co", covariant=True)
 R = TypeVar("R")
 C = TypeVar("C")
 T = TypeVar("T")
+Until = Union[
+    datetime.timedelta,
+    datetime.datetime,
+    Callable[["Task[Any]"], Union[datetime.timedelta, datetime.datetime]],
+]
+"""The time of a wait: after its needs are committed, at a time, or by a function of the task."""
 
 
 class Selection(Generic[R_co]):
@@ -48,7 +61,7 @@ class Selection(Generic[R_co]):
         saga: The saga with the steps.
     """
 
-    saga: Saga
+    saga: SagaParts
 
     @property
     def path(self) -> tuple[str, ...]:
@@ -71,7 +84,7 @@ class Decorator:
     """
 
     def __init__(
-        self, saga: Saga, call: str, name: str | None, declare: Callable[[Any], Any]
+        self, saga: SagaParts, call: str, name: str | None, declare: Callable[[Any], Any]
     ) -> None:
         self.where, self.call, self.name = caller(3), call, name
         self._declare, self._saga = declare, saga
@@ -101,36 +114,46 @@ class Step(Selection[R]):
         bounds: `fleet_concurrency` and `rate_limit`, as given to `Saga.step`.
         until: As given to `Saga.wait`.
         approval_timeout: The `timeout` of `Saga.approval`.
+        shown_fields: The fields of the input that `Saga.approval` shows, as dotted paths.
         child: The definition of `Saga.child`, or None.
         early_unused: As given to `Saga.step`.
+        has_nothing: Whether it was declared with `undo=NOTHING`.
         is_collected: Whether a step needs it by `collect`.
+        is_optional: As given to `Saga.step`.
+        is_pivot: As given to `Saga.step`.
         for_each: As given to `Saga.step`.
         when: As given to `Saga.step`.
     """
 
     def __init__(
         self,
-        saga: Saga,
+        saga: SagaParts,
         name: str,
-        where: str,
+        location: str,
         kind: str,
         needs: tuple[Need, ...],
-        costs: dict[str, CostOf | None],
+        costs: Mapping[str, Undo | None],
         run: Manner,
         for_each: ForEach | None = None,
         when: Callable[[Any], Any] | None = None,
     ) -> None:
-        self.saga, self.name, self.where, self.kind = saga, name, where, kind
+        self.saga, self.name, self.where, self.kind = saga, name, location, kind
         self.run, self.undo = run, Manner()
         self.concurrency: int | None = None
         self.concurrency_by: Callable[[Any], Any] | None = None
         self.bounds: Bounds | None = None
         self.until: Until | None = None
         self.approval_timeout: datetime.timedelta | None = None
-        self.child: Saga | None = None
+        self.shown_fields: tuple[str, ...] = ()
+        self.child: SagaParts | None = None
         self.early_unused: EarlyUnused = "ask"
-        self.is_collected, self.for_each, self.when = False, for_each, when
-        self._costs, self._needs = costs, needs
+        self.is_collected = self.is_optional = self.is_pivot = False
+        self.for_each, self.when = for_each, when
+        self.has_nothing = costs["undo"] is NOTHING
+        self._costs: dict[str, CostOf | None] = {
+            word: 0 if cost is NOTHING else cost for word, cost in costs.items()
+        }
+        self._needs = needs
 
     @property
     def path(self) -> tuple[str, ...]:
@@ -140,7 +163,7 @@ class Step(Selection[R]):
     @property
     def needs(self) -> list[str]:
         """The names of the steps that it needs."""
-        return [need if isinstance(need, str) else need.name for need in self._needs]
+        return [need_name(need) for need in self._needs]
 
     @property
     def has_compensation(self) -> bool:
@@ -148,13 +171,24 @@ class Step(Selection[R]):
         return self.undo.function is not None or self.undo.external
 
     def cost(self, word: str) -> Cost:
-        """Return one of the step's costs, with its default.
+        """Return one of the step's costs, with its default, or as the pivot determines.
 
         Args:
             word: `run`, `undo`, `skip` or `keep`.
 
         Raises:
             DefinitionError: The cost is a function of the input.
+        """
+        return self.saga.cost_of(self, word)
+
+    def own_cost(self, word: str) -> Cost:
+        """Return one of the step's costs, with its default. No pivot counts.
+
+        Args:
+            word: As of `cost`.
+
+        Raises:
+            DefinitionError: As of `cost`.
         """
         cost = self._costs[word]
         if callable(cost):
@@ -190,7 +224,24 @@ class Step(Selection[R]):
         return self.child is not None and (kind == "run" or self.undo.implied)
 
     @overload
-    def compensation(self, function: Callable[[Any], Any], /) -> Callable[[Any], Any]:
+    def compensation(  # type: ignore[misc]  # a fan-out: the result is that of one item
+        self: FanOut[Any, T], function: Callable[[UndoTask[T]], Any], /
+    ) -> Callable[[Any], Any]:
+        ...
+
+    @overload
+    def compensation(self, function: Callable[[UndoTask[R]], Any], /) -> Callable[[Any], Any]:
+        ...
+
+    @overload
+    def compensation(  # type: ignore[misc]
+        self: FanOut[Any, T],
+        function: None = None,
+        /,
+        *,
+        external: bool = False,
+        **options: Unpack[CompensationOptions],
+    ) -> Callable[[Callable[[UndoTask[T]], Any]], Callable[[Any], Any]]:
         ...
 
     @overload
@@ -199,17 +250,9 @@ class Step(Selection[R]):
         function: None = None,
         /,
         *,
-        tries: int = 1,
-        timeout: Seconds | None = None,
-        backoff: Backoff | None = None,
-        unknown: Unknowns | None = None,
-        max_unknown: int | datetime.timedelta | None = None,
-        transaction: bool | None = None,
         external: bool = False,
-        queue: RemoteQueue | types.EllipsisType | None = ...,
-        on_exhausted: OnExhausted = "ask",
-        max_attempts: int | None = None,
-    ) -> Callable[[Callable[[Any], Any]], Callable[[Any], Any]]:
+        **options: Unpack[CompensationOptions],
+    ) -> Callable[[Callable[[UndoTask[R]], Any]], Callable[[Any], Any]]:
         ...
 
     def compensation(
@@ -217,37 +260,26 @@ class Step(Selection[R]):
         function: Callable[[Any], Any] | None = None,
         /,
         *,
-        tries: int = 1,
-        timeout: Seconds | None = None,
-        backoff: Backoff | None = None,
-        unknown: Unknowns | None = None,
-        max_unknown: int | datetime.timedelta | None = None,
-        transaction: bool | None = None,
         external: bool = False,
-        queue: RemoteQueue | types.EllipsisType | None = ...,
-        on_exhausted: OnExhausted = "ask",
-        max_attempts: int | None = None,
+        **options: Unpack[CompensationOptions],
     ) -> Any:
         """Declare the function that undoes this step, by `@step.compensation`.
 
-        Its task has the step's result as `task.result`. Like a step's function it may be called
+        Its task has the step's result as `task.result`, with its type if the function names it:
+        `task: CompensationTask[Order, Receipt]`. Like a step's function it may be called
         again. If its last attempt fails, the saga waits for a person: see `Store.attention`.
 
         Args:
             function: The function, if no option is given.
-            tries: Maximum number of attempts, 1 to 9 (default: 1).
-            timeout: Seconds, or a timedelta, after which the outcome is unknown (default: none).
-            backoff: Pauses between attempts (default: the step's).
-            unknown: Exceptions after which the outcome is unknown (default: the step's).
-            max_unknown: As of `Saga.step` (default: repeat without end).
-            transaction: As of `Saga.step` (default: the step's).
             external: It is done elsewhere: call `step.compensation(external=True)` (default:
                 False).
-            queue: The queue whose workers call it; None: this program (default: the step's).
-            on_exhausted: What follows the last attempt, or `Fail`: `ask` waits for `Store.retry`,
-                `Store.complete` or `Store.fail`. `retry` repeats without end, but asks after a
-                `Fail`. `fail` leaves the effect in place (default: `ask`).
-            max_attempts: As of `Saga.step` (default: `tries`).
+            options: `tries`, `timeout` and `max_unknown`, with the same defaults as a step's: those
+                of the saga, if it has them. The defaults of `backoff`, `no_effect`, `transaction`
+                and `queue` are the step's own. See `StepOptions`.
+                `on_exhausted` is what follows the last attempt, or `Fail`: `ask` waits for
+                `Store.retry`, `Store.complete` or `Store.fail`. `retry` repeats without end, but
+                asks after a `Fail`. `fail` leaves the effect in place (default: that of the
+                saga, but not `fail`; else `ask`).
 
         Returns:
             The function, or a decorator that returns it.
@@ -255,6 +287,7 @@ class Step(Selection[R]):
         Raises:
             DefinitionError: The step has a compensation already or `undo=NEVER`, or an argument is
                 not valid.
+            TypeError: An option does not exist.
 
         Example:
             >>> trip = sagas.Saga("trip")
@@ -266,45 +299,58 @@ class Step(Selection[R]):
             ...     print("cancel", task.result["booking"], "with", task.idempotency_key[-11:])
             >>> @trip.step(needs=[flight])
             ... def hotel(task): ...
-            >>> sagas.testing.run(trip, fail={hotel: 1}).states
+            >>> sagas.testing.run(trip, fail={hotel: sagas.Fail}).states
             cancel B-7 with flight-undo
             {'flight': 'undone', 'hotel': 'failed'}
         """
 
+        defaults = compensation_defaults(self.run, self.saga.defaults, external)
+        chosen = with_defaults("Step.compensation", options, defaults)
+        timeout = chosen["timeout"]
+
         def declare(function: Callable[[Any], Any] | None) -> Callable[[Any], Any] | None:
-            where = location_of(function) or caller(3)
+            location = location_of(function) or caller(3)
             if self.has_compensation and not self.undo.implied:
                 raise step_error(
                     self,
                     "has two compensations, but one must undo everything. Call both from one "
                     "function, or remove one",
-                    where,
+                    location,
+                )
+            if self.is_pivot:
+                raise step_error(
+                    self,
+                    "is the pivot, which is never undone, so it cannot have a compensation. Remove "
+                    "one of them",
+                    location,
                 )
             if self._costs["undo"] is NEVER:
                 raise step_error(
                     self,
                     "has a compensation, but undo=NEVER says that it is never called. Remove one "
                     "of them",
-                    where,
+                    location,
                 )
-            unknowns = self.run.unknown if unknown is None else unknown
-            is_transaction = function is not None and (
-                self.run.transaction if transaction is None else transaction
-            )
+            if self.has_nothing:
+                raise step_error(
+                    self,
+                    "has a compensation, but undo=NOTHING says that there is nothing to undo. "
+                    "Remove one of them",
+                    location,
+                )
             self.undo = Manner(
                 function,
-                tries,
+                chosen["tries"],
                 timeout if timeout is None else seconds(timeout),
-                backoff or self.run.backoff,
-                unknowns,
-                max_unknown,
+                chosen["backoff"],
+                chosen["no_effect"],
+                chosen["max_unknown"],
                 function is None,
-                is_transaction,
-                on_exhausted=on_exhausted,
-                max_attempts=max_attempts,
+                chosen["transaction"] if function else False,
+                queue=chosen["queue"] if function else None,
+                on_exhausted=chosen["on_exhausted"],
             )
-            self.undo.queue = (self.run.queue if queue is ... else queue) if function else None
-            check_manner(self, self.undo, "compensation", where)
+            check_manner(self, self.undo, "compensation", location)
             if self.undo.queue:
                 self.undo.queue.declare(self, "undo", self.undo)
             return function
@@ -354,7 +400,7 @@ class Collected(Generic[R]):
 class Collection(Selection[Collected[R]]):
     """The items of a fan-out, whether they succeeded or failed. Made by `collect`."""
 
-    def __init__(self, step: FanOut[Any, R]) -> None:
+    def __init__(self, step: Collectable[Any, R]) -> None:
         self.step, self.saga = step, step.saga
         self.name: str = step.name
 
@@ -367,7 +413,7 @@ class Collection(Selection[Collected[R]]):
         return f"<collected {self.name} of saga {self.saga.name}>"
 
 
-def collect(step: FanOut[Any, R]) -> Collection[R]:
+def collect(step: Collectable[Any, R]) -> Collection[R]:
     """Need the items of a fan-out whether they succeed or fail.
 
     Write `needs=[sagas.collect(ship)]`. The failure of an item is then a result: the saga
@@ -375,7 +421,7 @@ def collect(step: FanOut[Any, R]) -> Collection[R]:
     is a `Collected`. For an item that failed, `task.result_of(ship.each)` raises `StepFailed`.
 
     Args:
-        step: A step with `for_each=`.
+        step: A step with `for_each=`, also one of `Saga.child`.
 
     Returns:
         A need for `needs=`, and the argument of `Task.result_of`.
@@ -385,18 +431,24 @@ def collect(step: FanOut[Any, R]) -> Collection[R]:
 
     Example:
         >>> batch = sagas.Saga("batch")
-        >>> @batch.step(for_each="numbers", undo=0)
+        >>> @batch.step(for_each="numbers", undo=sagas.NOTHING)
         ... def invert(task):
+        ...     if task.item == 0:
+        ...         raise sagas.Fail("no inverse")
         ...     return 1 / task.item
         >>> @batch.step(needs=[sagas.collect(invert)])
         ... def report(task):
         ...     collected = task.result_of(sagas.collect(invert))
         ...     return [collected.results, collected.errors]
         >>> sagas.testing.run(batch, {"numbers": [2, 0]}).result_of(report)
-        [{'0': 0.5}, {'1': 'ZeroDivisionError: division by zero'}]
+        [{'0': 0.5}, {'1': 'sagas.Fail: no inverse'}]
     """
-    if not isinstance(step, FanOut):
-        raise DefinitionError(f"{caller(2)}: collect({step!r}): must be a step with for_each=")
+    if not isinstance(step, Collectable):
+        remedy = ". Declare it with optional=True, and call task.failure_of"
+        raise DefinitionError(
+            f"{caller(2)}: collect({step!r}): must be a step with for_each="
+            f"{remedy if isinstance(step, Step) else ''}"
+        )
     return Collection(step)
 
 
@@ -404,7 +456,7 @@ def mark_collected(needs: Iterable[object]) -> None:
     """Mark the steps that `collect` needs: failures of their items are results."""
     for need in needs:
         if isinstance(need, Collection):
-            need.step.is_collected = True
+            need.step.collect_failures()
 
 
 def collected_of(names: Any, result_of: Callable[[str], Any]) -> Collected[Any]:
@@ -455,7 +507,15 @@ class Each(Selection[R]):
         return f"<{self.part.name}.each of saga {self.saga.name}>"
 
 
-class FanOut(Step[C], Generic[C, R]):
+class Collectable(Step[C], Generic[C, R]):
+    """A step with items: each may succeed or fail, with a result of its own."""
+
+    def collect_failures(self) -> None:
+        """Let failures of its items be results: a step needs them by `collect`."""
+        self.is_collected = True
+
+
+class FanOut(Collectable[C, R], Generic[C, R]):
     """Hold a step that exists once for each item, whose function returns `R`.
 
     Made by `Saga.step` and its like with `for_each=`. Its results are a `C`: a list, or a dict by
@@ -503,24 +563,24 @@ class Inclusion:
 
     def __init__(
         self,
-        saga: Saga,
-        inner: Saga,
+        saga: SagaParts,
+        inner: SagaParts,
         name: str,
-        where: str,
+        location: str,
         needs: tuple[Need, ...],
         input: str | Callable[[Any], Any] | None,
         given: Callable[[Any], Any] | None,
         for_each: ForEach | None,
         when: Callable[[Any], Any] | None,
     ) -> None:
-        self.saga, self.inner, self.name, self.where = saga, inner, name, where
+        self.saga, self.inner, self.name, self.where = saga, inner, name, location
         self.input, self.given, self.for_each, self.when = input, given, for_each, when
         self._needs = needs
 
     @property
     def needs(self) -> list[str]:
         """The names of the steps and inclusions that it needs."""
-        return [need if isinstance(need, str) else need.name for need in self._needs]
+        return [need_name(need) for need in self._needs]
 
     def __getitem__(self, step: Selection[R]) -> Selection[R]:
         """Return a step of the included saga, to ask for its result.
@@ -582,17 +642,34 @@ class DeclareKeyed(Protocol[T]):
         ...
 
 
+class StepName(str):
+    """A needed step in a definition that is a text: it may be declared later."""
+
+
 Part = Union[Step[Any], Inclusion]
-Need = Union[Step[Any], Each[Any], Inclusion, Collection[Any], str]
-"""An entry of `needs=`: a step, an inclusion, either of the same item, a collection, or a name."""
+Need = Union[Step[Any], Each[Any], Inclusion, Collection[Any], StepName]
+"""An entry of `needs=`: a step, an inclusion, either of the same item, or a collection."""
 
 
 # -- what a declaration says
 
 
+def starts_children(step: object) -> bool:
+    """Return whether a step starts a child saga for each of its items."""
+    return isinstance(step, Collectable) and step.child is not None and step.for_each is None
+
+
 def is_compensated(step: Step[Any]) -> bool:
     """Return whether a compensation is declared for a step."""
     return step.has_compensation and not step.undo.implied
+
+
+def mark_lines(step: Step[Any]) -> list[str]:
+    """Return what the text of a definition says of a step apart from its needs and costs."""
+    marks = [definition_text.COMPENSATED] if is_compensated(step) else []
+    if step.has_nothing:
+        marks = [definition_text.NOTHING]
+    return [*marks, definition_text.OPTIONAL] if step.is_optional else marks
 
 
 def is_each(need: object) -> bool:
@@ -615,52 +692,6 @@ def has_computed_costs(step: Step[Any]) -> bool:
     return any(map(callable, step._costs.values()))
 
 
-def plain_steps(saga: Saga) -> dict[str, Step[Any]]:
-    """Return the steps without `for_each`, by name."""
-    return {step.name: step for step in saga.steps if step.for_each is None}
-
-
-class Pattern(NamedTuple):
-    """The possible names of a declared step.
-
-    Attributes:
-        name: The name, with `#` for the number of an item.
-        path: The declared name: `hotel/room`.
-        step: The step.
-        where: File and line of the step, or of the inclusion in the outermost saga.
-    """
-
-    name: str
-    path: str
-    step: Step[Any]
-    where: str
-
-    def is_of(self, name: str) -> bool:
-        """Return whether a name, or a path, is one of the step."""
-        return name == self.path or bool(self.names.match(name))
-
-    @property
-    def names(self) -> re.Pattern[str]:
-        """The regular expression that matches the names."""
-        return re.compile(self.name.replace("#", r"\d+") + r"\Z")
-
-
-def patterns(saga: Saga, prefix: str = "", path: str = "", where: str = "") -> Iterator[Pattern]:
-    """Yield the patterns of a saga's steps and of those of included sagas."""
-    for part in saga.parts:
-        name = prefix + part.name + ("" if part.for_each is None else "-#")
-        if isinstance(part, Inclusion):
-            inner = f"{path}{part.name}/"
-            yield from patterns(part.inner, f"{name}-", inner, where or part.where)
-        else:
-            yield Pattern(name, f"{path}{part.name}", part, where or part.where)
-
-
-def step_named(saga: Saga, name: str) -> Step[Any] | None:
-    """Return the declared step of a name: `ship`, `ship-2` or `hotel/room`."""
-    return next((pattern.step for pattern in patterns(saga) if pattern.is_of(name)), None)
-
-
 # -- errors of declarations
 
 
@@ -676,26 +707,26 @@ def caller(depth: int) -> str:
     return f"{frame.f_code.co_filename}:{frame.f_lineno}"
 
 
-def saga_error(saga: Saga, text: str) -> DefinitionError:
+def saga_error(saga: SagaParts, text: str) -> DefinitionError:
     """Return an error of a saga's declaration, with its file and line."""
     return DefinitionError(f"{saga.where}: saga {saga.name!r}: {text}")
 
 
-def step_error(step: Part, text: str, where: str | None = None) -> DefinitionError:
+def step_error(step: Part, text: str, location: str | None = None) -> DefinitionError:
     """Return an error of a step's declaration, with its file and line."""
     return DefinitionError(
-        f"{where or step.where}: saga {step.saga.name!r}, step {step.name!r}: {text}"
+        f"{location or step.where}: saga {step.saga.name!r}, step {step.name!r}: {text}"
     )
 
 
-def check_manner(step: Step[Any], manner: Manner, role: str, where: str) -> None:
+def check_manner(step: Step[Any], manner: Manner, role: str, location: str) -> None:
     """Raise `DefinitionError` if a function or an option of its calls is not valid.
 
     Args:
         step: The step.
         manner: The function and its options.
         role: `function` or `compensation`, for the message.
-        where: File and line of the declaration.
+        location: File and line of the declaration.
     """
     for text in (*option_faults(manner, role), *function_faults(manner, role)):
-        raise step_error(step, text, where)
+        raise step_error(step, text, location)

@@ -2,24 +2,47 @@
 
 from __future__ import annotations
 
-import contextlib
-import dataclasses
 import datetime
-from collections.abc import Callable, Iterator, Mapping
+import inspect
+from collections.abc import Callable, Mapping
 from typing import Any, Generic, TYPE_CHECKING, TypeVar, overload
 
-from sagas.base.errors import CannotDecode, ResultNotSerializable, StepFailed
+from sagas.base.errors import (
+    CannotDecode,
+    MissingResult,
+    ProgramError,
+    ResultNotSerializable,
+    StepFailed,
+)
 from sagas.definition import serialization, tokens, type_checks
-from sagas.definition.layout import Layout, RemoteLayout, ShapeValues, StepOrigin
-from sagas.definition.step import Collection, Selection, collected_of
-from sagas.definition.task_data import Cancellation, Progress, TaskData, TaskSnapshot, snapshot
+from sagas.definition.parts import needed_parts
+from sagas.definition.step import (
+    Collectable,
+    Collected,
+    Collection,
+    Selection,
+    collected_of,
+    starts_children,
+)
+from sagas.definition.task_data import (
+    Cancellation,
+    NO_ITEM,
+    Progress,
+    TaskData,
+    TaskSnapshot,
+    snapshot,
+)
 
 if TYPE_CHECKING:
-    from sagas.definition.shape import Declaration
+    from sagas.definition.step_location import StepLocation
 
+C = TypeVar("C")
 I = TypeVar("I")
 R = TypeVar("R")
 T = TypeVar("T")
+D = TypeVar("D")
+REQUIRED: Any = object()
+"""The default of a result that must exist."""
 
 
 class Task(Generic[I]):
@@ -99,7 +122,7 @@ class Task(Generic[I]):
             self._needed_results = self._data.needed_results
         return self._needed_results
 
-    def enter(self, connection: Any) -> None:
+    def _enter(self, connection: Any) -> None:
         """Set the connection of a step with `transaction=True`.
 
         Args:
@@ -107,7 +130,7 @@ class Task(Generic[I]):
         """
         self._connection = connection
 
-    def enter_by(self, take: Callable[[], Any]) -> None:
+    def _enter_by(self, take: Callable[[], Any]) -> None:
         """Set the function that returns the connection when `connection` is read.
 
         Args:
@@ -115,7 +138,7 @@ class Task(Generic[I]):
         """
         self._take = take
 
-    def leave(self) -> Any:
+    def _leave(self) -> Any:
         """End the use of the connection, and return it if it was read, else None."""
         self._take = None
         return self._connection
@@ -125,15 +148,15 @@ class Task(Generic[I]):
         """The psycopg connection of a step with `transaction=True`.
 
         The step's result commits in its transaction. Do not commit it or roll it back. An async
-        function gets a `psycopg.AsyncConnection`.
+        function gets a `psycopg.AsyncConnection`. `TransactionTask` has its type.
 
         Raises:
-            RuntimeError: The step has no transaction.
+            ProgramError: The step has no transaction.
             StoreUnavailable: The server does not answer.
         """
         if self._connection is None:
             if self._take is None:
-                raise RuntimeError(
+                raise ProgramError(
                     f"step {self.step!r} has no transaction. Declare it with transaction=True"
                 )
             self._connection = self._take()
@@ -144,7 +167,7 @@ class Task(Generic[I]):
         """Return the value of `context=` of the open store, or what its factory made.
 
         Raises:
-            RuntimeError: The context is missing.
+            ProgramError: The context is missing.
         """
         return self._data.context.get()
 
@@ -177,7 +200,7 @@ class Task(Generic[I]):
         """
         self._data.control.set_progress(fraction, detail)
 
-    def take_progress(self) -> Progress | None:
+    def _take_progress(self) -> Progress | None:
         """Return the progress if it is new since the last call, else None."""
         return self._data.control.take_progress()
 
@@ -195,7 +218,7 @@ class Task(Generic[I]):
         """The idempotency key and the attempt's number, which differs for each attempt.
 
         Use it with a service that remembers a refusal under its key. The last attempt may be made
-        again with the same id: with `max_attempts`, `on_exhausted="retry"` or `Store.retry`.
+        again with the same id: with more than 9 `tries`, `on_exhausted="retry"` or `Store.retry`.
         """
         return tokens.attempt_id(self.idempotency_key, self.attempt)
 
@@ -256,7 +279,7 @@ class Task(Generic[I]):
     def result(self) -> Any:
         """In a compensation, what the step returned; in an action, None.
 
-        A result that could not be stored is `{"unstorable": why}`.
+        `CompensationTask` has its type. A result that could not be stored is `{"unstorable": why}`.
 
         Raises:
             CannotDecode: The stored result does not fit the step's type.
@@ -265,7 +288,7 @@ class Task(Generic[I]):
         return None if own_result is None else self._kept(self.step, own_result)
 
     @property
-    def plain(self) -> dict[str, Any]:
+    def _plain(self) -> dict[str, Any]:
         """`input`, `item`, `results`, `result` and the shape as JSON values.
 
         A worker outside of the store gets them.
@@ -283,7 +306,7 @@ class Task(Generic[I]):
         }
 
     @property
-    def texts(self) -> dict[str, Any]:
+    def _portable(self) -> dict[str, Any]:
         """The data of the task with JSON texts. Another node can make the task from it."""
         data = self._data
         names = {
@@ -301,45 +324,182 @@ class Task(Generic[I]):
         ...
 
     @overload
-    def result_of(self, step: str) -> Any:
+    def result_of(self, step: Selection[R], *, default: D) -> R | D:
         ...
 
-    def result_of(self, step: Selection[Any] | str) -> Any:
+    @overload
+    def result_of(self, step: str, *, default: Any = ...) -> Any:
+        ...
+
+    def result_of(self, step: Selection[Any] | str, *, default: Any = REQUIRED) -> Any:
         """Return the result of a step that this one needs, directly or not.
 
         Args:
             step: The step, or its name. The result of a fan-out is a list, or a dict by the keys of
                 its items. `ship.each` is the step of the same item; `hotel[room]` is a step of an
                 included saga.
+            default: What to return if this saga does not have the step: it was started before the
+                step was declared or needed, or the step does not exist for its input (default:
+                raise `MissingResult`).
 
         Raises:
-            KeyError: This step does not need it, or it does not exist for this input.
+            MissingResult: This saga does not have the step, and there is no `default`. The attempt
+                waits, and nothing is compensated.
+            ProgramError: `needs=` does not have the step, or `ship.each` is read by a step without
+                an item, whatever the `default`.
             ResultNotSerializable: The result could not be stored.
-            StepFailed: The item failed, and its failure was collected.
+            StepFailed: The step is optional, or an item that is collected, and has failed. See
+                `failure_of`.
             CannotDecode: The stored result does not fit the step's type.
         """
-        location = self._data.location
+        try:
+            return self._gather(step)
+        except KeyError:  # the saga's own definition does not have it
+            missing = self._missing(step)
+            if missing is None and default is not REQUIRED:
+                return default
+            raise missing or self._not_stored(step) from None
+
+    def _gather(self, step: Selection[Any] | str) -> Any:
+        """Return the result of a selection. Raises `KeyError` if this saga does not have it."""
+        location, result_of = self._data.location, self._result
+        if starts_children(step):
+            result_of = self._children
+        elif isinstance(step, Collection):
+            if starts_children(step.step):
+                result_of = self._collected_children
+            elif location is not None:
+                return collected_of(location.gather(step, str), self._result)
         if location is None:
-            return self._result(step if isinstance(step, str) else step.path[0])
-        if isinstance(step, Collection):
-            return collected_of(location.gather(step, str), self._result)
-        return location.gather(step, self._result)
+            return result_of(step if isinstance(step, str) else step.path[0])
+        return location.gather(step, result_of)
+
+    def _children(self, name: str) -> list[Any]:
+        """Return the results of the children of a step. Raises `KeyError` or `StepFailed`."""
+        return [serialization.stored(result, name) for result in self._listed(name)]
+
+    def _collected_children(self, name: str) -> Collected[Any]:
+        """Return the results and the errors of the children of a step. Raises `KeyError`."""
+        collected: Collected[Any] = Collected({}, {})
+        for index, result in enumerate(self._listed(name)):
+            if (error := serialization.failed(result)) is None:
+                collected.results[index] = result
+            else:
+                collected.errors[index] = error
+        return collected
+
+    def _listed(self, name: str) -> list[Any]:
+        """Return the result of a step that starts a child for each item. Raises `KeyError`."""
+        result = self._result(name)
+        if result is not None and not isinstance(result, list):
+            raise CannotDecode(
+                f"saga {self.saga!r}, step {self.step!r}: result of {name!r}: it is of one child, "
+                "and the step has for_each= now"
+            )
+        return result or []
+
+    def _missing(self, step: Selection[Any] | str) -> ProgramError | None:
+        """Return the error for a step that `needs=` does not have today, or None if it has it.
+
+        If a text names the step, its present declaration is not known.
+        """
+        if isinstance(step, str):
+            return None
+        location = self._data.location
+        own_name = self._data.name if location is None else location.origin.name
+        own_name = own_name.rpartition("/")[2]
+        if step.path[0] in needed_parts(step.saga, own_name):
+            own_part = step.saga.parts_by_name[own_name]
+            return self._no_item() if step.is_own and own_part.for_each is None else None
+        return ProgramError(
+            f"saga {self.saga!r}, step {self.step!r} does not need {step.path[0]!r}. Add it to "
+            "needs="
+        )
+
+    def _not_stored(self, step: Selection[Any] | str) -> MissingResult:
+        """Return the error for a step that this saga does not have."""
+        name = step if isinstance(step, str) else "/".join(step.path)
+        reason = f"this saga was started before {name!r} was a need of {self.step!r}"
+        if self._data.location is not None:
+            reason += ", or it does not exist for this input"
+        elif isinstance(step, str):
+            reason += ", or needs= does not have it"
+        return MissingResult(
+            f"saga {self.saga!r}, step {self.step!r}: {reason}. To serve both, write "
+            f"task.result_of({step if isinstance(step, str) else step.path[-1]}, default=None)"
+        )
+
+    @overload
+    def failure_of(self, step: Collectable[Any, Any]) -> Any:
+        ...
+
+    @overload
+    def failure_of(self, step: Selection[Any] | str) -> str | None:
+        ...
+
+    def failure_of(self, step: Selection[Any] | str) -> Any:
+        """Return what an optional step, or a collected item, raised, or None.
+
+        Args:
+            step: As of `result_of`: a step that this one needs, directly or not.
+
+        Returns:
+            The error as a text, or None if the step has succeeded. For a fan-out a list of these,
+            or a dict by the keys of its items.
+
+        Raises:
+            MissingResult: As of `result_of`.
+            ProgramError: As of `result_of`.
+
+        Example:
+            >>> letters = sagas.Saga("letters")
+            >>> @letters.step(optional=True)
+            ... def mail(task):
+            ...     raise sagas.Fail("mailbox full")
+            >>> @letters.step(needs=[mail])
+            ... def note(task):
+            ...     return task.failure_of(mail)
+            >>> sagas.testing.run(letters).result_of(note)
+            'sagas.Fail: mailbox full'
+        """
+        location = self._data.location
+        failure_of = self._failures if starts_children(step) else self._failure
+        try:
+            if location is None:
+                return failure_of(step if isinstance(step, str) else step.path[0])
+            return location.gather(step, failure_of)
+        except KeyError:  # the saga's own definition does not have it
+            raise self._missing(step) or self._not_stored(step) from None
+
+    def _failure(self, name: str) -> str | None:
+        """Return what one step raised, by its full name, or None."""
+        return serialization.failed(serialization.read(self._needed_text(name)))
+
+    def _failures(self, name: str) -> Any:
+        """Return what each child of a step raised, or None; a text if the step itself failed."""
+        result = serialization.read(self._needed_text(name))
+        if not isinstance(result, list):
+            return serialization.failed(result)
+        return [serialization.failed(entry) for entry in result]
 
     def _result(self, name: str) -> Any:
-        """Return the result of one step, by its full name."""
-        data = self._data
-        text = self._texts.get(name)
-        if text is None:
-            if data.undo and name == data.name and data.own_result is not None:
-                text = data.own_result
-            else:
-                raise KeyError(f"step {data.name!r} does not need {name!r}. Add it to needs=")
+        """Return the result of one step, by its full name. Raises `KeyError`."""
+        text, data = self._needed_text(name), self._data
         try:
             return serialization.returned(text, data.decoders.get(name), name)
         except (ResultNotSerializable, StepFailed):
             raise
         except Exception as error:  # of the type's own code
             raise self._unread(f"result of {name!r}", error) from None
+
+    def _needed_text(self, name: str) -> str:
+        """Return the result of one step as JSON, by its full name. Raises `KeyError`."""
+        data, text = self._data, self._texts.get(name)
+        if text is not None:
+            return text
+        if data.undo and name == data.name and data.own_result is not None:
+            return data.own_result
+        raise KeyError(name)
 
     # -- of an item
 
@@ -352,15 +512,19 @@ class Task(Generic[I]):
     def _item_location(self) -> StepLocation:
         location = self._data.location
         if location is None or not self.has_item:
-            raise RuntimeError(f"step {self.step!r} has no item. Declare it with for_each=")
+            raise self._no_item()
         return location
+
+    def _no_item(self) -> ProgramError:
+        """Return the error for a step that is to have an item, and has none."""
+        return ProgramError(f"step {self.step!r} has no item. Declare it with for_each=")
 
     @property
     def item(self) -> Any:
         """The item of a step with `for_each=`: a new object at each access.
 
         Raises:
-            RuntimeError: The step has no item.
+            ProgramError: The step has no item.
             CannotDecode: The stored item does not fit the type of the hint.
         """
         location = self._item_location()
@@ -374,7 +538,7 @@ class Task(Generic[I]):
         """The number of its item in the list, from 0, or the item's key in the dict.
 
         Raises:
-            RuntimeError: The step has no item.
+            ProgramError: The step has no item.
         """
         index = self._item_location().index
         assert index is not None
@@ -437,242 +601,78 @@ class ItemTask(Task[I], Generic[I, T]):
         return item
 
 
-# -- the location of a step
+class CompensationTask(Task[I], Generic[I, R]):
+    """Describe one attempt of a compensation, to its function.
 
+    Made by the store for each call. Write `task: CompensationTask[Order, Receipt]` to get the input
+    as an `Order`, and the result of the step as a `Receipt`. It is the type of the result if the
+    step's function does not declare one. For all else see `Task`.
 
-NO_ITEM = {"index": None, "item_key": None, "item": None}
-"""The item of a step that has none, as a worker outside of the store gets it."""
-
-
-class StepLocation:
-    """The location of one step in one saga. It reads the values that the step may see.
-
-    Attributes:
-        origin: The origin of the step.
-        layout: The steps of the saga's definition.
-        values: The stored values of the saga's shape.
+    Example:
+        >>> import decimal
+        >>> shop = sagas.Saga("shop")
+        >>> @shop.step(keep=9)
+        ... def charge(task: sagas.Task[int]) -> decimal.Decimal:
+        ...     return decimal.Decimal(task.input)
+        >>> @charge.compensation
+        ... def refund(task: sagas.CompensationTask[int, decimal.Decimal]) -> None:
+        ...     print("refund", task.result.quantize(decimal.Decimal("0.01")))
+        >>> @shop.step(needs=[charge])
+        ... def send(task): ...
+        >>> sagas.testing.run(shop, 40, fail={send: sagas.Fail}).states
+        refund 40.00
+        {'charge': 'undone', 'send': 'failed'}
     """
 
-    __slots__ = ("origin", "layout", "values", "_declared", "_input")
-
-    def __init__(
-        self,
-        origin: StepOrigin,
-        layout: Layout,
-        values: ShapeValues,
-        declared: Declaration,
-        input: str,
-    ) -> None:
-        self.origin, self.layout, self.values = origin, layout, values
-        self._declared, self._input = declared, input
+    __slots__ = ()
 
     @property
-    def saga(self) -> str:
-        """The name of the saga that declares the step."""
-        return self._declared.saga(self.origin.scope)
+    def result(self) -> R:
+        """As of `Task`."""
+        result: R = super().result
+        return result
+
+
+class TransactionTask(Task[I], Generic[I, C]):
+    """Describe one attempt of a step with `transaction=True`, to its function.
+
+    Made by the store for each call. Write `task: TransactionTask[Order, psycopg.Connection[Any]]`,
+    or with `psycopg.AsyncConnection[Any]` for an async function, to get the connection with its
+    type. For all else see `Task`.
+    """
+
+    __slots__ = ()
 
     @property
-    def index(self) -> int | str | None:
-        """The number of its item, or the item's key in a dict; None if it has no item."""
-        return self.values.key(self.origin)
-
-    @property
-    def input(self) -> str:
-        """The input of the saga that declares the step, as JSON."""
-        return self.values.input(self.origin.scope) if self.origin.scope else self._input
-
-    def item(self) -> Any:
-        """Return its item. Errors of the item's type pass through."""
-        return self.values.item(self.origin, self._declared.item(self.origin))
-
-    @property
-    def plain(self) -> dict[str, Any]:
-        """Its item as JSON values, for a worker outside of the store."""
-        number, key = self.origin.number, self.index
-        if number is None:
-            return NO_ITEM
-        index = {"index": number, "item_key": key if isinstance(key, str) else None}
-        return index | {"item": self.values.item(self.origin)}
-
-    @property
-    def shape(self) -> dict[str, Any]:
-        """The saga's name, and numbers and keys of items, for a remote worker."""
-        return {"saga": self.saga, **self.values.numbering(self.origin.scope)}
-
-    def visible(self, texts: Mapping[str, str]) -> Iterator[tuple[str, str]]:
-        """Yield the steps of its own saga that have results.
-
-        Each is a pair: the name in its own saga, and the full name.
-        """
-        if not self.origin.scope:
-            return ((name, name) for name in texts)
-        return (pair for pair in self.layout.within(self.origin.scope) if pair[1] in texts)
-
-    def groups(self, texts: Mapping[str, str]) -> Iterator[tuple[str, Any]]:
-        """Yield the results of the fan-outs of its own saga whose items all have results.
-
-        Each is a pair: the declared name, and a list, or a dict by the keys of the items.
-        """
-        for name in self._declared.fan_outs(self.origin.scope):
-            with contextlib.suppress(KeyError):
-                yield name, self.gather(name, lambda step: serialization.read(texts[step]))
-
-    def gather(self, step: Selection[Any] | str, value_of: Callable[[str], Any]) -> Any:
-        """Return the values of the steps that are selected, as `Layout.gather` does.
-
-        Args:
-            step: The declared step, or its name.
-            value_of: Returns the value of a step, given its full name.
-
-        Raises:
-            KeyError: The steps do not exist, or are not of this saga.
-        """
-        scope, name = self.origin.scope, self.saga
-        if isinstance(step, str):
-            full_name = self.layout.prefix(scope) + step
-            if full_name in self.layout.origins:
-                return value_of(full_name)
-            path: tuple[str, ...] = (step,)
-        elif step.saga.name != name:
-            raise KeyError(
-                f"{step!r} is a step of saga {step.saga.name!r}, and this task is of {name!r}. "
-                "Write inclusion[step] for a step of an included saga, and pass values to an "
-                "included saga by given="
-            )
-        else:
-            path = step.path
-            if step.is_own:
-                return value_of(self.layout.own(scope, path[0], self.origin.number))
-        return self.layout.gather(scope, path, self.values, value_of)
-
-    @property
-    def lacks_given(self) -> bool:
-        """Whether the definition has a function `given=` that this program does not have."""
-        return self._declared.root is None and self.layout.gives(self.origin.scope)
-
-    def given(self, data: TaskData) -> Any:
-        """Return the result of `given=`, called with the task of the including saga.
-
-        Args:
-            data: The data of the task.
-
-        Returns:
-            None if the inclusion has no `given=`.
-        """
-        scope = self.origin.scope
-        function = self._declared.given(scope) if scope else None
-        if function is None:
-            return None
-        outer = StepOrigin(scope[:-1], *scope[-1])
-        location = StepLocation(outer, self.layout, self.values, self._declared, self._input)
-        outer_data = dataclasses.replace(
-            snapshot(data),
-            location=location,
-            input=location.input,
-            hint=self._declared.input(outer.scope),
-        )
-        return function(Task(outer_data))
+    def connection(self) -> C:
+        """As of `Task`."""
+        connection: C = super().connection
+        return connection
 
 
-class RemoteStepLocation(StepLocation):
-    """The location of a task in a worker outside of the store.
+class UndoTask(CompensationTask[Any, R], ItemTask[Any, Any], TransactionTask[Any, Any]):
+    """The task of a compensation as a type checker passes it: each of the others."""
+
+    __slots__ = ()
+
+
+def calling(
+    function: Callable[[Any], Any], task_of: Callable[[Task[Any]], Task[Any]]
+) -> Callable[[Any], Any]:
+    """Return a step's function that calls another function, with a task of its own.
 
     Args:
-        message: The task as the service wrote it, of a saga that has a shape. Its results have the
-            names that they have in their own saga.
+        function: The function, plain or async.
+        task_of: Returns its task, given that of the step.
     """
+    if inspect.iscoroutinefunction(function):
 
-    __slots__ = ("_saga", "_key", "_item", "_given", "_full_name", "_name")
+        async def call_later(task: Any) -> Any:
+            return await function(task_of(task))
 
-    def __init__(self, message: dict[str, Any]) -> None:
-        shape, declared, number = message["shape"], message["declared_step"], message["index"]
-        self.origin, self.values = StepOrigin((), declared, number), ShapeValues.of_numbering(shape)
-        self.layout = RemoteLayout(self.values)
-        self._saga, self._key, self._full_name = shape["saga"], message["item_key"], message["step"]
-        self._name = self.layout.name((), declared.rpartition("/")[2], number)
-        self._item = serialization.write(message["item"])
-        self._given = serialization.write(message["given"])
+        return call_later
 
-    @property
-    def saga(self) -> str:
-        """As of `StepLocation`."""
-        name: str = self._saga
-        return name
+    def call(task: Any) -> Any:
+        return function(task_of(task))
 
-    @property
-    def index(self) -> int | str | None:
-        """As of `StepLocation`."""
-        key: str | None = self._key
-        return self.origin.number if key is None else key
-
-    def item(self) -> Any:
-        """Return the item as a JSON value: a new object at each call."""
-        return serialization.read(self._item)
-
-    @property
-    def plain(self) -> dict[str, Any]:
-        """As of `StepLocation`."""
-        return {"index": self.origin.number, "item_key": self._key, "item": self.item()}
-
-    def visible(self, texts: Mapping[str, str]) -> Iterator[tuple[str, str]]:
-        """Yield all steps that have results: the service left out those of other sagas."""
-        return ((name, name) for name in texts)
-
-    def groups(self, texts: Mapping[str, str]) -> Iterator[tuple[str, Any]]:
-        """Yield nothing: the results have the groups already."""
-        return iter(())
-
-    def gather(self, step: Selection[Any] | str, value_of: Callable[[str], Any]) -> Any:
-        """Return the values of the selected steps, by names in their own saga.
-
-        Only the task's own step is called by its full name.
-        """
-        own_name, full_name = self._name, self._full_name
-        return super().gather(step, lambda name: value_of(full_name if name == own_name else name))
-
-    @property
-    def lacks_given(self) -> bool:
-        """Whether `given` is missing: never, since the service computed it."""
-        return False
-
-    def given(self, data: TaskData) -> Any:
-        """Return the value that the service computed: a new object at each call."""
-        return serialization.read(self._given)
-
-
-class Fan:
-    """Find the steps of a declared step in one saga.
-
-    Args:
-        layout: The layout of the definition, or None if the saga has fixed steps.
-        text: The stored values of the saga's shape, or None. It is parsed at the first use.
-    """
-
-    __slots__ = ("_layout", "_text", "_values")
-
-    def __init__(self, layout: Layout | None, text: str | None = None) -> None:
-        self._layout, self._text = layout, text
-        self._values: ShapeValues | None = None
-
-    def gather(self, step: Selection[Any] | str, value_of: Callable[[str], Any]) -> Any:
-        """Return the values of the steps that are selected, as `Layout.gather` does.
-
-        Args:
-            step: The declared step, or its name.
-            value_of: Returns the value of a step, given its name.
-
-        Raises:
-            KeyError: The saga has no such step.
-        """
-        layout, name = self._layout, step if isinstance(step, str) else step.path[0]
-        if layout is None and getattr(step, "for_each", None) is not None:
-            raise KeyError(f"the items of {step!r} are not known here. Name one: {name}-0")
-        if layout is None or name in layout.origins:
-            return value_of(name)
-        path = (step,) if isinstance(step, str) else step.path
-        if self._values is None:
-            self._values = ShapeValues() if self._text is None else ShapeValues.read(self._text)
-        return layout.gather((), path, self._values, value_of)
-
-
-FIXED = Fan(None)
+    return call

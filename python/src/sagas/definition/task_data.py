@@ -11,11 +11,15 @@ import threading
 from collections.abc import Generator, Mapping
 from typing import Any, NamedTuple, Protocol, TYPE_CHECKING, Union
 
+from sagas.base.errors import ProgramError
 from sagas.definition.arguments import shown
 from sagas.definition.serialization import Decoder, clean
 
 if TYPE_CHECKING:
-    from sagas.definition.task import StepLocation
+    from sagas.definition.step_location import StepLocation
+
+NO_ITEM = {"index": None, "item_key": None, "item": None}
+"""The item of a step that has none, as a worker outside of the store gets it."""
 
 # -- the context of a store
 
@@ -50,10 +54,10 @@ class Context:
         """Return the value.
 
         Raises:
-            RuntimeError: The value is missing.
+            ProgramError: The value is missing.
         """
         if self.lacks is not None:
-            raise RuntimeError(f"task.context: {self.lacks}")
+            raise ProgramError(f"task.context: {self.lacks}")
         return self._value
 
 
@@ -145,13 +149,16 @@ class Cancellation:
             timeout: Maximum seconds to wait (default: no limit).
 
         Raises:
-            RuntimeError: It is called in an event loop, which it would block.
+            ProgramError: It is called in an event loop, which it would block.
         """
         try:
             asyncio.get_running_loop()
         except RuntimeError:
             return self._set.wait(timeout)
-        raise RuntimeError("task.cancelled.wait() blocks the event loop. Await task.cancelled")
+        raise ProgramError(
+            "task.cancelled.wait() would block the event loop. In an async function, write: await "
+            "task.cancelled"
+        )
 
     def __await__(self) -> Generator[Any, None, str]:
         """Wait until the event is set, and return the reason."""

@@ -197,7 +197,7 @@ class Timing:
         every: Seconds of an interval; 0 with `cron`. The times are multiples of it since 1970.
         timezone: The time zone of the expression.
         catch_up: The reaction to times that were missed.
-        most: Maximum number of missed times whose sagas are started: the last ones.
+        max_missed: Maximum number of missed times whose sagas are started: the last ones.
         overlap: The reaction to a time while the saga of the previous time is open.
     """
 
@@ -205,14 +205,14 @@ class Timing:
     every: float
     timezone: str
     catch_up: CatchUp
-    most: int = MAX_MISSED
+    max_missed: int = MAX_MISSED
     overlap: Overlap = Overlap.ALLOW
 
     @property
     def policy(self) -> str:
-        """The stored text of `catch_up`, `most` and `overlap`, without defaults."""
+        """The stored text of `catch_up`, `max_missed` and `overlap`, without defaults."""
         parts = [self.catch_up.value]
-        parts += [f"max={self.most}"] if self.most != MAX_MISSED else []
+        parts += [f"max={self.max_missed}"] if self.max_missed != MAX_MISSED else []
         parts += [f"overlap={self.overlap}"] if self.overlap is not Overlap.ALLOW else []
         return " ".join(parts)
 
@@ -239,44 +239,45 @@ class Timing:
                 "Install tzdata"
             ) from error
 
-    def due(self, next_at: float, now: float, most: int) -> tuple[list[float], float]:
+    def due(self, next_at: float, now: float, max_missed: int) -> tuple[list[float], float]:
         """Return the times whose sagas are due now, and the first time after them.
 
         Args:
             next_at: The first time whose saga was not started.
             now: The present time in seconds since 1970.
-            most: Maximum number of times. With `CatchUp.ALL`, more times may be due after them.
+            max_missed: Maximum number of times. With `CatchUp.ALL`, more times may be due after
+                them.
         """
         if self.catch_up is not CatchUp.ALL:
             last = self._last(next_at, now)
             is_missed = self.catch_up is CatchUp.SKIP and now - last > LATE
             return [] if is_missed else [last], self.next_after(last)
         times, at = list[float](), self.first_of(next_at, now)
-        while at <= now and len(times) < most:
+        while at <= now and len(times) < max_missed:
             times.append(at)
             at = self.next_after(at)
         return times, at
 
     def first_of(self, next_at: float, now: float) -> float:
-        """Return the first of the last `self.most` times, or `next_at` if it is later.
+        """Return the first of the last `self.max_missed` times, or `next_at` if it is later.
 
         It does not list all times since `next_at`, which may be millions.
         """
         if self.every:
-            return max(next_at, (self._passed(now) - self.most + 1) * self.every)
-        span = self.most * APART
+            return max(next_at, (self._passed(now) - self.max_missed + 1) * self.every)
+        span = self.max_missed * APART
         while (start := now - span) > next_at:
             times, at = list[float](), self.next_after(start)
             while at <= now:
                 times.append(at)
                 at = self.next_after(at)
-            if len(times) >= self.most:
-                return times[-self.most]
+            if len(times) >= self.max_missed:
+                return times[-self.max_missed]
             span *= 4
         return next_at
 
     def missed(self, next_at: float, now: float) -> int:
-        """Return the number of times from `next_at` until now, at most `self.most`."""
+        """Return the number of times from `next_at` until now, at most `self.max_missed`."""
         count, at = 0, self.first_of(next_at, now)
         while at <= now:
             count, at = count + 1, self.next_after(at)
@@ -306,11 +307,13 @@ class Timing:
 
 
 def policy_of(stored: str) -> tuple[CatchUp, int, Overlap]:
-    """Return `catch_up`, `most` and `overlap` from the text of `Timing.policy`."""
+    """Return `catch_up`, `max_missed` and `overlap` from the text of `Timing.policy`."""
     catch_up, *parts = stored.split(" ")
     options = dict(part.split("=") for part in parts)
-    most, overlap = int(options.get("max", MAX_MISSED)), Overlap(options.get("overlap", "allow"))
-    return CatchUp(catch_up), most, overlap
+    max_missed, overlap = int(options.get("max", MAX_MISSED)), Overlap(
+        options.get("overlap", "allow")
+    )
+    return CatchUp(catch_up), max_missed, overlap
 
 
 def timing(
@@ -318,7 +321,7 @@ def timing(
     every: Any,
     timezone: Any,
     catch_up: Any,
-    most: Any = MAX_MISSED,
+    max_missed: Any = MAX_MISSED,
     overlap: Any = Overlap.ALLOW,
 ) -> Timing:
     """Return the timing for the arguments of `Store.schedule`, which it checks.
@@ -343,8 +346,12 @@ def timing(
     except ValueError:
         names = ", ".join(Overlap)
         raise InvalidSchedule(f"overlap={shown(overlap)}: must be one of {names}") from None
-    if not isinstance(most, int) or isinstance(most, bool) or not 1 <= most <= 10_000:
-        raise InvalidSchedule(f"max={shown(most)}: must be an integer from 1 to 10,000")
+    if (
+        not isinstance(max_missed, int)
+        or isinstance(max_missed, bool)
+        or not 1 <= max_missed <= 10_000
+    ):
+        raise InvalidSchedule(f"max={shown(max_missed)}: must be an integer from 1 to 10,000")
     try:
         ZoneInfo(timezone)
     except (ZoneInfoNotFoundError, ValueError, TypeError, OSError) as error:
@@ -358,7 +365,7 @@ def timing(
         except (ValueError, AttributeError, TypeError) as error:
             raise InvalidSchedule(f"cron={shown(cron)}: {error}") from error
     interval = float(seconds or 0)
-    checked = Timing(cron or "", interval, timezone, catch_up_policy, most, overlap_policy)
+    checked = Timing(cron or "", interval, timezone, catch_up_policy, max_missed, overlap_policy)
     checked.next_after(0.0)
     return checked
 

@@ -1,22 +1,28 @@
-"""Checks of JSON values against type hints, and the mismatches that they find.
-
-A check compares a JSON value with a type hint, field by field. It is stricter than the decoder of
-the hint (`decoders.py`): a dataclass accepts a text for a number, and a check does not.
-"""
+"""Mismatches of JSON values and their types, and the differences of two JSON values."""
 
 from __future__ import annotations
 
 import dataclasses
-import inspect
 import json
-import types
-import typing
-from collections.abc import Callable, Iterator, Sequence
+import sys
+from collections.abc import Collection, Iterator
 from typing import Any
 
 MAX_UNKNOWN = 80
 MAX_LISTED = 5
-MAX_DEEP = 64
+MIN_LENGTH = 3
+"""The least number of words of a message that is cut."""
+REJECTED = "a validator of the model rejects it"
+MAY_SHOW_VALUE = {
+    "discriminator_value",
+    "error",
+    "error_message",
+    "path",
+    "reason",
+    "tag",
+    "value",
+}
+"""Parts of a message of pydantic that may be the value."""
 
 
 class Mismatch(TypeError):
@@ -57,19 +63,26 @@ def mismatch_of(error: Exception, at: str = "") -> Mismatch:
     return mismatch.within(at)
 
 
-def _of_model(error: Exception) -> Iterator[Mismatch]:
-    """Yield the errors of a pydantic model.
+NAMES: dict[Any, str] = {
+    str: "a text",
+    int: "an integer",
+    float: "a number",
+    bool: "true or false",
+    type(None): "null",
+    dict: "an object",
+    list: "a list",
+}
+"""The types of JSON, as messages name them."""
 
-    Messages of the model's own validators are left out, because they may contain the value.
-    """
-    errors = getattr(error, "errors", None)
-    for entry in errors() if callable(errors) else ():
-        path = "".join(
-            f"[{key}]" if isinstance(key, int) else part_path(key) for key in entry["loc"]
-        )
-        name = str(entry["type"])
-        is_of_model = name.endswith("_error") or name.startswith("value_error")
-        yield Mismatch(f": {entry['type'] if is_of_model else entry['msg']}", path)
+
+def type_name(value: Any) -> str:
+    """Return the name of a value's JSON type, for a message."""
+    return NAMES.get(type(value), type(value).__name__)
+
+
+def wrong_type(expected: str, value: Any) -> Mismatch:
+    """Return the mismatch of a value whose JSON type is not the expected one."""
+    return Mismatch(f": must be {expected}, not {type_name(value)}")
 
 
 def lacking_fields(value: dict[str, Any], hint: Any) -> Mismatch | None:
@@ -79,14 +92,77 @@ def lacking_fields(value: dict[str, Any], hint: Any) -> Mismatch | None:
     required = [
         field.name for field in fields if field.default is none and field.default_factory is none
     ]
+    return missing_names(value, hint.__name__, required, {field.name for field in fields})
+
+
+def missing_names(
+    value: dict[str, Any], kind: str, required: Collection[str], names: Collection[str]
+) -> Mismatch | None:
+    """Return the mismatch for missing names of an object, or None.
+
+    Args:
+        value: The object.
+        kind: The name of its type.
+        required: The names that the type requires.
+        names: All names that the type has.
+    """
     missing = [repr(name) for name in required if name not in value]
     if not missing:
         return None
-    names = {field.name for field in fields}
     unknown = ", ".join(repr(name) for name in value if name not in names)
     shown = f"{unknown[:MAX_UNKNOWN]}{'...' if unknown[MAX_UNKNOWN:] else ''}"
-    more = f"; it has {shown}, which {hint.__name__} does not" if unknown else ""
-    return Mismatch(f": missing {' and '.join(missing)}, which {hint.__name__} requires{more}")
+    more = f"; it has {shown}, which {kind} does not" if unknown else ""
+    return Mismatch(f": missing {' and '.join(missing)}, which {kind} requires{more}")
+
+
+# -- errors of pydantic
+
+
+def _of_model(error: Exception) -> Iterator[Mismatch]:
+    """Yield the errors of a pydantic model, in the words of pydantic.
+
+    Messages of the model's own validators are left out, because they may contain the value.
+    """
+    errors = getattr(error, "errors", None)
+    entries = errors() if callable(errors) else ()
+    own_types = _types_of_pydantic(error) if entries else ()
+    for entry in entries:
+        path = "".join(
+            f"[{key}]" if isinstance(key, int) else part_path(key) for key in entry["loc"]
+        )
+        text = _message(entry) if entry["type"] in own_types else REJECTED
+        yield Mismatch(f": {text}", path)
+
+
+def _message(entry: Any) -> str:
+    """Return the message of an error, up to the first part that may be the value."""
+    message: str = entry["msg"]
+    parts = [str(part) for name, part in entry.get("ctx", {}).items() if name in MAY_SHOW_VALUE]
+    if not parts:
+        return message
+    head = min((message.partition(part)[0] for part in parts), key=len).rstrip(" ,;:('\"")
+    return head if len(head.split()) >= MIN_LENGTH else REJECTED
+
+
+def _types_of_pydantic(error: Exception) -> Collection[str]:
+    """Return the types of errors that pydantic itself raises, with messages of its own."""
+    module = type(error).__module__
+    if module.startswith("pydantic_core"):
+        core: Any = sys.modules["pydantic_core"]
+        types = {entry["type"] for entry in core.list_all_errors()}
+        return types - {"value_error", "assertion_error"}
+    errors = sys.modules.get(module.replace("error_wrappers", "errors"))
+    if errors is None:  # a class of the same form, of another package
+        return ()
+    return {
+        f"{'type_error' if issubclass(kind, TypeError) else 'value_error'}."
+        + (getattr(kind, "code", None) or kind.__name__.replace("Error", "").lower())
+        for kind in vars(errors).values()
+        if isinstance(kind, type) and issubclass(kind, (TypeError, ValueError))
+    }
+
+
+# -- two values
 
 
 def joined_paths(paths: list[str]) -> str:
@@ -111,202 +187,3 @@ def differences(first: Any, second: Any, at: str = "") -> Iterator[str]:
             yield f"{at}[{min(len(first), len(second))}]"
     elif type(first) is not type(second) or first != second:
         yield at
-
-
-# -- checks
-
-
-Check = Callable[[Any], None]
-"""Raises `Mismatch`."""
-NAMES: dict[Any, str] = {
-    str: "a text",
-    int: "an integer",
-    float: "a number",
-    bool: "true or false",
-    type(None): "null",
-    dict: "an object",
-    list: "a list",
-}
-LISTS = (list, tuple, set, frozenset)
-
-
-def check(hint: Any) -> Check | None:
-    """Return the check of a type hint, or None if every value passes."""
-    hint = bare(hint)
-    origin, arguments = typing.get_origin(hint), typing.get_args(hint)
-    if hint in NAMES:
-        return _plain(hint)
-    if origin is typing.Literal:
-        return _literal(arguments)
-    if origin in (typing.Union, types.UnionType):
-        return _union([check(argument) for argument in arguments])
-    if origin in LISTS:
-        return _items(origin, arguments)
-    if origin is dict:
-        return _entries(check(arguments[1]))
-    if dataclasses.is_dataclass(origin or hint):
-        return _fields(origin or hint, hint)
-    return None  # an enum or a time, for example: their decoders check the value
-
-
-def bare(hint: Any) -> Any:
-    """Return a hint without annotations and new names; for `List` the class `list`."""
-    while True:
-        if typing.get_origin(hint) is typing.Annotated:
-            hint = typing.get_args(hint)[0]
-        elif isinstance(hint, typing.NewType):
-            hint = hint.__supertype__
-        elif hint is None:
-            return type(None)
-        elif _is_alias(hint):
-            return typing.get_origin(hint)
-        else:
-            return hint
-
-
-def _is_alias(hint: Any) -> bool:
-    """Return whether a hint is a bare name of `typing`: `List`, not `List[int]`."""
-    is_complete = typing.get_args(hint) or isinstance(hint, (type, types.GenericAlias))
-    return typing.get_origin(hint) is not None and not is_complete and hint != typing.Tuple[()]
-
-
-def _plain(hint: Any) -> Check:
-    def check_value(value: Any) -> None:
-        accepted = (int, float) if hint is float else hint
-        if not isinstance(value, accepted) or (isinstance(value, bool) and hint is not bool):
-            raise Mismatch(f": must be {NAMES[hint]}, not {type_name(value)}")
-
-    return check_value
-
-
-def type_name(value: Any) -> str:
-    """Return the name of a value's JSON type, for a message."""
-    return NAMES.get(type(value), type(value).__name__)
-
-
-def _literal(options: Sequence[Any]) -> Check:
-    def check_value(value: Any) -> None:
-        if not any(type(value) is type(option) and value == option for option in options):
-            raise Mismatch(f": must be one of {', '.join(map(repr, options))}")
-
-    return check_value
-
-
-def _union(parts: Sequence[Check | None]) -> Check | None:
-    checks = [part for part in parts if part is not None]
-    if len(checks) < len(parts):  # the decoders of the others decide
-        return None
-
-    def check_value(value: Any) -> None:
-        errors = []
-        for part in checks:
-            try:
-                return part(value)
-            except Mismatch as error:
-                errors.append(error)
-        deepest = max(errors, key=lambda error: len(error.path))
-        raise deepest if deepest.path else Mismatch(": matches none of its types")
-
-    return check_value
-
-
-def _items(origin: Any, hints: Sequence[Any]) -> Check:
-    is_each = origin is not tuple or (len(hints) == 2 and hints[1] is Ellipsis)
-    parts = [check(hint) for hint in (hints[:1] if is_each else hints)]
-
-    def check_value(value: Any) -> None:
-        if not isinstance(value, list):
-            raise Mismatch(f": must be a list, not {type_name(value)}")
-        if not is_each and len(value) != len(parts):
-            raise Mismatch(f": must be a list of {len(parts)}, not of {len(value)}")
-        for index, item in enumerate(value):
-            _check_part(parts[0 if is_each else index], item, f"[{index}]")
-
-    return check_value
-
-
-def _check_part(part: Check | None, value: Any, at: str) -> None:
-    if part is not None:
-        try:
-            part(value)
-        except Mismatch as error:
-            raise error.within(at) from None
-
-
-def _entries(part: Check | None) -> Check:
-    def check_value(value: Any) -> None:
-        if not isinstance(value, dict):
-            raise Mismatch(f": must be an object, not {type_name(value)}")
-        for key, item in value.items():
-            _check_part(part, item, part_path(key))
-
-    return check_value
-
-
-def _fields(hint: Any, whole: Any) -> Check:
-    parts: dict[str, Check | None] = {}
-
-    def check_value(value: Any) -> None:
-        if not isinstance(value, dict):
-            raise Mismatch(f": {hint.__name__} requires an object")
-        if not parts:  # not before the first value, since a class may name itself
-            hints = field_hints(whole)
-            fields = [field for field in dataclasses.fields(hint) if field.init]
-            parts.update({field.name: _field(hints[field.name], field.default) for field in fields})
-        for key, part in parts.items():
-            if key in value:
-                _check_part(part, value[key], part_path(key))
-
-    return check_value
-
-
-def _field(hint: Any, default: Any) -> Check | None:
-    """Return the check of a field, which accepts null if the default is None."""
-    part = check(hint)
-    if default is not None or part is None:
-        return part
-    check_value = part
-    return lambda value: None if value is None else check_value(value)
-
-
-def field_hints(whole: Any) -> dict[str, Any]:
-    """Return the type hints of a dataclass's fields, with type variables filled.
-
-    Args:
-        whole: The class, or a generic class with arguments, for example `Box[Order]`.
-    """
-    kind = typing.get_origin(whole) or whole
-    arguments: dict[type, dict[Any, Any]] = {}
-    _set_variables(whole, arguments)
-    return {
-        name: _filled(
-            hint, next((arguments.get(base, {}) for base in kind.__mro__ if _has(base, name)), {})
-        )
-        for name, hint in typing.get_type_hints(kind).items()
-    }
-
-
-def _has(kind: type, name: str) -> bool:
-    return name in inspect.get_annotations(kind)
-
-
-def _set_variables(whole: Any, arguments: dict[type, dict[Any, Any]]) -> None:
-    """Add the arguments of a class's type variables, and of those of its base classes."""
-    kind = typing.get_origin(whole) or whole
-    if kind in arguments:
-        return
-    arguments[kind] = dict(zip(getattr(kind, "__parameters__", ()), typing.get_args(whole)))
-    for base in kind.__dict__.get("__orig_bases__", kind.__bases__):
-        if typing.get_origin(base) not in (typing.Generic, typing.Protocol):
-            _set_variables(_filled(base, arguments[kind]), arguments)
-
-
-def _filled(hint: Any, arguments: dict[Any, Any]) -> Any:
-    if isinstance(hint, typing.TypeVar):
-        return arguments.get(hint, Any)
-    variables = getattr(hint, "__parameters__", ()) if typing.get_origin(hint) else ()
-    if not all(isinstance(variable, typing.TypeVar) for variable in variables):
-        return Any  # a variable for many types
-    if not variables or not arguments:
-        return hint
-    return hint[tuple(arguments.get(variable, Any) for variable in variables)]

@@ -8,23 +8,25 @@ from __future__ import annotations
 
 import dataclasses
 import hashlib
-import inspect
 import json
-from collections.abc import Callable, Collection, Iterable, Mapping, Sequence
+import re
+from collections.abc import Callable, Collection, Iterable, Iterator, Mapping, Sequence
 from typing import Any
 
 from sagas.base.errors import DefinitionError
-from sagas.definition import children, decoders, definition_text
+from sagas.definition import child_sagas, decoders, definition_text, validation
 from sagas.definition.call_options import Cost, CostOf, NEVER
-from sagas.definition.definition_text import Compensation, MAX_NAME, undo_name_of
+from sagas.definition.definition_text import Compensation, ListedStep, MAX_NAME, undo_name_of
+from sagas.definition.parts import SagaParts
 from sagas.definition.saga import Saga
 from sagas.definition.serialization import Decoder
-from sagas.definition.step import Step, is_compensated, saga_error, step_error
-from sagas.definition.task import RemoteStepLocation, Task
+from sagas.definition.step import Step, StepName, is_compensated, saga_error, step_error
+from sagas.definition.step_location import RemoteStepLocation
+from sagas.definition.task import Task, calling
 from sagas.definition.task_data import TaskSnapshot
 
 
-def undo_saga(child: Saga) -> Saga | None:
+def undo_saga(child: SagaParts) -> Saga[Any] | None:
     """Return the saga that undoes a completed child, by its present definition.
 
     Its steps are the compensations of the steps that can be undone. The compensation of a step
@@ -37,6 +39,8 @@ def undo_saga(child: Saga) -> Saga | None:
     Raises:
         DefinitionError: Workers of a queue call a compensation: they do not know this saga.
     """
+    if child.starts_for is not None:
+        return None  # it depends on the number of items
     if child.is_shaped:
         raise saga_error(
             child,
@@ -44,7 +48,9 @@ def undo_saga(child: Saga) -> Saga | None:
             "starts it a compensation of its own, or undo=sagas.NEVER",
         )
     declared = declared_steps(child)
-    steps = children.planned_compensations(definition_text.listed_steps(child.toml()), declared)
+    steps = child_sagas.planned_compensations(
+        definition_text.listed_steps(validation.checked_text(child)), declared
+    )
     for step in (declared[compensation.name] for compensation in steps):
         if step.undo.queue:
             raise DefinitionError(
@@ -55,17 +61,36 @@ def undo_saga(child: Saga) -> Saga | None:
     return _made(child, steps, text_of(child, steps)) if steps else None
 
 
-def text_of(child: Saga, steps: Iterable[Compensation]) -> str:
+def text_of(child: SagaParts, steps: Iterable[Compensation]) -> str:
     """Return the definition of the saga that undoes a child with these steps."""
     return definition_text.write_undo_definition(child.name, child.version, steps)
 
 
-def declared_steps(child: Saga | None) -> dict[str, Step[Any]]:
-    """Return the steps of a saga as this program declares them, by name."""
-    return {step.name: step for step in child.steps} if child else {}
+def declared_steps(child: SagaParts | None, names: Iterable[str] = ()) -> dict[str, Step[Any]]:
+    """Return the steps of a saga as this program declares them, by name.
+
+    Args:
+        child: The saga.
+        names: The names of its steps, which count if it starts children for items.
+    """
+    if child is None:
+        return {}
+    if child.starts_for is None:
+        return {step.name: step for step in child.steps}
+    (step,) = child.steps
+    item = re.compile(rf"{re.escape(step.name)}-\d+")
+    return {name: step for name in names if item.fullmatch(name)}
 
 
-def undo_text_of_child(child: Saga, text: str) -> str | None:
+def listed_and_declared(
+    child: SagaParts | None, text: str
+) -> tuple[Sequence[ListedStep], dict[str, Step[Any]]]:
+    """Return the steps of a stored definition, and those of them that this program declares."""
+    listed = definition_text.listed_steps(text)
+    return listed, declared_steps(child, [step.name for step in listed])
+
+
+def undo_text_of_child(child: SagaParts, text: str) -> str | None:
     """Return the definition of the saga that undoes a child of an earlier definition.
 
     Args:
@@ -75,13 +100,11 @@ def undo_text_of_child(child: Saga, text: str) -> str | None:
     Returns:
         None if it has no compensation to call.
     """
-    steps = children.planned_compensations(
-        definition_text.listed_steps(text), declared_steps(child)
-    )
+    steps = child_sagas.planned_compensations(*listed_and_declared(child, text))
     return text_of(child, steps) if steps else None
 
 
-def undo_saga_of_text(child: Saga, text: str) -> Saga:
+def undo_saga_of_text(child: SagaParts, text: str) -> Saga[Any]:
     """Return the saga of a stored definition, with the compensations of this program.
 
     Args:
@@ -91,22 +114,29 @@ def undo_saga_of_text(child: Saga, text: str) -> Saga:
     return _made(child, definition_text.read_compensations(text), text)
 
 
-def lacks(child: Saga | None, text: str) -> str | None:
+def lacks(child: SagaParts | None, text: str) -> str | None:
     """Return why this program cannot undo a completed child, or None if it can.
 
+    The arguments are those of `missing_compensations`.
+    """
+    return next((reason for _, reason in missing_compensations(child, text)), None)
+
+
+def missing_compensations(child: SagaParts | None, text: str) -> Iterator[tuple[str | None, str]]:
+    """Yield the steps of a completed child that this program cannot undo, each with the reason.
+
     Args:
-        child: The saga as this program declares it, or None.
+        child: The saga as this program declares it. Without it, the step is None.
         text: The definition that the child ran with.
     """
     if child is None:
-        return "this program did not open the store with that saga"
-    declared = declared_steps(child)
-    for compensation in children.planned_compensations(
-        definition_text.listed_steps(text), declared
-    ):
-        if not can_undo(declared.get(compensation.name)):
-            return f"step {compensation.name!r} has no compensation in this program"
-    return None
+        yield None, "this program did not open the store with that saga"
+        return
+    listed, declared = listed_and_declared(child, text)
+    for compensation in child_sagas.planned_compensations(listed, declared):
+        name = compensation.name
+        if not can_undo(declared.get(name)):
+            yield name, f"step {name!r} has no compensation in this program"
 
 
 def can_undo(step: Step[Any] | None) -> bool:
@@ -116,32 +146,32 @@ def can_undo(step: Step[Any] | None) -> bool:
     return step.starts_child("undo") or is_compensated(step)
 
 
-def _made(child: Saga, steps: Sequence[Compensation], text: str) -> Saga:
+def _made(child: SagaParts, steps: Sequence[Compensation], text: str) -> Saga[Any]:
     """Return the saga, without the steps that this program cannot undo."""
     saga = Saga(definition_text.undo_name_of(child.name), version=child.version)
     saga.where, saga.undoes, saga.undo_text = child.where, child, text
     saga.fair_by = _of_child(child.fair_by)
-    declared, added = declared_steps(child), set[str]()
+    declared, added = declared_steps(child, [step.name for step in steps]), set[str]()
     sees = {compensation.name: compensation.sees for compensation in steps}
     if text and not definition_text.sees_of(text):  # of an older release
-        planned = children.planned_compensations(
-            definition_text.listed_steps(child.toml()), declared
+        planned = child_sagas.planned_compensations(
+            definition_text.listed_steps(validation.checked_text(child)), declared
         )
         sees = {compensation.name: compensation.sees for compensation in planned}
     for compensation in steps:
         name = compensation.name
         step = declared.get(name)
         if step is not None and can_undo(step):
-            needs = [need for need in compensation.needs if need in added]
+            needs = [StepName(need) for need in compensation.needs if need in added]
             _declare(saga, step, needs, compensation, frozenset(sees.get(name, ())))
             added.add(name)
     return saga
 
 
 def _declare(
-    saga: Saga,
+    saga: Saga[Any],
     step: Step[Any],
-    needs: list[str],
+    needs: list[StepName],
     compensation: Compensation,
     sees: frozenset[str],
 ) -> None:
@@ -150,8 +180,8 @@ def _declare(
     if step.child is not None and step.undo.implied:
         saga.child(
             step.child,
-            input=_key_of(step.name),
-            name=step.name,
+            input=_key_of(compensation.name),
+            name=compensation.name,
             needs=needs,
             undo=NEVER,
             skip=skip,
@@ -173,7 +203,7 @@ def _declare(
     undo_step = saga._add(manner.function, step.name, "step", needs, costs, manner, limit)
     undo_step.where = step.where
     if limit is not None:
-        undo_step.concurrency_by = _of_child(step.concurrency_by, children.hints(step)[0])
+        undo_step.concurrency_by = _of_child(step.concurrency_by, child_sagas.hints(step)[0])
 
 
 def _of_child(
@@ -219,8 +249,20 @@ def _undoing(
 # -- of a store
 
 
-def check_started(saga: Saga) -> None:
-    """Raise `DefinitionError` if a saga undoes children: only their parents start it."""
+def check_started(saga: SagaParts) -> None:
+    """Raise `DefinitionError` if only the store starts a saga, because of others."""
+    ended = getattr(saga, "ends", None)
+    if ended is not None:
+        raise DefinitionError(
+            f"saga {saga.name!r} calls on_end of {ended.name!r}, so only the store starts it. "
+            f"Start {ended.name!r}, or a saga of another name"
+        )
+    starter = getattr(saga, "starts_for", None)
+    if starter is not None:
+        raise DefinitionError(
+            f"saga {saga.name!r} starts the children of step {starter.name!r} of saga "
+            f"{starter.saga.name!r}, so only that step starts it. Start {starter.saga.name!r}"
+        )
     child = getattr(saga, "undoes", None)
     if child is not None:
         raise DefinitionError(
@@ -229,15 +271,18 @@ def check_started(saga: Saga) -> None:
         )
 
 
-def with_undo_sagas(sagas: Mapping[tuple[str, int], Saga]) -> dict[tuple[str, int], Saga]:
-    """Return the sagas of a store, with those that undo children.
+def with_undo_sagas(sagas: Mapping[tuple[str, int], Saga[Any]]) -> dict[tuple[str, int], Saga[Any]]:
+    """Return the sagas of a store, with those that start children of items, and undo children.
 
     Raises:
         DefinitionError: A child is missing, or a saga has the name of one that undoes a child.
     """
     complete = dict(sagas)
     for saga in sagas.values():
-        for step, child in children.children_of(saga):
+        for step, child in child_sagas.children_of(saga):
+            if child.starts_for is not None and isinstance(child, Saga):
+                _add_made(complete, child, f"starts the children of step {step.name!r}")
+                child, step = child_sagas.child_of_items(child), child.steps[0]
             if sagas.get((child.name, child.version)) is not child:
                 raise step_error(
                     step,
@@ -250,16 +295,20 @@ def with_undo_sagas(sagas: Mapping[tuple[str, int], Saga]) -> dict[tuple[str, in
     return complete
 
 
-def _add(sagas: dict[tuple[str, int], Saga], child: Saga) -> None:
+def _add(sagas: dict[tuple[str, int], Saga[Any]], child: SagaParts) -> None:
     """Add the saga that undoes a child. Its steps add the child's own children."""
     saga = undo_saga(child)
-    if saga is None:
-        return
+    if saga is not None:
+        _add_made(sagas, saga, f"undoes {child.name!r}")
+
+
+def _add_made(sagas: dict[tuple[str, int], Saga[Any]], saga: Saga[Any], does: str) -> None:
+    """Add a saga that the package made. Raises `DefinitionError` if its name is used."""
     name = (saga.name, saga.version)
-    if name in sagas and sagas[name].where != child.where:
+    if name in sagas and sagas[name].where != saga.where:
         raise DefinitionError(
-            f"{sagas[name].where}: saga {saga.name!r}: the saga that undoes {child.name!r} has "
-            "this name. Set another name"
+            f"{sagas[name].where}: saga {saga.name!r}: the saga that {does} has this name. Set "
+            "another name"
         )
     sagas[name] = saga
 
@@ -285,7 +334,7 @@ def is_reported(step: Step[Any]) -> bool:
     return step.kind == "approval" or step.run.external
 
 
-def undo_step_name(saga: Saga, step: Step[Any]) -> str:
+def undo_step_name(saga: SagaParts, step: Step[Any]) -> str:
     """Return the name of the step that calls the compensation.
 
     It is the name of the declared step. If an included saga declares it, the name of the included
@@ -300,7 +349,7 @@ def undo_step_name(saga: Saga, step: Step[Any]) -> str:
     return f"{name[: MAX_NAME - 7]}-{digest}"
 
 
-def report_undo_saga(saga: Saga, step: Step[Any]) -> Saga:
+def report_undo_saga(saga: SagaParts, step: Step[Any]) -> Saga[Any]:
     """Return the saga that calls the compensation of a step, which `fault` allows.
 
     If the compensation fails permanently, this saga is stuck, so that an operator sees the effect
@@ -319,12 +368,12 @@ def report_undo_saga(saga: Saga, step: Step[Any]) -> Saga:
     return undo_saga
 
 
-def declared_path(saga: Saga, step: Step[Any], prefix: str = "") -> str | None:
+def declared_path(saga: SagaParts, step: Step[Any], prefix: str = "") -> str | None:
     """Return the declared name of a step in a saga, with the inclusions: `hotel/room`."""
     for part in saga.parts:
         if part is step:
             return f"{prefix}{step.name}"
-        inner: Saga | None = getattr(part, "inner", None)
+        inner: SagaParts | None = getattr(part, "inner", None)
         path = declared_path(inner, step, f"{prefix}{part.name}/") if inner is not None else None
         if path is not None:
             return path
@@ -352,7 +401,7 @@ def undo_data(undo_input: Mapping[str, Any], declared: Step[Any], attempt: int) 
     )
 
 
-def report_task(task: Task[Any], saga: Saga | None) -> Task[Any]:
+def report_task(task: Task[Any], saga: SagaParts | None) -> Task[Any]:
     """Return the task for a worker: in a saga that undoes a report, of the undo."""
     if saga is None or saga.undoes_step is None:
         return task
@@ -376,7 +425,7 @@ def _undoing_report(function: Callable[[Any], Any], step: Step[Any]) -> Callable
                 traceparent=data.traceparent,
             )
         )
-        undo_task.enter_by(lambda: task.connection)
+        undo_task._enter_by(lambda: task.connection)
         return undo_task
 
     return calling(function, task_of)
@@ -423,7 +472,7 @@ def compensation_task(
             traceparent=data.traceparent,
         )
     )
-    compensation.enter_by(lambda: task.connection)
+    compensation._enter_by(lambda: task.connection)
     return compensation
 
 
@@ -434,32 +483,10 @@ def compensation_hints(
 
     A value without a type hint has no decoder, and is read as JSON.
     """
-    input_decoder, _ = decoders.hints(function)
+    input_decoder = decoders.input_decoder(function)
     result_decoders: dict[str, Decoder] = {}
     for sibling in step.saga.steps:
-        _, result_decoder = children.hints(sibling)
+        _, result_decoder = child_sagas.hints(sibling)
         if result_decoder is not None:
             result_decoders[sibling.name] = result_decoder
     return input_decoder, result_decoders
-
-
-def calling(
-    function: Callable[[Any], Any], task_of: Callable[[Task[Any]], Task[Any]]
-) -> Callable[[Any], Any]:
-    """Return a step's function that calls a compensation.
-
-    Args:
-        function: The compensation, plain or async.
-        task_of: Returns the task of the compensation, given that of the step.
-    """
-    if inspect.iscoroutinefunction(function):
-
-        async def undo_later(task: Any) -> Any:
-            return await function(task_of(task))
-
-        return undo_later
-
-    def undo(task: Any) -> Any:
-        return function(task_of(task))
-
-    return undo

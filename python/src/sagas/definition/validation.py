@@ -2,17 +2,38 @@
 
 from __future__ import annotations
 
+import datetime
 import inspect
 import re
 from collections.abc import Iterable, Iterator, Sequence
-from typing import Any, TYPE_CHECKING
+from typing import Any
 
 from sagas.base.errors import DefinitionError
-from sagas.definition import arguments, children, decoders, definition_text
+from sagas.definition import (
+    arguments,
+    child_sagas,
+    code_reads,
+    declaration,
+    definition_text,
+    pivot,
+    shape,
+    type_hints,
+)
 from sagas.definition.arguments import is_count, meant
-from sagas.definition.call_options import Bounds, MAX_COST, NEVER, is_cost
+from sagas.definition.call_options import (
+    Bounds,
+    MAX_COST,
+    Manner,
+    NEVER,
+    SagaOptions,
+    check_names,
+    is_cost,
+    option_faults,
+    seconds,
+)
 from sagas.definition.definition_text import MAX_NAME
 from sagas.definition.layout import JOIN_ENDING
+from sagas.definition.parts import SagaParts, patterns
 from sagas.definition.step import (
     Collection,
     Decorator,
@@ -22,25 +43,27 @@ from sagas.definition.step import (
     MAX_STEPS,
     Part,
     Step,
+    StepName,
     check_manner,
+    is_compensated,
     is_each,
     location_of,
     need_name,
-    patterns,
     saga_error,
     step_error,
 )
 
-if TYPE_CHECKING:
-    from sagas.definition.saga import Saga
-
 NAME = re.compile(r"[a-z][a-z0-9_-]{0,31}\Z")
 NAMES = "invalid name: use 1 to 32 characters a-z, 0-9, _ or -, starting with a letter"
+OPTIONAL_UNDO = (
+    "it is optional, and cannot be undone. If it fails, plans would leave all that it needs in "
+    "place. Remove undo=sagas.NEVER: then it has nothing to undo"
+)
 MAX_LISTED = 8  # steps
-MAX_PLACES, MAX_SECONDS = 10_000, 31 * 86400
+MAX_BOUND, MAX_SECONDS = 10_000, 31 * 86400
 
 
-def check_name(saga: Saga) -> None:
+def check_name(saga: SagaParts) -> None:
     """Raise `DefinitionError` if the name, version or deadline is not valid."""
     if not isinstance(saga.name, str) or not NAME.match(saga.name):
         raise saga_error(saga, NAMES)
@@ -53,6 +76,39 @@ def check_name(saga: Saga) -> None:
             raise saga_error(saga, str(error)) from None
 
 
+def check_order(saga: SagaParts) -> None:
+    """Raise `DefinitionError` if the order of a saga is not valid."""
+    if saga.order not in ("needs", "declared"):
+        raise saga_error(saga, f"order={saga.order!r}: must be needs or declared")
+
+
+def check_endings(step: Step[Any]) -> None:
+    """Raise `DefinitionError` if `optional` or `pivot` of a step is not valid."""
+    for word, value in (("optional", step.is_optional), ("pivot", step.is_pivot)):
+        if not isinstance(value, bool):
+            raise step_error(step, f"{word}={value!r}: must be True or False")
+    pivot.check_pivot(step)
+    if step.is_optional and step.declared_cost("skip") is NEVER:
+        raise step_error(
+            step, "skip=sagas.NEVER says that it is mandatory, so it cannot be optional. Remove one"
+        )
+    if step.is_optional and step.declared_cost("undo") is NEVER:
+        raise step_error(step, OPTIONAL_UNDO)
+
+
+def check_defaults(saga: SagaParts) -> None:
+    """Raise `DefinitionError` if an option for all steps of a saga is not valid.
+
+    Raises `TypeError` if an option does not exist.
+    """
+    check_names("Saga", saga.defaults, SagaOptions.__annotations__)
+    values: dict[str, Any] = {**saga.defaults}
+    if isinstance(values.get("timeout"), datetime.timedelta):
+        values["timeout"] = seconds(values["timeout"])
+    for text in option_faults(Manner(**values), "steps"):
+        raise saga_error(saga, text.replace(" of its steps: ", ": ", 1))
+
+
 def check_step(step: Step[Any]) -> None:
     """Raise `DefinitionError` for errors that the declaration of a single step shows."""
     check_part_name(step)
@@ -61,6 +117,7 @@ def check_step(step: Step[Any]) -> None:
     if step.concurrency is not None and (not is_count(step.concurrency) or step.concurrency < 1):
         raise step_error(step, f"concurrency={step.concurrency!r}: must be an integer >= 1")
     check_needs(step)
+    check_endings(step)
     check_manner(step, step.run, "function", step.where)
 
 
@@ -81,18 +138,18 @@ def check_part_name(part: Part) -> None:
         raise step_error(part, "another step has this name. Set another name=")
 
 
-def check_key(function: object, where: str) -> None:
+def check_key(function: object, beginning: str) -> None:
     """Raise `DefinitionError` if the function that returns a key is not a plain one.
 
     Args:
         function: The function, or None.
-        where: The beginning of the message, which ends with the argument's name.
+        beginning: The beginning of the message, which ends with the argument's name.
     """
     if function is None:
         return
     if not callable(function) or inspect.iscoroutinefunction(function):
         rule = "must be a plain function of the input: lambda input: input['account']"
-        raise DefinitionError(f"{where}={function!r}: {rule}")
+        raise DefinitionError(f"{beginning}={function!r}: {rule}")
 
 
 def check_concurrency_by(step: Step[Any]) -> None:
@@ -124,12 +181,12 @@ def check_bounds(step: Step[Any], bounds: Bounds) -> None:
             "and rate_limit, and limit the calls in the worker",
         )
     if bounds.concurrency is not None and (
-        not is_count(bounds.concurrency) or not 1 <= bounds.concurrency <= MAX_PLACES
+        not is_count(bounds.concurrency) or not 1 <= bounds.concurrency <= MAX_BOUND
     ):
         raise step_error(
             step,
             f"fleet_concurrency={bounds.concurrency!r}: must be an integer from 1 to "
-            f"{MAX_PLACES:,}",
+            f"{MAX_BOUND:,}",
         )
     if bounds.rate_limit is None:
         return
@@ -137,7 +194,7 @@ def check_bounds(step: Step[Any], bounds: Bounds) -> None:
         isinstance(bounds.rate_limit, tuple)
         and len(bounds.rate_limit) == 2
         and is_count(bounds.rate_limit[0])
-        and 1 <= bounds.rate_limit[0] <= MAX_PLACES
+        and 1 <= bounds.rate_limit[0] <= MAX_BOUND
     )
     if (
         not has_calls
@@ -147,7 +204,7 @@ def check_bounds(step: Step[Any], bounds: Bounds) -> None:
         raise step_error(
             step,
             f"rate_limit={bounds.rate_limit!r}: must be (calls, seconds or a timedelta), "
-            f"with 1 to {MAX_PLACES:,} calls in at most {MAX_SECONDS:,} seconds",
+            f"with 1 to {MAX_BOUND:,} calls in at most {MAX_SECONDS:,} seconds",
         )
 
 
@@ -167,16 +224,19 @@ def check_needs(step: Part) -> None:
                 f"needs {need.name!r} of saga {need.saga.name!r}. A step can need only steps "
                 "of its own saga",
             )
-        if not isinstance(need, (Step, Each, Inclusion, Collection, str)):
+        if isinstance(need, str) and not isinstance(need, StepName):
+            remedy = f"Pass the step itself: needs=[{need if need.isidentifier() else '...'}]"
+            raise step_error(step, f"needs {need!r}, which is a text. {remedy}")
+        if not isinstance(need, (Step, Each, Inclusion, Collection, StepName)):
             remedy = f". Declare it with @{step.saga.name}.step" if inspect.isfunction(need) else ""
-            raise step_error(step, f"needs {need!r}, which is not a step or a step's name{remedy}")
-        name = need if isinstance(need, str) else need.name
+            raise step_error(step, f"needs {need!r}, which is not a step{remedy}")
+        name = need_name(need)
         if name in seen:
             raise step_error(step, f"needs {name!r} twice. Remove one of them")
         seen.add(name)
 
 
-def listed_needs(needs: object, saga: Saga, step: str, where: str) -> tuple[Any, ...]:
+def listed_needs(needs: object, saga: SagaParts, step: str, location: str) -> tuple[Any, ...]:
     """Return the argument `needs` as a tuple.
 
     Raises:
@@ -184,13 +244,13 @@ def listed_needs(needs: object, saga: Saga, step: str, where: str) -> tuple[Any,
     """
     if isinstance(needs, str) or not isinstance(needs, Iterable):
         raise DefinitionError(
-            f"{where}: saga {saga.name!r}, step {step!r}: needs={needs!r}: must be a "
+            f"{location}: saga {saga.name!r}, step {step!r}: needs={needs!r}: must be a "
             "list: needs=[...]"
         )
     return tuple(needs)
 
 
-def check_saga(saga: Saga) -> None:
+def check_saga(saga: SagaParts) -> None:
     """Raise `DefinitionError` for errors that only the complete declaration shows."""
     if saga.is_shaped:
         check_shaped(saga)
@@ -220,14 +280,38 @@ def check_saga(saga: Saga) -> None:
                 raise step_error(step, f"needs unknown step {need!r}{meant(need, names)}")
         check_compensation(step)
     check_cycles(saga.steps)
+    pivot.check_saga(saga)
+
+
+def checked_text(saga: SagaParts) -> str:
+    """Return the definition of a saga whose steps do not come from its input.
+
+    Raises:
+        DefinitionError: As `check_saga`.
+    """
+    check_saga(saga)
+    return shape.fixed_text(saga)
 
 
 def check_compensation(step: Step[Any]) -> None:
     """Raise `DefinitionError` if a compensation that options need is missing."""
     undo = step._costs["undo"]
+    is_child = step.is_optional and step.child is not None and step.undo.implied
+    if is_child and step.own_cost("undo") is NEVER:
+        raise step_error(
+            step,
+            "it is optional, and its child saga cannot be undone. If it fails, plans would leave "
+            "all that it needs in place. Set undo= to a number, or declare a compensation",
+        )
     if undo is not None and undo is not NEVER and not step.has_compensation:
-        remedy = f"Declare @{step.name}.compensation, or set undo=0 if there is nothing to undo"
-        raise step_error(step, f"undo={undo!r}, but it has no compensation. {remedy}")
+        raise step_error(
+            step,
+            f"undo={undo!r}, but it has no compensation. Declare @{step.name}.compensation, or set "
+            "undo=sagas.NOTHING if there is nothing to undo",
+        )
+    if step.has_nothing and step.child is not None:
+        remedy = "A child is undone by its own compensations. Remove the option, or set NEVER"
+        raise step_error(step, f"undo=NOTHING of a child. {remedy}")
     if step.early_unused == "compensate" and (not step.has_compensation or step.undo.queue):
         rule = "needs a compensation that no queue calls"
         raise step_error(
@@ -282,6 +366,7 @@ def check_part(part: Part) -> None:
     _check_function(part, "when", part.when)
     if part.for_each is not None and not isinstance(part.for_each, str):
         _check_function(part, "for_each", part.for_each)
+    _check_items(part, part.saga.input_type)
     maximum = MAX_NAME - len(MANY if part.for_each is not None else "")
     if part.for_each is not None and len(part.name) > maximum:
         raise step_error(
@@ -289,6 +374,13 @@ def check_part(part: Part) -> None:
             f"its name has {len(part.name)} characters, and with for_each it may have at most "
             f"{maximum}, because the number of the item follows it. Set another name=",
         )
+
+
+def _check_items(part: Part, hint: Any) -> None:
+    """Raise `DefinitionError` if `for_each` names what the type of the input does not have."""
+    if isinstance(part.for_each, str) and hint is not None:
+        if fault := type_hints.items_fault(hint, part.for_each):
+            raise step_error(part, f"for_each={part.for_each!r}: {fault}")
 
 
 def _check_function(part: Part, word: str, function: object) -> None:
@@ -318,8 +410,8 @@ def check_costs(step: Step[Any]) -> None:
             continue
         raise step_error(
             step,
-            f"{word}={cost!r}: must be an integer from 0 to {MAX_COST:,}, sagas.NEVER, or a "
-            "plain function of the input (with for_each: of the item) that returns one",
+            f"{word}={arguments.shown(cost)}: must be an integer from 0 to {MAX_COST:,}, "
+            "sagas.NEVER, or a plain function that returns one",
         )
 
 
@@ -330,7 +422,7 @@ def _is_async(function: object) -> bool:
 # -- of a whole saga
 
 
-def check_shaped(saga: Saga, depth: int = 0) -> None:
+def check_shaped(saga: SagaParts, depth: int = 0) -> None:
     """Raise `DefinitionError` for errors that only the whole declaration shows."""
     if depth > MAX_DEPTH:
         error = f"it includes itself, or nests included sagas more than {MAX_DEPTH} deep"
@@ -342,18 +434,21 @@ def check_shaped(saga: Saga, depth: int = 0) -> None:
         )
     if not saga.parts:
         raise saga_error(saga, f"it has no steps. Declare one, with @{saga.name}.step")
+    hint = declaration.saga_hint(saga)
     for part in saga.parts:
+        _check_items(part, hint)
         _check_shaped_needs(saga, part)
         if hasattr(part, "inner"):
             check_shaped(part.inner, depth + 1)
         else:
             check_compensation(part)
     check_cycles(saga.parts)
+    pivot.check_saga(saga, is_included=depth > 0)
     if depth == 0:
         _check_names(saga)
 
 
-def _check_shaped_needs(saga: Saga, part: Part) -> None:
+def _check_shaped_needs(saga: SagaParts, part: Part) -> None:
     for need in part._needs:
         name = need_name(need)
         other = saga.parts_by_name.get(name)
@@ -368,36 +463,40 @@ def _check_shaped_needs(saga: Saga, part: Part) -> None:
             )
 
 
-def _joining_names(saga: Saga, prefix: str = "", where: str = "") -> Iterator[tuple[str, str]]:
+def _joining_names(
+    saga: SagaParts, prefix: str = "", location: str = ""
+) -> Iterator[tuple[str, str]]:
     """Yield the possible names of joining steps, each with its file and line."""
     for part in saga.parts:
-        outer_where = where or part.where
+        outer_location = location or part.where
         if part.for_each is not None:
-            yield f"{prefix}{part.name}{JOIN_ENDING}", outer_where
+            yield f"{prefix}{part.name}{JOIN_ENDING}", outer_location
         if isinstance(part, Inclusion):
             name = prefix + part.name + ("" if part.for_each is None else "-#")
-            yield from _joining_names(part.inner, f"{name}-", outer_where)
+            yield from _joining_names(part.inner, f"{name}-", outer_location)
 
 
-def _check_names(saga: Saga) -> None:
+def _check_names(saga: SagaParts) -> None:
     """Raise `DefinitionError` if names of steps may be equal or too long."""
-    names = [(pattern.name, pattern.where) for pattern in patterns(saga)] + [*_joining_names(saga)]
-    for name, where in names:
+    names = [(pattern.name, pattern.location) for pattern in patterns(saga)] + [
+        *_joining_names(saga)
+    ]
+    for name, location in names:
         longest = name.replace("-#", MANY)
         if len(longest) > MAX_NAME:
             raise DefinitionError(
-                f"{where}: saga {saga.name!r}: a step would have the name {longest!r}, of "
+                f"{location}: saga {saga.name!r}: a step would have the name {longest!r}, of "
                 f"{len(longest)} characters, and may have at most {MAX_NAME}. Set a shorter name="
             )
     fixed = {name for name, _ in names if "#" not in name}
     seen: set[str] = set()
-    for name, where in names:
+    for name, location in names:
         regex = re.compile(name.replace("#", r"\d+") + r"\Z")
         others = [fixed_name for fixed_name in fixed if "#" in name and regex.match(fixed_name)]
         other = name if name in seen else others[0] if others else None
         if other is not None:
             raise DefinitionError(
-                f"{where}: saga {saga.name!r}: two steps may have the name "
+                f"{location}: saga {saga.name!r}: two steps may have the name "
                 f"{other.replace('#', '0')!r}. Set another name="
             )
         seen.add(name)
@@ -406,27 +505,63 @@ def _check_names(saga: Saga) -> None:
 # -- warnings
 
 
-def warnings_of(saga: Saga) -> list[str]:
+def warnings_of(saga: SagaParts) -> list[str]:
     """Return the warnings about a saga, each with the file and the line."""
     check_saga(saga)
+    if saga.starts_for is not None:
+        return []
     if saga.is_shaped:  # the other warnings depend on the input
-        return [*_unread(saga), *_short(saga), *_left_out(saga), *_undoing_nothing(saga)]
+        return [
+            *_unneeded(saga),
+            *_unread(saga),
+            *_short(saga),
+            *_left_out(saga),
+            *_undoing_nothing(saga),
+            *_without_compensation(saga),
+        ]
     stays = _stays(saga)
     return [
+        *_unneeded(saga),
         *_unread(saga),
         *_short(saga),
         *_never_called(saga, stays),
         *_holding(saga, stays),
         *_undoing_nothing(saga),
+        *_without_compensation(saga),
     ]
 
 
-def _left_out(saga: Saga) -> Iterator[str]:
+def _without_compensation(saga: SagaParts) -> Iterator[str]:
+    """Yield a warning for each step whose compensation has a cost and does not exist."""
+    for step in saga.all_steps:
+        is_implied = step.undo.implied and not step.has_nothing
+        if step.kind == "step" and is_implied and step.declared_cost("undo") == 0:
+            yield (
+                f"{step.where}: saga {saga.name!r}, step {step.name!r}: undo=0 is the cost of a "
+                "compensation, and it has none, so nothing is called to undo it. Set "
+                f"undo=sagas.NOTHING if there is nothing to undo, or declare @{step.name}."
+                "compensation"
+            )
+
+
+def _unneeded(saga: SagaParts) -> Iterator[str]:
+    """Yield a warning for each step that reads the result of a step that it does not need."""
+    for step, name in code_reads.unneeded_reads(saga):
+        yield (
+            f"{step.where}: saga {saga.name!r}, step {step.name!r}: it reads the result of "
+            f"{name!r} and does not need it, so both may run at the same time. Add {name} to "
+            'needs=, or set order="declared" of the saga'
+        )
+
+
+def _left_out(saga: SagaParts) -> Iterator[str]:
     """Yield a warning for each fan-out that a failure may end early."""
+    if pivot.pivot_of(saga) is not None:
+        return
     for step in saga.steps:
         run, skip = step.declared_cost("run"), step.declared_cost("skip")
         is_known = isinstance(run, int) and isinstance(skip, int)
-        is_fan_out = step.for_each is not None and not step.is_collected
+        is_fan_out = step.for_each is not None and not (step.is_collected or step.is_optional)
         if is_fan_out and is_known and skip <= run:  # type: ignore[operator]
             yield (
                 f"{step.where}: saga {saga.name!r}, step {step.name!r}: if a step fails, items "
@@ -436,7 +571,7 @@ def _left_out(saga: Saga) -> Iterator[str]:
             )
 
 
-def _short(saga: Saga) -> Iterator[str]:
+def _short(saga: SagaParts) -> Iterator[str]:
     """Yield a warning for each initial pause that is longer than the default maximum."""
     for step in saga.all_steps:
         for role, manner in (("function", step.run), ("compensation", step.undo)):
@@ -449,32 +584,32 @@ def _short(saga: Saga) -> Iterator[str]:
                 )
 
 
-def _unread(saga: Saga) -> Iterator[str]:
+def _unread(saga: SagaParts) -> Iterator[str]:
     """Yield a warning for each function whose type hints cannot be read.
 
     For example, only a type checker imports a name.
     """
     for step in saga.all_steps:
         for function in (step.run.function, step.undo.function):
-            unread = decoders.unread(function) if function else None
+            unread = type_hints.unread(function) if function else None
             if unread:
-                where = f"{location_of(function)}: saga {saga.name!r}, step {step.name!r}"
+                beginning = f"{location_of(function)}: saga {saga.name!r}, step {step.name!r}"
                 yield (
-                    f"{where}: its type hints cannot be read, so its values stay plain JSON: "
+                    f"{beginning}: its type hints cannot be read, so its values stay plain JSON: "
                     f"{unread}"
                 )
 
 
-def _undoing_nothing(saga: Saga) -> Iterator[str]:
+def _undoing_nothing(saga: SagaParts) -> Iterator[str]:
     """Yield a warning for each step with a cost `undo` whose child cannot be undone."""
-    for step, child in children.children_of(saga):
+    for step, child in child_sagas.children_of(saga):
         undo = step.declared_cost("undo")
         if not isinstance(undo, int) or not step.undo.implied or child.is_shaped:
             continue
-        listed = definition_text.listed_steps(child.toml())
+        listed = definition_text.listed_steps(checked_text(child))
         stays = [f"{listed_step.name!r}" for listed_step in listed if listed_step.undo == "never"]
         declared = {child_step.name: child_step for child_step in child.steps}
-        if stays and not children.planned_compensations(listed, declared):
+        if stays and not child_sagas.planned_compensations(listed, declared):
             yield (
                 f"{step.where}: saga {saga.name!r}, step {step.name!r}: undo={undo}, but nothing "
                 f"of its child saga {child.name!r} can be undone, because "
@@ -483,7 +618,7 @@ def _undoing_nothing(saga: Saga) -> Iterator[str]:
             )
 
 
-def _in_order(saga: Saga) -> Iterator[Step[Any]]:
+def _in_order(saga: SagaParts) -> Iterator[Step[Any]]:
     """Yield the steps, each after those that it needs."""
     done: set[str] = set()
     left = list(saga.steps)
@@ -494,7 +629,7 @@ def _in_order(saga: Saga) -> Iterator[Step[Any]]:
         left = [step for step in left if step.name not in done]
 
 
-def _stays(saga: Saga) -> dict[str, bool]:
+def _stays(saga: SagaParts) -> dict[str, bool]:
     """Return, for each step, whether it is never undone after it has committed.
 
     Then it cannot be undone, or keeping it is always allowed and always costs less.
@@ -509,11 +644,18 @@ def _stays(saga: Saga) -> dict[str, bool]:
     return stays
 
 
-def _never_called(saga: Saga, stays: dict[str, bool]) -> Iterator[str]:
+def _never_called(saga: SagaParts, stays: dict[str, bool]) -> Iterator[str]:
     """Yield a warning for each step with a compensation that is never called."""
+    center = pivot.pivot_of(saga)
     for step in _in_order(saga):
         undo, keep = step.cost("undo"), step.cost("keep")
-        if isinstance(undo, int) and stays[step.name]:
+        if isinstance(undo, int) and stays[step.name] and center is not None:
+            if is_compensated(step):
+                yield (
+                    f"{step.where}: saga {saga.name!r}, step {step.name!r}: the compensation can "
+                    f"never be called, because the step needs the pivot {center.name!r}. Remove it"
+                )
+        elif isinstance(undo, int) and stays[step.name]:
             remedy = (
                 f"Set keep= to more than {undo}, or remove the compensation"
                 if keep
@@ -526,7 +668,7 @@ def _never_called(saga: Saga, stays: dict[str, bool]) -> Iterator[str]:
             )
 
 
-def _holding(saga: Saga, stays: dict[str, bool]) -> Iterator[str]:
+def _holding(saga: SagaParts, stays: dict[str, bool]) -> Iterator[str]:
     """Yield a warning for each step that keeps needed steps from being undone.
 
     It has no compensation: after it commits, the steps that it needs can never be undone. The
@@ -552,6 +694,7 @@ def _holding(saga: Saga, stays: dict[str, bool]) -> Iterator[str]:
         if (
             held
             and not step.has_compensation
+            and not step.is_pivot
             and step._costs["undo"] is None
             and len(below[step.name]) + 1 < len(saga.steps)
         ):
@@ -560,6 +703,6 @@ def _holding(saga: Saga, stays: dict[str, bool]) -> Iterator[str]:
             yield (
                 f"{step.where}: saga {saga.name!r}, step {step.name!r} has no compensation, "
                 f"so {' and '.join(names[:MAX_LISTED] + more)}, which it needs, can never be "
-                "undone after it commits. Set undo=0 if there is nothing to undo, or "
-                "undo=NEVER to confirm"
+                "undone after it commits. Set undo=sagas.NOTHING if there is nothing to undo, "
+                "or undo=sagas.NEVER to confirm"
             )

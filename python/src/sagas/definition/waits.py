@@ -5,106 +5,99 @@ from __future__ import annotations
 import datetime
 import inspect
 import json
-from collections.abc import Awaitable, Callable, Iterable
-from typing import Any, Generic, Literal, TYPE_CHECKING, TypeVar, Union, overload
+import re
+from collections.abc import Awaitable, Callable, Iterable, Mapping
+from typing import Any, Generic, Literal, TypeVar, Unpack, overload
 
 from sagas.base.errors import DefinitionError, NotSerializable
-from sagas.definition import awaitables, serialization
+from sagas.definition import awaitables, serialization, type_hints
+from sagas.definition.arguments import shown
 from sagas.definition.call_options import (
-    Backoff,
     Cost,
     CostOf,
-    MANY_TRIES,
-    MAX_COST,
+    ENGINE_TRIES,
     Manner,
-    NEVER,
-    Seconds,
+    Undo,
     seconds,
+    with_defaults,
 )
-from sagas.definition.children import ChildResult, descendants
-from sagas.definition.step import Declare, Decorator, ForEach, Need, Step, saga_error, step_error
+from sagas.definition.child_fan_outs import ChildFanOut, ChildItems, starting_saga
+from sagas.definition.child_sagas import ChildResult, descendants
+from sagas.definition.parts import SagaParts
+from sagas.definition.step import Declare, Decorator, ForEach, Need, Step, Until, step_error
+from sagas.definition.step_options import (
+    ApprovalOptions,
+    CHILD_DEFAULTS,
+    ChildOptions,
+    WaitOptions,
+    approval_defaults,
+    wait_defaults,
+)
 
-if TYPE_CHECKING:
-    from sagas.definition.saga import Saga
-    from sagas.definition.task import Task
-
-Until = Union[
-    datetime.timedelta,
-    datetime.datetime,
-    Callable[["Task[Any]"], Union[datetime.timedelta, datetime.datetime]],
-]
+MAX_ITEM_NAME = 27
+"""Limit of the name of a step that starts children for items, in characters."""
 MAX_WITHIN = 1e11
 """Limit of the timeout of an approval, in seconds."""
+MAX_SHOWN_FIELDS = 16
+"""The maximum number of fields of the input that an approval shows."""
+FIELD_PATH = re.compile(r"(?=.{1,128}\Z)[A-Za-z0-9_-]+(?:\.[A-Za-z0-9_-]+)*")
+"""The path of a field of an input: names of letters, digits, `_` and `-`."""
 
 
-class ChildSteps:
-    """The part of `Saga` that declares child sagas.
-
-    Attributes:
-        name: Its name.
-        steps: Its steps.
-        undoes: The saga whose completed runs it undoes, or None.
-        undoes_step: The step whose unused report it undoes, or None.
-        undo_text: Its definition as a text if it undoes another saga.
-        has_children: Whether a step starts another saga.
-    """
-
-    name: str
-    steps: list[Step[Any]]
-    undoes: Saga | None = None
-    undoes_step: Step[Any] | None = None
-    undo_text: str = ""
-    has_children: bool = False
-
-    @property
-    def is_shaped(self) -> bool:
-        """Whether its steps come from its input."""
-        raise NotImplementedError
+class ChildSteps(SagaParts):
+    """The part of `Saga` that declares child sagas."""
 
     @overload
     def child(
         self,
-        saga: Saga,
+        saga: SagaParts,
         *,
+        for_each: ChildItems,
         input: Callable[[Any], Any],
-        name: str | None = None,
-        needs: Iterable[Need] = (),
-        undo: Cost | None = None,
-        skip: Cost = 0,
-        keep: Cost | None = None,
-        on_exhausted: Literal["fail", "ask"] = "fail",
-        undo_on_exhausted: Literal["fail", "ask"] = "ask",
+        **options: Unpack[ChildOptions],
+    ) -> ChildFanOut:
+        ...
+
+    @overload
+    def child(
+        self,
+        saga: SagaParts,
+        *,
+        for_each: ChildItems,
+        input: None = None,
+        **options: Unpack[ChildOptions],
+    ) -> Callable[[Callable[[Any], Any]], ChildFanOut]:
+        ...
+
+    @overload
+    def child(
+        self,
+        saga: SagaParts,
+        *,
+        for_each: None = None,
+        input: Callable[[Any], Any],
+        **options: Unpack[ChildOptions],
     ) -> Step[ChildResult]:
         ...
 
     @overload
     def child(
         self,
-        saga: Saga,
+        saga: SagaParts,
         *,
+        for_each: None = None,
         input: None = None,
-        name: str | None = None,
-        needs: Iterable[Need] = (),
-        undo: Cost | None = None,
-        skip: Cost = 0,
-        keep: Cost | None = None,
-        on_exhausted: Literal["fail", "ask"] = "fail",
-        undo_on_exhausted: Literal["fail", "ask"] = "ask",
+        **options: Unpack[ChildOptions],
     ) -> Callable[[Callable[[Any], Any]], Step[ChildResult]]:
         ...
 
     def child(
         self,
-        saga: Saga,
+        saga: SagaParts,
         *,
+        for_each: ChildItems | None = None,
         input: Callable[[Any], Any] | None = None,
-        name: str | None = None,
-        needs: Iterable[Need] = (),
-        undo: Cost | None = None,
-        skip: Cost = 0,
-        keep: Cost | None = None,
-        on_exhausted: Literal["fail", "ask"] = "fail",
-        undo_on_exhausted: Literal["fail", "ask"] = "ask",
+        **options: Unpack[ChildOptions],
     ) -> Any:
         """Declare a step that starts another saga, and waits for its end.
 
@@ -117,21 +110,27 @@ class ChildSteps:
 
         Args:
             saga: The child's definition, which the store must have, too.
+            for_each: A function of the task that returns a list, for example `lambda task:
+                task.result_of(split)`, or the name of a list in the input: a child is started for
+                each of up to 1,000 items (default: one child). The function gets an `ItemTask`, and
+                its children have the keys `KEY/:STEP/:STEP-0`, `KEY/:STEP/:STEP-1` and so on. The
+                result is the list of their results. `undo`, `keep` and the two options of failures
+                are those of each child.
             input: The function, if the step is declared without a decorator.
-            name: The step's name (default: the decorated function's, else the child's).
-            undo: Cost of undoing the child (default: the sum of its own; `NEVER` if one is). With
-                another number, child steps that cannot be undone stay in place.
-            keep: Cost of leaving the completed child in place (default: the sum of its own).
-            on_exhausted: What follows if the child does not complete: `fail`, or `ask` (wait for
-                `Store.retry`, which starts another child with the key `KEY/:STEP/2`,
+            options: `name`: the step's name (default: the decorated function's, else the child's).
+                `undo`: cost of undoing the child (default: the sum of its own; `NEVER` if one is).
+                With another number, child steps that cannot be undone stay in place.
+                `keep`: cost of leaving the completed child in place (default: the sum of its own).
+                `on_exhausted`: what follows if the child does not complete: `fail`, or `ask` (wait
+                for `Store.retry`, which starts another child with the key `KEY/:STEP/2`,
                 `Store.complete` or `Store.fail`). An input that the child cannot have fails the
                 step in any case (default: `fail`).
-            undo_on_exhausted: What follows if the child cannot be undone as a whole: `fail` leaves
-                the rest in place, or `ask` (wait for `Store.retry`, which undoes the rest in
+                `undo_on_exhausted`: what follows if the child cannot be undone as a whole: `fail`
+                leaves the rest in place, or `ask` (wait for `Store.retry`, which undoes the rest in
                 another saga with the key `KEY/:STEP:undo/2`, `Store.complete` or `Store.fail`)
                 (default: `ask`). A compensation of its own has its own option.
-
-        See `Saga.step` for `needs` and `skip`.
+                `needs`, `skip` and `optional`: see `StepOptions`. A child that is optional can be
+                undone.
 
         Returns:
             The `Step`, or without `input` a decorator that returns it.
@@ -156,16 +155,27 @@ class ChildSteps:
             ...     return task.result_of(stay)["results"]["room"]
             >>> sagas.testing.run(trip, {"days": 4}).results["tour"]
             3
-            >>> sagas.testing.run(trip, {"days": 4}, fail={tour: 1}).states
+            >>> sagas.testing.run(trip, {"days": 4}, fail={tour: sagas.Fail}).states
             cancel 3 nights of test/:stay
             {'stay': 'undone', 'tour': 'failed'}
         """
 
+        chosen = with_defaults("Saga.child", options, CHILD_DEFAULTS)
+        name, undo_on_exhausted = chosen["name"], chosen["undo_on_exhausted"]
+
         def declare(function: Callable[[Any], Any]) -> Step[Any]:
-            manner = Manner(function, on_exhausted=on_exhausted)
-            costs: dict[str, CostOf | None] = {"run": 0, "undo": undo, "skip": skip, "keep": keep}
-            named = name or (None if input is None else getattr(saga, "name", None))
-            step = self._add(function, named, "child", needs, costs, manner, None)
+            manner = Manner(function, on_exhausted=chosen["on_exhausted"])
+            step = self._add(
+                function,
+                name or (None if input is None else getattr(saga, "name", None)),
+                "child",
+                chosen["needs"],
+                {"run": 0, "undo": chosen["undo"], "skip": chosen["skip"], "keep": chosen["keep"]},
+                manner,
+                None,
+                is_optional=chosen["optional"],
+                make=Step if for_each is None else ChildFanOut,
+            )
             step.child = saga
             self.has_children = True
             _check_child(step, saga)
@@ -173,34 +183,15 @@ class ChildSteps:
                 rule = f"undo_on_exhausted={undo_on_exhausted!r}: must be fail or ask"
                 raise step_error(step, rule)
             step.undo.on_exhausted = undo_on_exhausted
+            if isinstance(step, ChildFanOut):
+                step.items = _checked_items(step, for_each)
+                step.child = starting_saga(step, saga, undo_on_exhausted)
             return step
 
         check_is_saga(saga)
         if input is not None:
             return declare(input)
-        of: Any = self
-        return Decorator(of, f"{of.name}.child", name, declare)
-
-    def total_cost(self, word: str) -> Cost:
-        """Return the cost of undoing all steps of a completed saga, or of keeping them.
-
-        Args:
-            word: `undo` or `keep`.
-        """
-        if self.is_shaped:
-            of: Any = self
-            raise saga_error(
-                of,
-                "its steps come from its input, so its costs as a child are not known. Set keep=, "
-                "and undo= with a compensation or undo=sagas.NEVER, for the step that starts it",
-            )
-        total = 0
-        for step in self.steps:
-            cost = step.cost(word)
-            if cost is NEVER:
-                return NEVER
-            total += cost
-        return min(total, MAX_COST)
+        return Decorator(self, f"{self.name}.child", name, declare)
 
     def _add(
         self,
@@ -208,11 +199,14 @@ class ChildSteps:
         name: str | None,
         kind: str,
         needs: Iterable[Need],
-        costs: dict[str, CostOf | None],
+        costs: Mapping[str, Undo | None],
         manner: Manner,
         concurrency: int | None,
         for_each: ForEach | None = None,
         when: Callable[[Any], Any] | None = None,
+        is_optional: bool = False,
+        is_pivot: bool = False,
+        make: type[Step[Any]] | None = None,
     ) -> Step[Any]:
         raise NotImplementedError
 
@@ -220,22 +214,7 @@ class ChildSteps:
 class WaitSteps(ChildSteps):
     """The part of `Saga` that declares steps that wait."""
 
-    def wait(
-        self,
-        *,
-        until: Until,
-        name: str | None = None,
-        needs: Iterable[Need] = (),
-        undo: CostOf | None = None,
-        skip: CostOf = 0,
-        keep: CostOf = 0,
-        tries: int = MANY_TRIES,
-        timeout: Seconds | None = None,
-        backoff: Backoff = Backoff(),
-        concurrency: int | None = None,
-        for_each: ForEach | None = None,
-        when: Callable[[Any], Any] | None = None,
-    ) -> Declare:
+    def wait(self, *, until: Until, **options: Unpack[WaitOptions]) -> Declare:
         """Declare a function that is called at a time, by `@saga.wait(...)`.
 
         Until then the step takes no slot. If the saga is undone before the time, it does not wait
@@ -244,11 +223,10 @@ class WaitSteps(ChildSteps):
         Args:
             until: A timedelta from when the needs are committed, a datetime with a time zone, or a
                 plain function of the task that returns either, called in a thread.
-            undo: As of `step` (default: 0). `NEVER`: its function's effect cannot be undone.
-            tries: As of `step` (default: 9). An undo during the wait uses one of them.
-
-        See `Saga.step` for `name`, `needs`, `skip`, `keep`, `timeout`, `backoff`, `concurrency`,
-        `for_each`, `when`.
+            options: `name`, `needs`, `skip`, `keep`, `timeout`, `backoff`, `concurrency`,
+                `for_each`, `when` and `optional`. See `StepOptions`.
+                `undo` (default: `NOTHING`): with `NEVER` its function's effect cannot be undone.
+                `tries` (default: 10): an undo during the wait uses one of them.
 
         Returns:
             A decorator that returns the `Step`.
@@ -257,19 +235,35 @@ class WaitSteps(ChildSteps):
             DefinitionError: An argument is not valid.
         """
 
+        chosen = with_defaults("Saga.wait", options, wait_defaults(self.defaults))
+        timeout, name = chosen["timeout"], chosen["name"]
+
         def declare(function: Callable[[Any], Any]) -> Step[Any]:
+            time = timeout if timeout is None else seconds(timeout)
             manner = Manner(
-                function, tries, timeout if timeout is None else seconds(timeout), backoff
+                function,
+                chosen["tries"],
+                time,
+                chosen["backoff"],
+                spare_tries=ENGINE_TRIES,  # an undo during the wait uses one
             )
-            costs: dict[str, CostOf | None] = {"run": 0, "undo": undo, "skip": skip, "keep": keep}
             step = self._add(
-                function, name, "wait", needs, costs, manner, concurrency, for_each, when
+                function,
+                name,
+                "wait",
+                chosen["needs"],
+                {"run": 0, "undo": chosen["undo"], "skip": chosen["skip"], "keep": chosen["keep"]},
+                manner,
+                chosen["concurrency"],
+                chosen["for_each"],
+                chosen["when"],
+                chosen["optional"],
             )
             step.until = until
             check_until(step, until)
             return step
 
-        return Decorator(_saga(self), f"{self.name}.wait", name, declare)
+        return Decorator(self, f"{self.name}.wait", name, declare)
 
     @overload
     def approval(self, function: Callable[[Any], Any], /) -> Step[Any]:
@@ -277,38 +271,12 @@ class WaitSteps(ChildSteps):
 
     @overload
     def approval(
-        self,
-        function: None = None,
-        /,
-        *,
-        name: str | None = None,
-        needs: Iterable[Need] = (),
-        undo: CostOf | None = None,
-        skip: CostOf = 0,
-        timeout: Seconds | None = None,
-        tries: int = MANY_TRIES,
-        call_timeout: Seconds | None = None,
-        backoff: Backoff = Backoff(),
-        for_each: ForEach | None = None,
-        when: Callable[[Any], Any] | None = None,
+        self, function: None = None, /, **options: Unpack[ApprovalOptions]
     ) -> Callable[[Callable[[Any], Any]], Step[Any]]:
         ...
 
     def approval(
-        self,
-        function: Callable[[Any], Any] | None = None,
-        /,
-        *,
-        name: str | None = None,
-        needs: Iterable[Need] = (),
-        undo: CostOf | None = None,
-        skip: CostOf = 0,
-        timeout: Seconds | None = None,
-        tries: int = MANY_TRIES,
-        call_timeout: Seconds | None = None,
-        backoff: Backoff = Backoff(),
-        for_each: ForEach | None = None,
-        when: Callable[[Any], Any] | None = None,
+        self, function: Callable[[Any], Any] | None = None, /, **options: Unpack[ApprovalOptions]
     ) -> Any:
         """Declare a step that a person decides, by `@saga.approval`.
 
@@ -317,12 +285,16 @@ class WaitSteps(ChildSteps):
         `Approved` or `Rejected`.
 
         Args:
-            undo: As of `step` (default: 0). `NEVER`: the approval cannot be revoked.
-            timeout: Seconds, or a timedelta, after which the step has failed (default: none).
-            tries: As of `step` (default: 9). An undo during the wait uses one of them.
-            call_timeout: As `timeout` of `step`: for the function itself (default: none).
-
-        See `Saga.step` for `function`, `name`, `needs`, `skip`, `backoff`, `for_each`, `when`.
+            function: The function, if no option is given.
+            options: `name`, `needs`, `skip`, `backoff`, `for_each`, `when` and `optional`. See
+                `StepOptions`.
+                `undo` (default: `NOTHING`): with `NEVER` the approval cannot be revoked.
+                `timeout`: seconds, or a timedelta, after which the step has failed (default: none).
+                `tries` (default: 10): an undo during the wait uses one of them.
+                `call_timeout`: as a step's `timeout`, for the function itself (default: none).
+                `show`: up to 16 fields of the input that the service shows to those who decide, for
+                example `["amount", "customer.name"]` (default: none). A path has names of fields,
+                separated by dots. Each field must exist in the type of the input, if it has one.
 
         Returns:
             The `Step`, or a decorator that returns it.
@@ -331,27 +303,37 @@ class WaitSteps(ChildSteps):
             DefinitionError: An argument is not valid.
         """
 
+        chosen = with_defaults("Saga.approval", options, approval_defaults(self.defaults))
+        call_timeout, name = chosen["call_timeout"], chosen["name"]
+
         def declare(function: Callable[[Any], Any]) -> Step[Any]:
+            time = None if call_timeout is None else seconds(call_timeout)
             manner = Manner(
-                function, tries, None if call_timeout is None else seconds(call_timeout), backoff
+                function,
+                chosen["tries"],
+                time,
+                chosen["backoff"],
+                spare_tries=ENGINE_TRIES,  # an undo during the wait uses one
             )
             manner.asks = True
             step = self._add(
                 function,
                 name,
                 "approval",
-                needs,
-                {"run": 0, "undo": undo, "skip": skip, "keep": 0},
+                chosen["needs"],
+                {"run": 0, "undo": chosen["undo"], "skip": chosen["skip"], "keep": 0},
                 manner,
                 None,
-                for_each,
-                when,
+                chosen["for_each"],
+                chosen["when"],
+                chosen["optional"],
             )
-            step.approval_timeout = approval_timeout(step, timeout)
+            step.approval_timeout = approval_timeout(step, chosen["timeout"])
+            step.shown_fields = _checked_fields(step, chosen["show"])
             return step
 
         return (
-            Decorator(_saga(self), f"{self.name}.approval", name, declare)
+            Decorator(self, f"{self.name}.approval", name, declare)
             if function is None
             else declare(function)
         )
@@ -366,7 +348,7 @@ def check_is_saga(saga: object) -> None:
         raise DefinitionError(f"expected a sagas.Saga, got {saga!r}")
 
 
-def _check_child(step: Step[Any], child: Saga) -> None:
+def _check_child(step: Step[Any], child: SagaParts) -> None:
     """Raise `DefinitionError` if a step cannot start this child."""
     function = step.run.function
     if inspect.iscoroutinefunction(function):
@@ -382,6 +364,25 @@ def _check_child(step: Step[Any], child: Saga) -> None:
         raise step_error(
             step, f"saga {step.saga.name!r} would be its own child. Declare another saga"
         )
+
+
+def _checked_items(step: Step[Any], items: Any) -> ChildItems:
+    """Return `for_each` of a step that starts children. Raises `DefinitionError`."""
+    if not isinstance(items, str) and (
+        not callable(items) or inspect.iscoroutinefunction(items) or isinstance(items, Step)
+    ):
+        rule = "must be a plain function of the task: lambda task: task.result_of(split)"
+        raise step_error(step, f"for_each={items!r}: {rule}, or the name of a list in the input")
+    if isinstance(items, str) and (hint := step.saga.input_type) is not None:
+        if fault := type_hints.items_fault(hint, items):
+            raise step_error(step, f"for_each={items!r}: {fault}")
+    if len(step.name) > MAX_ITEM_NAME:
+        raise step_error(
+            step,
+            f"its name has {len(step.name)} characters, and with for_each it may have at most "
+            f"{MAX_ITEM_NAME}, because the number of the item follows it. Set another name=",
+        )
+    return items  # type: ignore[no-any-return]
 
 
 def check_until(step: Step[Any], until: object) -> None:
@@ -423,9 +424,24 @@ def approval_timeout(step: Step[Any], timeout: object) -> datetime.timedelta | N
     return time
 
 
-def _saga(saga: Any) -> Any:
-    """Return the object as the saga that it is: `Saga` inherits from `WaitSteps`."""
-    return saga
+def _checked_fields(step: Step[Any], show: Any) -> tuple[str, ...]:
+    """Return the fields that an approval shows. Raises `DefinitionError`."""
+    is_list = isinstance(show, (list, tuple)) and len(show) <= MAX_SHOWN_FIELDS
+    if not is_list or not all(
+        isinstance(path, str) and FIELD_PATH.fullmatch(path) for path in show
+    ):
+        rule = f"must be a list of up to {MAX_SHOWN_FIELDS} fields of the input"
+        raise step_error(
+            step, f"show={shown(show)}: {rule}, for example ['amount', 'customer.name']"
+        )
+    if len({*show}) < len(show):
+        raise step_error(step, f"show={shown(show)}: must name each field only once")
+    function_hint = type_hints.input_hint(step.run.function) if step.run.function else None
+    for hint in (step.saga.input_type, function_hint):
+        for path in show if hint is not None else ():
+            if fault := type_hints.field_fault(hint, path):
+                raise step_error(step, f"show={shown(show)}: {fault}")
+    return (*show,)
 
 
 # -- decisions

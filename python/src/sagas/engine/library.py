@@ -4,7 +4,7 @@ Plans, checks and audits of texts, by the C library in this process. If the libr
 the program performs them.
 
     verdict = sagas.plan(definition, case)             # Verdict(yes=True,
-    text='{"cost":38,"kept":[0,1],..}')
+    text='{"cost":38,"kept":[0,1],...}')
     sagas.check(definition, case, verdict.text)        # Verdict(yes=True, text='least 38')
 
 Texts are str or bytes in the formats of docs/FORMATS.md. A call keeps no state, and other threads

@@ -9,9 +9,10 @@ from typing import Any
 
 from sagas.base import program
 from sagas.base.errors import EngineError
-from sagas.core.states import state_text, step_state
+from sagas.core.states import step_state
 from sagas.definition import definition_text, drawing
 from sagas.definition.definition_text import ListedStep
+from sagas.definition.saga_result import state_text
 
 Cost = int | None
 """A cost; None is never."""
@@ -29,6 +30,8 @@ class Choice:
         kept: Whether the plan keeps it.
         needed_by: If dropping it alone were not more expensive: the first kept step that needs it;
             else None.
+        is_optional_failure: Whether it has failed, and the saga continued without it. Its costs
+            count, but there is nothing to keep or to undo.
     """
 
     step: str
@@ -37,10 +40,13 @@ class Choice:
     cost_to_drop: Cost
     kept: bool
     needed_by: str | None = None
+    is_optional_failure: bool = False
 
     @property
     def decision(self) -> str:
         """`stands`, `is run`, `is undone` or `is left out`."""
+        if self.is_optional_failure:
+            return "is left out"
         if self.kept:
             return "is run" if self.state == "waiting" else "stands"
         return "is undone" if self.state == "committed" else "is left out"
@@ -55,7 +61,8 @@ class Choice:
 class Plan:
     """Hold the plan of a saga with its certificate. Made by `Store.plan`.
 
-    `str` shows a table of all steps, with both costs and the decision.
+    `str` shows a table of all steps, with both costs and the decision. If the saga has a pivot, the
+    package has computed the costs, and the table does not show them.
 
     Attributes:
         saga: The saga's name.
@@ -63,6 +70,7 @@ class Plan:
         definition: The definition's text.
         case: The state of each step that the plan started from, as JSON.
         answer: The plan with its certificate, as JSON.
+        optional_failures: The names of the failed steps without which the saga continued.
 
     Example:
         >>> with sagas.open_sync("orders.db", [order]) as store:
@@ -83,6 +91,12 @@ class Plan:
     definition: str
     case: dict[str, Any]
     answer: dict[str, Any]
+    optional_failures: frozenset[str] = frozenset()
+
+    @property
+    def pivot(self) -> str | None:
+        """The pivot of the saga, or None. With a pivot, costs alone have no meaning."""
+        return definition_text.pivot_of(self.definition)
 
     @property
     def cost(self) -> int | None:
@@ -125,13 +139,15 @@ class Plan:
             and drop_cost is not None
             and (keep_cost is None or keep_cost >= drop_cost)
         )  # if nothing needs it
+        is_failure = step.name in self.optional_failures
         return Choice(
             step.name,
-            state,
+            "failed" if is_failure else state,
             keep_cost,
             drop_cost,
             kept,
-            needed if kept and may_be_dropped else None,
+            needed if kept and may_be_dropped and not is_failure else None,
+            is_failure,
         )
 
     def check(self) -> str:
@@ -165,24 +181,26 @@ class Plan:
     def __str__(self) -> str:
         choices = self.choices
         wide = max(4, *(len(choice.step) for choice in choices))
-        states = [state_text(choice.state) for choice in choices]
-        width = max(9, *map(len, states))
-        head = f"plan of {self.saga} {self.key}: "
-        head += (
-            f"cost {self.cost}"
-            if self.cost is not None
-            else f"no plan is feasible, because of {' and '.join(self.blocking_steps)}"
-        )
-        lines = [
-            head,
-            f"  {'step':{wide}}  {'found':{width}}  cost to keep  cost to drop  decision",
+        states = [
+            state_text(choice.state, is_optional=choice.is_optional_failure) for choice in choices
         ]
+        width = max(9, *map(len, states))
+        has_costs = self.pivot is None
+        head = f"plan of {self.saga} {self.key}"
+        if self.cost is None:
+            head += f": no plan is feasible, because of {' and '.join(self.blocking_steps)}"
+        elif has_costs:
+            head += f": cost {self.cost}"
+        else:
+            head += f": decided by the pivot {self.pivot}"
+        costs = "  cost to keep  cost to drop" if has_costs else ""
+        lines = [head, f"  {'step':{wide}}  {'found':{width}}{costs}  decision"]
         for choice, state in zip(choices, states):
             decision = choice.detail if self.cost is not None else "stuck"
-            lines.append(
-                f"  {choice.step:{wide}}  {state:{width}}  {_cost_text(choice.cost_to_keep):>12}  "
-                f"{_cost_text(choice.cost_to_drop):>12}  {decision}"
-            )
+            if has_costs:
+                texts = _cost_text(choice.cost_to_keep), _cost_text(choice.cost_to_drop)
+                costs = f"  {texts[0]:>12}  {texts[1]:>12}"
+            lines.append(f"  {choice.step:{wide}}  {state:{width}}{costs}  {decision}")
         return "\n".join(lines)
 
 

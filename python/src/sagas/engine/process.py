@@ -16,9 +16,7 @@ from typing import Generic, Protocol, TypeVar
 from sagas.base.errors import EngineError
 from sagas.base.fork_guard import private_descriptors
 from sagas.base.program import TextFiles, memory_file, not_runnable
-from sagas.core import protocol
-from sagas.core.protocol import REPLY
-
+from sagas.definition.capacity import HEADER
 
 PIPE_BYTES = 1 << 20  # bytes
 READ_BYTES = (
@@ -29,6 +27,8 @@ HUNG = 60.0  # seconds
 AGAIN = 32
 """After a late answer: the number of requests until `wait` waits again."""
 AGAIN_LATER = 0.01  # seconds
+REPLY = "{"
+"""The first character of each reply. Lines of the log begin with a plus, which sorts before it."""
 NOT_RUNNABLE = (errno.ENOEXEC, errno.EACCES, errno.ENOENT)
 """The errors of the system for a program that it cannot run: another processor, no permission or no
 loader."""
@@ -96,7 +96,7 @@ class EngineProcess:
         self._texts: TextFiles | None = None
         try:
             self._stderr = memory_file("words")
-            self._texts = TextFiles([*definitions, protocol.HEADER + text] if text else definitions)
+            self._texts = TextFiles([*definitions, HEADER + text] if text else definitions)
             arguments = self._texts.paths
             if text:
                 arguments = ["--from", arguments[-1], *arguments[:-1]]
@@ -216,7 +216,7 @@ class EngineProcess:
             return replies, ""
         self._log_lines.append("")
         text, self._log_lines = "\n".join(self._log_lines)[1:].replace("\n+", "\n"), []
-        return replies, text.removeprefix(protocol.HEADER)
+        return replies, text.removeprefix(HEADER)
 
     def _die(self) -> None:
         if not self.is_dead:
@@ -300,8 +300,8 @@ class EnginePool(Generic[T]):
     A waiting shard gets a process when another shard rests.
     """
 
-    def __init__(self, most: int) -> None:
-        self.capacity = most
+    def __init__(self, capacity: int) -> None:
+        self.capacity = capacity
         self._up: dict[T, None] = {}
         self.waiting: dict[T, None] = {}
         """The shards that wait for a process."""

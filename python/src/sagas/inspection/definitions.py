@@ -6,11 +6,12 @@ import dataclasses
 import json
 from collections import Counter
 
+from sagas.definition import serialization
 from sagas.inspection import names as names_module
-from sagas.inspection.lists import PERSON, WAITS
+from sagas.inspection.lists import WAITS
 from sagas.inspection.question import Query, Question
 from sagas.storage.filters import Scope
-from sagas.storage.queries import OF_SHARD, PHASES
+from sagas.storage.queries import OF_SHARD, PERSON, PHASES
 
 MAX_COSTS, MAX_FAILED = 5000, 2000
 """How many of the latest recovered sagas are used for the costs and for the failures."""
@@ -32,7 +33,9 @@ FAILED = f"""
 SELECT {AT}, r.step, 'failed', count(*) FROM (
   SELECT id, definition_index FROM sagas s
   WHERE saga = ? AND {{{{scope}}}} AND {{}} ORDER BY id DESC LIMIT {MAX_FAILED}) s
-{OF_SHARD} JOIN attempts r ON r.id = s.id AND r.event IN ('fail', 'undo_fail') GROUP BY 1, 2
+{OF_SHARD} JOIN attempts r ON r.id = s.id AND (r.event IN ('fail', 'undo_fail')
+  OR (r.event = 'commit' AND substr(r.value, 2, 10) = '"{serialization.FAILED}":'))
+GROUP BY 1, 2
 """
 WITH_FAILURES = (
     FAILED.format(PHASES["open"]),
@@ -71,7 +74,7 @@ class AtStep:
 
 def at_steps(name: str, scope: Scope) -> Question[dict[str, AtStep]]:
     """Count the attempts at each step of a definition, by declared step name."""
-    rows, (condition, parameters) = [], scope.where()
+    rows, (condition, parameters) = [], scope.condition()
     for text in (HELD, OFFERED, *WITH_FAILURES):
         rows += yield Query(text.format(scope=condition), (name, *parameters))
     names = yield from names_module.of_digests(digest for digest, *_ in rows)
@@ -86,7 +89,7 @@ def at_steps(name: str, scope: Scope) -> Question[dict[str, AtStep]]:
 def costs(name: str, now: float, scope: Scope) -> Question[list[tuple[float, int, int]]]:
     """Return the costs of recoveries of the last 14 days: day, count and total cost of each."""
     first = (now // DAY - DAYS + 1) * DAY
-    condition, parameters = scope.where()
+    condition, parameters = scope.condition()
     rows = yield Query(COSTS.format(scope=condition), (name, *parameters, first, MAX_COSTS))
     counts, sums = Counter[float](), Counter[float]()
     known: dict[str | None, int] = {}  # most ended in one of a few ways

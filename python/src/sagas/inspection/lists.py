@@ -10,13 +10,9 @@ from typing import Any
 from sagas.base.errors import CannotDecode
 from sagas.core import states
 from sagas.core.attention import Attention, AttentionReason
-from sagas.core.batch import SagaRow
 from sagas.core.states import AFTER_FAILURE
-from sagas.core.history import FAILURE_EVENTS, stored_result, was_called
-from sagas.core.results import DefinitionCount, SagaResult, Summary, UnknownAttempt
-from sagas.definition import tokens
-from sagas.definition.capacity import SHARD_CAPACITY
-from sagas.definition.compiled import CompiledDefinition
+from sagas.core.history import FAILURE_EVENTS, was_called
+from sagas.core.results import DefinitionCount, Summary
 from sagas.definition.definition_text import version_of
 from sagas.definition.labels import TOKEN
 from sagas.definition.payloads import unescaped
@@ -29,15 +25,20 @@ from sagas.storage.filters import EVERYTHING, Filter, Scope
 from sagas.storage.queries import (
     DAMAGED,
     DAMAGED_SINCE,
+    HEAD,
+    HEAD_LENGTH,
     HELD,
+    HELD_BADLY,
     LABELS,
+    NO_NODE,
+    NO_NODE_DETAIL,
     OF_SHARD,
+    PERSON,
     PHASES,
-    RESULTS,
-    SAGA,
     UNDOABLE,
-    UNDOES_CHILD,
+    NOT_ABORTED,
     UNDOING_KEYS,
+    WITHOUT_NODE_SINCE,
     labels_of,
 )
 from sagas.storage.schedules import Schedule
@@ -46,10 +47,16 @@ Counts = dict[str, dict[str, int]]
 COUNTED = ("open", "completed", "recovered", "stuck", "resolved")
 SUMMARY = (
     "s.id, s.key, s.saga, s.phase, s.at, s.ended, s.note, s.recovered, s.undo_failed, s.deadline, "
-    f"{LABELS}"
+    f"{LABELS}, {HEAD}"
 )
-HELD_BADLY = "((reason = 'unknown' AND until IS NULL) OR reason IN ('exhausted', 'cannot_decode'))"
-"""Rows of attempts that need an operator, or another program. Approvals are not among them."""
+LAST_ERROR = """coalesce((SELECT v.value FROM attempts v
+  WHERE v.id = r.id AND v.step = r.step AND v.action = r.action
+    AND v.event IN ('undo_missed', 'undo_fail') AND instr(v.value, '"called":false') = 0
+  ORDER BY v.number DESC LIMIT 1), r.value)"""
+"""The error of the last attempt `r` of a compensation that was called.
+
+After a permanent failure the attempts that are left are given up without a call.
+"""
 SAME = (
     "{0}.id = {1}.id AND {0}.step = {1}.step AND {0}.action = {1}.action AND {0}.number = "
     "{1}.number"
@@ -72,7 +79,6 @@ UNCLAIMED = """
   WHERE e.outcome IS NULL AND e.task > '' AND e.worker IS NULL AND e.offered_at < ?"""
 """Tasks that were offered to workers before a given time, and that no worker has claimed."""
 OF_KEY = " AND {}.id = (SELECT id FROM sagas WHERE key = ?)"
-PERSON = f"(reason = 'approval' OR {HELD_BADLY})"
 WAITS = "NOT (reason = 'wait' AND until = 0) AND number > 0"
 """Excludes timers that have expired, whose rows remain, and reports of steps that have not started
 (attempt 0).
@@ -95,21 +101,31 @@ refused again.
 """
 OLDEST = "ORDER BY +s.at, s.id"
 """Oldest first, for small results. The + keeps the databases from using the index of all sagas."""
-DEFAULT_LIMIT, ALL = 100, 1 << 60
+DEFAULT_LIMIT, ALL, ALL_SAGAS = 100, 1 << 60, Filter()
 
 
 def summary_of(row: Row) -> Summary:
     """Return a saga summary from the columns of `SUMMARY`."""
-    id, key, saga, phase, at, ended, note, recovered, undo_failed, deadline, labels = row
-    phase = states.saga_phase(phase, bool(recovered), note).value
-    label_values = labels_of(labels)
-    return Summary(id, key, saga, phase, at, ended, note, bool(undo_failed), label_values, deadline)
+    id, key, saga, phase, at, ended, note, recovered, undo_failed, deadline, labels, head = row
+    return Summary(
+        id,
+        key,
+        saga,
+        states.saga_phase(phase, bool(recovered), note).value,
+        at,
+        ended,
+        note,
+        bool(undo_failed),
+        labels_of(labels),
+        deadline,
+        None if head is None else version_of(head),
+    )
 
 
 def counts(scope: Scope = EVERYTHING) -> Question[Counts]:
     """Count sagas by name and phase."""
     result: Counts = {}
-    condition, parameters = scope.where()
+    condition, parameters = scope.condition()
     rows = yield Query(
         COUNTS.format(condition), (*parameters, *parameters, *parameters, *parameters)
     )
@@ -121,7 +137,7 @@ def counts(scope: Scope = EVERYTHING) -> Question[Counts]:
     return dict(sorted(result.items()))
 
 
-HEADS = "SELECT definition, substr(text, 1, 40) FROM definitions"
+HEADS = f"SELECT definition, substr(text, 1, {HEAD_LENGTH}) FROM definitions"
 """The beginning of each definition, which contains its version."""
 
 
@@ -172,7 +188,7 @@ def schedules() -> Question[list[Schedule]]:
 
 def count(filter: Filter) -> Question[int]:
     """Count the sagas that a filter selects."""
-    condition, parameters = filter.where()
+    condition, parameters = filter.condition()
     rows = yield Query(f"SELECT count(*) FROM sagas s WHERE {condition}", (*parameters,))
     return int(rows[0][0])
 
@@ -180,10 +196,10 @@ def count(filter: Filter) -> Question[int]:
 def to_abort(sagas: Filter, limit: int) -> Question[tuple[int, list[str]]]:
     """Count the sagas of a filter without an abort request, and return the keys of the oldest.
 
-    Sagas that undo children are left out.
+    Sagas that undo children or call `on_end` are left out.
     """
-    condition, parameters = sagas.where()
-    source = f"FROM sagas s WHERE {condition} AND {UNASKED} AND NOT {UNDOES_CHILD}"
+    condition, parameters = sagas.condition()
+    source = f"FROM sagas s WHERE {condition} AND {UNASKED} AND NOT {NOT_ABORTED}"
     rows = yield Query(f"SELECT count(*) {source}", (*parameters, UNDOING_KEYS))
     keys = yield Query(
         f"SELECT s.key {source} {OLDEST} LIMIT ?", (*parameters, UNDOING_KEYS, limit)
@@ -192,34 +208,11 @@ def to_abort(sagas: Filter, limit: int) -> Question[tuple[int, list[str]]]:
 
 
 def undoing(sagas: Filter) -> Question[int]:
-    """Count the sagas of a filter that undo children."""
-    condition, parameters = sagas.where()
-    query = f"SELECT count(*) FROM sagas s WHERE {condition} AND {UNDOES_CHILD}"
+    """Count the sagas of a filter that undo children or call `on_end`: they are not aborted."""
+    condition, parameters = sagas.condition()
+    query = f"SELECT count(*) FROM sagas s WHERE {condition} AND {NOT_ABORTED}"
     rows = yield Query(query, (*parameters, UNDOING_KEYS))
     return int(rows[0][0])
-
-
-def attention_counts(scope: Scope = EVERYTHING) -> Question[dict[str, int]]:
-    """Count what waits for an operator, by reason.
-
-    The reasons are: stuck sagas, permanently failed compensations, unused reports, approvals,
-    exhausted attempts, unknown outcomes, stored values that cannot be read, and open sagas of
-    damaged shards.
-    """
-    (condition, parameters), within = scope.where(), ""
-    if scope != EVERYTHING:
-        within = f" AND id IN (SELECT id FROM sagas s WHERE {condition})"
-    query = f"SELECT reason, count(*) FROM suspensions WHERE {PERSON}{within} GROUP BY reason"
-    rows = yield Query(query, (*parameters,))
-    held = {reason: count for reason, count in rows}
-    asks = ("unknown", "exhausted", "cannot_decode", "approval")
-    held_counts = {reason: held.get(reason, 0) for reason in asks}
-    stuck = yield from count(Filter("stuck", scope=scope))
-    undo_failed = yield from count(Filter("undo_failed", scope=scope))
-    damaged = yield Query(f"SELECT count(*) {DAMAGED} AND {condition}", (*parameters,))
-    unused = yield from unused_report_count(scope)
-    ends = {"stuck": stuck, "undo_failed": undo_failed, "unused_report": unused}
-    return {**ends, **held_counts, "damaged": int(damaged[0][0])}
 
 
 def waits(
@@ -246,10 +239,10 @@ def waits(
             with the reason `worker`.
         step: Only attempts of steps with this name or declared name.
     """
-    visible, parameters = scope.where()
+    visible, parameters = scope.condition()
     conditions = [WAITS, visible]
     if within is not None:
-        condition, more = within.where()
+        condition, more = within.condition()
         conditions.append(condition)
         parameters += more
     if person:
@@ -306,7 +299,7 @@ def stuck(
     limit: int = DEFAULT_LIMIT, scope: Scope = EVERYTHING
 ) -> Question[list[tuple[Summary, list[str]]]]:
     """Return the unresolved stuck sagas with their blocking steps, the oldest first."""
-    condition, parameters = scope.where()
+    condition, parameters = scope.condition()
     rows = yield Query(
         f"""
         SELECT {SUMMARY}, d.definition, s.outcome FROM sagas s {OF_SHARD}
@@ -328,50 +321,6 @@ def chain_of(names: list[str], end: str | None) -> list[str]:
     return [names[step] for step in answer.get("chain", ())]
 
 
-def stuck_results(
-    kind_of: Callable[[str], CompiledDefinition], limit: int
-) -> Question[list[SagaResult]]:
-    """Return the full results of the unresolved stuck sagas, the oldest first."""
-    rows = yield Query(
-        f"""
-        SELECT {SAGA}, d.definition FROM sagas s {OF_SHARD}
-        WHERE {PHASES["stuck"]} {OLDEST} LIMIT ?
-        """,
-        (limit,),
-    )
-    names = yield from names_module.of_digests(row[-1] for row in rows)
-    results = []
-    for *columns, digest in rows:
-        row = SagaRow(*columns)
-        attempts = yield Query(RESULTS, (row.id,))
-        if digest in names:
-            results.append(stored_result(kind_of(names.text(digest)), row, attempts))
-    return results
-
-
-def unknown(limit: int) -> Question[list[UnknownAttempt]]:
-    """Return attempts with an unknown outcome, those that an operator must report first."""
-    rows = yield Query(
-        f"""
-        SELECT s.key, s.saga, d.definition, l.name, {HELD}
-        FROM suspensions h JOIN sagas s ON s.id = h.id {OF_SHARD}
-        JOIN shards l ON l.shard = d.shard WHERE h.reason = 'unknown'
-        ORDER BY h.until IS NOT NULL, h.since LIMIT ?
-        """,
-        (limit,),
-    )
-    names = yield from names_module.of_digests(row[2] for row in rows)
-    result = []
-    for key_of, saga, digest, log, id, step, action, number, _, *rest in rows:
-        if digest not in names:
-            continue
-        name = names.of(digest)[step]
-        key = tokens.idempotency_key(tokens.saga_token(log, id % SHARD_CAPACITY), name, action)
-        token = tokens.attempt_id(key, number)
-        result.append(UnknownAttempt(key_of, saga, name, action == "undo", number, token, *rest))
-    return result
-
-
 UNUSED_REPORT = (
     "h.number = 0 AND h.reason = 'early_result' AND s.phase IS NOT NULL AND s.note IS NULL"
 )
@@ -379,11 +328,15 @@ UNUSED_REPORT = (
 UNUSED_REPORTS = f"""
 SELECT s.key, s.saga, d.definition, 'unused_report', h.step, h.action, h.detail, h.since
 FROM suspensions h JOIN sagas s ON s.id = h.id {OF_SHARD}
-WHERE {UNUSED_REPORT} ORDER BY h.since LIMIT ?
+WHERE {UNUSED_REPORT} AND {{0}} ORDER BY h.since LIMIT ?
 """
-UNUSED_COUNT = (
-    f"SELECT count(*) FROM suspensions h JOIN sagas s ON s.id = h.id WHERE {UNUSED_REPORT} AND "
-)
+END_FAULT = "h.step = -1 AND h.reason = 'end_call' AND h.detail IS NOT NULL"
+"""Selects the `on_end` calls `h` that no program could start."""
+END_FAULTS = f"""
+SELECT s.key, s.saga, d.definition, 'on_end', NULL, 'run', h.detail, h.since
+FROM suspensions h JOIN sagas s ON s.id = h.id {OF_SHARD}
+WHERE {END_FAULT} AND {{0}} ORDER BY h.since LIMIT ?
+"""
 REPORTERS = """
 SELECT key, value FROM operator_commands
 WHERE command = 'complete' AND answer = 'true' AND key IN ({}) ORDER BY id
@@ -392,13 +345,6 @@ MAX_KEYS = 500
 """How many keys one query has."""
 Reporters = dict[tuple[str, str], str]
 """Who first reported a step, by the saga's key and the step's name."""
-
-
-def unused_report_count(scope: Scope = EVERYTHING) -> Question[int]:
-    """Count the unused reports that wait for an operator."""
-    condition, parameters = scope.where()
-    rows = yield Query(f"{UNUSED_COUNT}{condition}", (*parameters,))
-    return int(rows[0][0])
 
 
 def reporters(keys: Iterable[str]) -> Question[Reporters]:
@@ -417,41 +363,86 @@ def reporters(keys: Iterable[str]) -> Question[Reporters]:
 
 IN_DAMAGED = f"""
 SELECT s.key, s.saga, coalesce(d.definition, ''), 'damaged', NULL, '', l.audit, {DAMAGED_SINCE}
-{DAMAGED} ORDER BY s.id LIMIT ?
+{DAMAGED} AND {{0}} ORDER BY s.id LIMIT ?
 """
 
 
+WITHOUT_NODE = f"""
+SELECT s.key, s.saga, coalesce(d.definition, ''), 'no_node', NULL, '', {NO_NODE_DETAIL},
+  {WITHOUT_NODE_SINCE}
+{NO_NODE} AND {{0}} ORDER BY s.id LIMIT ?
+"""
+
+
+def without_node(
+    limit: int = DEFAULT_LIMIT, *, key: str | None = None, scope: Scope = EVERYTHING
+) -> Question[list[Waits]]:
+    """Return the sagas that no node executes, each as what it waits for.
+
+    Args:
+        limit: The maximum number of sagas.
+        key: Only the saga with this key.
+        scope: Only sagas in this scope.
+    """
+    condition, parameters = scope.condition()
+    if key is not None:
+        condition, parameters = f"{condition} AND s.key = ?", [*parameters, key]
+    rows = yield Query(
+        f"SELECT s.id, s.key, s.saga, {WITHOUT_NODE_SINCE}, {NO_NODE_DETAIL} "
+        f"{NO_NODE} AND {condition} ORDER BY s.id LIMIT ?",
+        (*parameters, limit),
+    )
+    why = AttentionReason.NO_NODE.value
+    return [
+        Waits(id, key, saga, "", False, 0, why, 0, since, None, detail)
+        for id, key, saga, since, detail in rows
+    ]
+
+
 def attention(
-    limit: int = DEFAULT_LIMIT, decode: Callable[[str], str] = unescaped
+    limit: int = DEFAULT_LIMIT,
+    decode: Callable[[str], str] = unescaped,
+    sagas: Filter = ALL_SAGAS,
 ) -> Question[list[Attention]]:
-    """Return what needs an operator, the oldest first. `decode` reads a stored result."""
+    """Return what needs an operator, the oldest first.
+
+    Args:
+        limit: The maximum number of entries.
+        decode: Reads a stored result.
+        sagas: The filter of sagas, without a phase.
+    """
+    condition, values = sagas.condition(of_few=True)
+    parameters = (*values, limit)
     stuck_sagas = f"""
         SELECT s.key, s.saga, d.definition, 'stuck', NULL, NULL, s.outcome,
           s.ended
-        FROM sagas s {OF_SHARD} WHERE {PHASES["stuck"]} ORDER BY s.ended, s.id LIMIT ?
+        FROM sagas s {OF_SHARD} WHERE {PHASES["stuck"]} AND {condition}
+        ORDER BY s.ended, s.id LIMIT ?
         """
     attempts = f"""
         SELECT s.key, s.saga, d.definition,
           h.reason, h.step, h.action, h.detail, h.since
         FROM suspensions h JOIN sagas s ON s.id = h.id {OF_SHARD}
-        WHERE {HELD_BADLY} ORDER BY h.since LIMIT ?
+        WHERE {HELD_BADLY} AND {condition} ORDER BY h.since LIMIT ?
         """
     raised = f"""
         SELECT s.key, r.step, r.event, r.value FROM attempts r JOIN sagas s ON s.id = r.id
         WHERE r.event IN {FAILURE_EVENTS} AND r.id IN (
-          SELECT s.id FROM sagas s WHERE {PHASES["stuck"]} ORDER BY s.ended, s.id LIMIT ?)
+          SELECT s.id FROM sagas s WHERE {PHASES["stuck"]} AND {condition}
+          ORDER BY s.ended, s.id LIMIT ?)
         ORDER BY r.at, r.number
         """
-    rows = yield Query(stuck_sagas, (limit,))
+    rows = yield Query(stuck_sagas, parameters)
     errors = {
         (key, step): (event.startswith("undo"), value.get("error", ""))
-        for key, step, event, text in (yield Query(raised, (limit,)))
+        for key, step, event, text in (yield Query(raised, parameters))
         if was_called(event, value := json.loads(text or "null") or {})
     }
-    rows = rows + (yield undone_query(limit))
-    rows = rows + (yield Query(attempts, (limit,)))
-    rows = rows + (yield Query(IN_DAMAGED, (limit,)))
-    unused = yield Query(UNUSED_REPORTS, (limit,))
+    rows = rows + (yield undone_query(limit, sagas))
+    rows = rows + (yield Query(attempts, parameters))
+    for text in (IN_DAMAGED, WITHOUT_NODE, END_FAULTS):
+        rows = rows + (yield Query(text.format(condition), parameters))
+    unused = yield Query(UNUSED_REPORTS.format(condition), parameters)
     sent_by = yield from reporters(row[0] for row in unused)
     entries = yield from _entries(rows + unused, limit, errors)
     return [_reported(entry, sent_by, decode) for entry in entries]
@@ -470,17 +461,17 @@ def _reported(entry: Attention, sent_by: Reporters, decode: Callable[[str], str]
 
 def undone(limit: int = DEFAULT_LIMIT, scope: Scope = EVERYTHING) -> Question[list[Attention]]:
     """Return permanently failed compensations of unresolved sagas that have ended, oldest first."""
-    rows = yield undone_query(limit, scope)
+    rows = yield undone_query(limit, Filter(scope=scope))
     return (yield from _entries(rows, limit))
 
 
-def undone_query(limit: int, scope: Scope = EVERYTHING) -> Query:
+def undone_query(limit: int, sagas: Filter) -> Query:
     """Return the query for permanently failed compensations."""
-    condition, parameters = scope.where()
+    condition, parameters = sagas.condition(of_few=True)
     return Query(
         f"""
         SELECT s.key, s.saga, d.definition,
-          'undo_failed', r.step, 'undo', r.value, r.at
+          'undo_failed', r.step, 'undo', {LAST_ERROR}, r.at
         FROM sagas s CROSS JOIN attempts r {OF_SHARD}
         WHERE r.id = s.id AND r.event = 'undo_fail' AND {PHASES["undo_failed"]}
           AND {condition} ORDER BY r.at, s.id, r.step LIMIT ?
@@ -501,7 +492,7 @@ def _entries(
     entries = []
     for key, saga, digest, reason, step, action, text, since in rows:
         why = AttentionReason(reason)
-        if digest not in names and why is not AttentionReason.DAMAGED:
+        if digest not in names and why not in (AttentionReason.DAMAGED, AttentionReason.NO_NODE):
             continue
         steps = names.of(digest) if digest in names else []
         name, detail, undo = None if step is None else steps[step], text, action == "undo"

@@ -6,7 +6,7 @@ from collections.abc import Iterable, Iterator, Sequence
 
 from sagas.definition import definition_text
 from sagas.definition.drawing import Groups
-from sagas.definition.labels import TOKEN
+from sagas.definition.labels import is_hidden
 from sagas.definition.layout import ShapeValues, StepOrigin
 from sagas.definition.definition_text import OF
 from sagas.definition.arguments import meant
@@ -113,7 +113,7 @@ def unmatched_warnings(
     if step is not None and is_whole and (why := (yield from _step_warning(step, declared))):
         warnings.append(why)
     for name, value in filter.labels.items():
-        condition, parameters = Filter(labels={name: value}, scope=filter.scope).where()
+        condition, parameters = Filter(labels={name: value}, scope=filter.scope).condition()
         if (yield Query(f"SELECT 1 FROM sagas s WHERE {condition} LIMIT 1", (*parameters,))):
             continue
         names = (yield from _label_names()) if is_whole else [name]
@@ -135,7 +135,7 @@ def _label_names() -> Question[list[str]]:
             break
         last = str(name)
         names.append(last)
-    return [name for name in names if name != TOKEN]
+    return [name for name in names if not is_hidden(name)]
 
 
 def _step_warning(name: str, declared: Iterable[str]) -> Question[str | None]:

@@ -127,7 +127,7 @@ def _bounds(of: Filter, after: Position, before: Position) -> Bounds:
 
 def _are_many(of: Filter) -> Question[bool]:
     """Return whether a filter may select too many sagas to sort them."""
-    if of.phase in RARE:
+    if of.phase in RARE or of.is_for_operator:
         return False
     probes: list[tuple[str, tuple[str, ...]]] = [(LABELED, label) for label in of.labels.items()]
     if of.phase in INDEXED:
@@ -172,11 +172,11 @@ def _rows(
 ) -> Question[list[Summary]]:
     """Return the sagas of a filter within bounds.
 
-    `at` is `s.at` if the index of the starts is used. `form` are options of `Filter.where`.
+    `at` is `s.at` if the index of the starts is used. `form` are options of `Filter.condition`.
     """
     conditions, parameters = _within(bounds, at)
     rest = dataclasses.replace(of, started_after=None, started_before=None)
-    condition_of_filter, more = rest.where(in_order=at == "s.at", **form)
+    condition_of_filter, more = rest.condition(in_order=at == "s.at", **form)
     condition, parameters = " AND ".join([*conditions, condition_of_filter]), [*parameters, *more]
     if limit is None:
         query = f"SELECT {SUMMARY} FROM sagas s WHERE {condition}"

@@ -8,7 +8,7 @@ from collections.abc import Callable, Collection, Hashable, Sequence
 from html import escape
 from typing import NamedTuple, Optional
 
-from sagas.core.outcomes import CANNOT_DECODE
+from sagas.core.outcomes import CANNOT_DECODE, PROGRAM_ERROR
 from sagas.core.states import WAITS_FOR
 from sagas.definition.drawing import ALL, Block, Group, Groups
 from sagas.engine.plan import Choice
@@ -22,6 +22,8 @@ QUESTION_STATES = {
     "unknown": "unknown",
     "exhausted": "exhausted",
     "cannot_decode": "unreadable",
+    "program_error": "program error",
+    "no_definition": "no definition",
 }
 """The state of a step that waits for an operator."""
 TURNS = {
@@ -30,6 +32,8 @@ TURNS = {
     "approval": "waits for a decision",
     "exhausted": "attempts used up",
     CANNOT_DECODE: "stored value unreadable",
+    PROGRAM_ERROR: "error in its program",
+    "no_definition": "no node has its definition",
 }
 """What some attempts wait for, in a few words."""
 SLOTS = ("concurrency", "fleet_concurrency", "rate_limit", "slot")
@@ -64,6 +68,7 @@ def displays_of(view: SagaView) -> list[StepDisplay]:
         if view.plan and view.plan.cost is not None
         else {}
     )
+    has_costs = view.plan is not None and view.plan.pivot is None
     chain = set(view.plan.blocking_steps) if view.plan and view.plan.cost is None else set()
     held = {waits_of_step.step: waits_of_step for waits_of_step in view.held}
     result = []
@@ -75,8 +80,8 @@ def displays_of(view: SagaView) -> list[StepDisplay]:
             if wait
             else "why it is stuck"
             if step.name in chain
-            else decided(choice)
-            if choice
+            else decided(choice, has_costs)
+            if choice and not step.is_optional_failure
             else tried(step.attempts, step.state)
         )
         if step.early:
@@ -87,6 +92,8 @@ def displays_of(view: SagaView) -> list[StepDisplay]:
             if left
             else "to do"
             if step.state == "waiting"
+            else wording.OPTIONAL_FAILURE
+            if step.is_optional_failure
             else wording.STATES[state_of(view, step)]
         )
         tone = icon = step.state
@@ -99,7 +106,7 @@ def displays_of(view: SagaView) -> list[StepDisplay]:
                 why or (tried(step.attempts, "") if step.state == "running" else ""),
             )
         elif wait and wait.why not in ("external", "ordered"):
-            state, icon = "waits", "waiting"
+            state, icon = "paused" if wait.why == "paused" else "waits", "waiting"
         result.append(StepDisplay(state, why, left, tone, icon))
     return result
 
@@ -107,9 +114,9 @@ def displays_of(view: SagaView) -> list[StepDisplay]:
 def waiting(held: Waits) -> str:
     """Describe in a few words what a suspended attempt waits for."""
     if held.why == "external":
-        return f"at {held.said}" if held.said else "claimed by a worker"
-    if held.why == "worker":
-        return held.said or ""
+        return f"at {held.detail}" if held.detail else "claimed by a worker"
+    if held.why in ("worker", "paused"):
+        return held.detail or ""
     if held.asks and held.why == "unknown":
         return "report its outcome"
     if held.why in ("backoff", "retry"):
@@ -119,10 +126,10 @@ def waiting(held: Waits) -> str:
     return TURNS.get(held.why) or f"until {wording.clock(held.until)}"
 
 
-def decided(choice: Choice) -> str:
-    """Describe what the plan decided about a step, and the cost of that."""
+def decided(choice: Choice, has_costs: bool) -> str:
+    """Describe what the plan decided about a step, and the cost of that if it was declared."""
     cost = choice.cost_to_keep if choice.kept else choice.cost_to_drop
-    text = f", costs {cost:,}" if cost else ""
+    text = f", costs {cost:,}" if cost and has_costs else ""
     return f"plan: {wording.DECISIONS[choice.decision]}{text}"
 
 

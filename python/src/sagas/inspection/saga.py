@@ -4,36 +4,48 @@ from __future__ import annotations
 
 import json
 from collections import Counter
-from collections.abc import Callable, Mapping
+from collections.abc import Callable, Container, Mapping
 from typing import Any
 
 from sagas.base.errors import NoSuchSaga
 from sagas.core import states as states_module
-from sagas.core.batch import SagaRow
+from sagas.core.shard.batch import SagaRow
 from sagas.core.history import (
     EFFECT_STATES,
-    FAILED_STATES,
     AttemptEnd,
     Projection,
     attempts_of,
-    errors_of,
     events_of,
+    is_error_shown,
+    last_failures,
     last_values,
+    optional_failures_of,
     results_of,
     saga_events,
     was_called,
 )
 from sagas.core.results import HistoryEvent, Summary
-from sagas.core.states import EarlyReason, StepState
+from sagas.core.states import EarlyReason, SagaPhase, StepState
 from sagas.definition import definition_text, tokens
 from sagas.definition.arguments import BELOW
 from sagas.definition.capacity import SHARD_CAPACITY
+from sagas.definition.erasure import erasure_of
+from sagas.definition.labels import RESTART, restart_value, restarted
 from sagas.definition.task_data import Progress
 from sagas.engine.plan import Plan
-from sagas.inspection.lists import waits
+from sagas.inspection.lists import waits, without_node
 from sagas.inspection.names import step_names
 from sagas.inspection.question import Query, Question
-from sagas.inspection.views import Note, Noted, Relative, SagaView, StepView
+from sagas.inspection.views import (
+    EndCall,
+    Note,
+    Noted,
+    Relative,
+    Relatives,
+    RestartLink,
+    SagaView,
+    StepView,
+)
 from sagas.storage import queries
 
 Read = Callable[[str], Any]
@@ -47,7 +59,9 @@ SPANS = "SELECT step, action, number, spans FROM attempt_spans WHERE id = ? ORDE
 ELSEWHERE = """
 SELECT step, action, number, offered_at, since, worker, lease FROM external_attempts WHERE id = ?
 """
-EARLY = "SELECT step, reason FROM suspensions WHERE id = ? AND number = 0"
+OWNERS = f"SELECT t.node, t.at FROM {queries.TAKEOVERS} t WHERE t.shard = ? ORDER BY t.id"
+EARLY = "SELECT step, reason FROM suspensions WHERE id = ? AND number = 0 AND step >= 0"
+END_DUE = "SELECT detail FROM suspensions WHERE id = ? AND step = -1 AND reason = 'end_call'"
 EARLY_COMMANDS = {
     EarlyReason.RESULT: "complete",
     EarlyReason.ERROR: "fail",
@@ -83,6 +97,25 @@ def definition(id: int) -> Question[str]:
     return str(rows[0][0])
 
 
+def to_restart(key: str) -> Question[tuple[SagaRow, str, int]]:
+    """Return the row of a saga, its phase, and the version of its definition.
+
+    Raises `NoSuchSaga`.
+    """
+    row = yield from there(key)
+    text = yield from definition(row.id)
+    phases = yield Query(f"SELECT {queries.PHASE} FROM sagas s WHERE s.id = ?", (row.id,))
+    if not phases:
+        raise NoSuchSaga(f"no saga has the key {key!r}")
+    return row, str(phases[0][0]), definition_text.version_of(text)
+
+
+def version(key: str) -> Question[int | None]:
+    """Return the version of a saga's definition, or None if no saga has the key."""
+    rows = yield Query(f"SELECT {queries.HEAD} FROM sagas s WHERE key = ?", (key,))
+    return definition_text.version_of(rows[0][0]) if rows and rows[0][0] is not None else None
+
+
 def _token(id: int) -> Question[str]:
     rows = yield Query("SELECT name FROM shards WHERE shard = ?", (id // SHARD_CAPACITY,))
     if not rows:
@@ -99,7 +132,8 @@ class _Kept:
         self.names = step_names(stored.definition)
         self.lines = saga_events(stored.chunks, row.id % SHARD_CAPACITY)
         self.attempts = attempts_of(self.names, stored.results, read)
-        self.history = Projection(self.names, self.lines)
+        self.failed = optional_failures_of(self.attempts)
+        self.history = Projection(self.names, self.lines, self.failed)
 
     @property
     def events(self) -> list[HistoryEvent]:
@@ -109,7 +143,8 @@ class _Kept:
     def plan(self) -> Plan | None:
         if self.history.adopted is None:
             return None
-        return Plan(self.row.saga, self.row.key, self.definition, *self.history.adopted)
+        adopted = self.history.adopted
+        return Plan(self.row.saga, self.row.key, self.definition, *adopted, self.failed)
 
 
 def _kept(row: SagaRow, read: Read = json.loads) -> Question[_Kept]:
@@ -141,8 +176,10 @@ def notes(key: str, read: Read = json.loads) -> Question[list[Note]]:
 
 
 def _command_details(value: str | None, read: Read) -> dict[str, Any]:
-    """Return the details of a command, with the reported result decoded."""
+    """Return the details of a command, without its way, with the reported result decoded."""
     details: dict[str, Any] = json.loads(value or "null") or {}
+    details.pop("bulk", None)
+    details.pop("via", None)
     if "result" in details:
         details["result"] = read(json.dumps(details["result"], separators=(",", ":")))
     return details
@@ -154,7 +191,6 @@ def view(key: str, read: Read = json.loads) -> Question[SagaView | None]:
         (*columns, recovered, undo_failed, labels, deadline) = rows[0]
         row = SagaRow(*columns)
         try:
-            labels = queries.labels_of(labels)
             result = yield from _view(
                 row, bool(recovered), bool(undo_failed), labels, deadline, read
             )
@@ -171,19 +207,22 @@ def _view(
     row: SagaRow,
     recovered: bool,
     undo_failed: bool,
-    labels: dict[str, str],
+    labels: str | None,
     deadline: float | None,
     read: Read,
 ) -> Question[SagaView]:
     """Return a saga's view. Raises `NoSuchSaga` if the saga is deleted concurrently."""
     kept = yield from _kept(row, read)
     held = yield from waits(MAX_HELD, person=False, key=row.key)
+    if row.phase is None:
+        held += yield from without_node(1, key=row.key)
     done = yield from notes(row.key, read)
     token = yield from _token(row.id)
     history, results = kept.history, results_of(kept.attempts)
     progress = {row[:3]: Progress(*row[3:]) for row in (yield Query(PROGRESS, (row.id,)))}
     spans = yield Query(SPANS, (row.id,))
     elsewhere = yield Query(ELSEWHERE, (row.id,))
+    owners = yield Query(OWNERS, (row.id // SHARD_CAPACITY,))
     early_rows = yield Query(EARLY, (row.id,))
     early = {
         step: EARLY_COMMANDS[EarlyReason(why)] for step, why in early_rows if row.phase is None
@@ -191,6 +230,8 @@ def _view(
     left = sorted(step for step, why in early_rows if row.phase and why == EarlyReason.RESULT)
     states = zip(kept.names, history.states)
     parent, children = yield from relatives(row.id, row.key)
+    end_call = yield from end_call_of(row.id)
+    old, restarts = yield from restart_links(row, json.loads(labels or "{}").get(RESTART))
     return SagaView(
         summary=Summary(
             row.id,
@@ -201,14 +242,15 @@ def _view(
             row.ended,
             row.note,
             undo_failed,
-            labels,
+            queries.labels_of(labels),
             deadline,
+            definition_text.version_of(kept.definition),
         ),
         aborted=history.aborted,
         input=read(row.input),
-        end=json.loads(row.end) if row.end else None,
+        end=_shown_end(row.end, kept),
         results={n: results[n] for n, state in states if state in EFFECT_STATES and n in results},
-        steps=steps_of(kept.definition, history, kept.attempts, progress, early),
+        steps=steps_of(kept.definition, history, kept.attempts, progress, early, kept.failed),
         plan=kept.plan,
         held=held,
         events=kept.events,
@@ -218,12 +260,24 @@ def _view(
         notes=done,
         definition=kept.definition,
         token=token,
-        noted=Noted(spans, elsewhere),
-        parent=parent,
-        children=children,
+        noted=Noted(spans, elsewhere, [(str(node), float(at)) for node, at in owners]),
+        relatives=Relatives(parent, children, old, restarts),
+        end_call=end_call,
         shape=kept.shape,
         unused=[kept.names[step] for step in left],
+        erased=erasure_of(row.input),
     )
+
+
+def _shown_end(text: str | None, kept: _Kept) -> dict[str, Any] | None:
+    """Return a saga's stored outcome, in which steps with an optional failure are failed."""
+    if text is None:
+        return None
+    end: dict[str, Any] = json.loads(text)
+    failed = {index for index, name in enumerate(kept.names) if name in kept.failed}
+    for index in failed:
+        end["states"][index] = StepState.FAILED.value
+    return end | {"kept": [index for index in end["kept"] if index not in failed]}
 
 
 def steps_of(
@@ -232,17 +286,19 @@ def steps_of(
     attempts: list[AttemptEnd],
     progress: Mapping[tuple[Any, ...], Progress],
     early: Mapping[int, str],
+    failed: Container[str],
 ) -> list[StepView]:
     """Return the steps of a saga in their current states.
 
     `progress` is by step, action and attempt. `early` are reports of steps that have not started.
+    `failed` are the steps with an optional failure.
     """
     now = {
         (entry.step, entry.undo): entry.attempt
         for entry in history.stretches()
         if entry.ended is None
     }
-    last, done, errors = last_values(attempts), results_of(attempts), errors_of(attempts)
+    last, done, failures = last_values(attempts), results_of(attempts), last_failures(attempts)
     skipped = Counter(
         entry.step
         for entry in attempts
@@ -260,21 +316,35 @@ def steps_of(
                 (done if state in EFFECT_STATES else last).get(name),
                 history.began.get(index),
                 history.ended.get(index),
-                errors.get(name) if state in FAILED_STATES else None,
+                _error_of(state, failures.get(name)),
                 progress.get((index, "run", now.get((name, False), 0)))
                 or progress.get((index, "undo", now.get((name, True), 0))),
                 early.get(index) if state == StepState.WAITING else None,
+                history.engine_states[index].value if name in failed else None,
             )
         )
     return steps
+
+
+def _error_of(state: str, failure: dict[str, Any] | None) -> str | None:
+    """Return the error that is shown with a step's state, given its last failed attempt."""
+    if failure is None or not is_error_shown(state, failure):
+        return None
+    return str(failure.get("error", ""))
 
 
 PARENT = f"""
 SELECT s.key, s.saga, {queries.PHASE} FROM children c JOIN sagas s ON s.id = c.parent WHERE c.id = ?
 """
 CHILDREN = f"""
-SELECT s.key, s.saga, {queries.PHASE} FROM children c JOIN sagas s ON s.id = c.id
-WHERE c.parent = ? ORDER BY s.at, s.id LIMIT {{limit}}
+SELECT s.key, s.saga, {queries.PHASE}, (SELECT count(*) FROM children b WHERE b.parent = c.id)
+FROM children c JOIN sagas s ON s.id = c.id
+WHERE c.parent = ? AND NOT {queries.CALLS_END} ORDER BY s.at, s.id LIMIT {{limit}}
+"""
+END_CALL = f"""
+SELECT s.key, {queries.PHASE},
+  EXISTS (SELECT 1 FROM suspensions WHERE id = s.id AND {queries.HELD_BADLY})
+FROM children c JOIN sagas s ON s.id = c.id WHERE c.parent = ? AND {queries.CALLS_END}
 """
 MAX_CHILDREN = 1024
 """How many children of a saga are listed."""
@@ -289,7 +359,41 @@ def relatives(id: int, key: str) -> Question[tuple[Relative | None, list[Relativ
         for relative, saga, phase in above
     ]
     children = [
-        Relative(relative, saga, phase, relative[len(key + BELOW) :])
-        for relative, saga, phase in below
+        Relative(relative, saga, phase, relative[len(key + BELOW) :], count)
+        for relative, saga, phase, count in below
     ]
     return parent[0] if parent else None, children
+
+
+def end_call_of(id: int) -> Question[EndCall | None]:
+    """Return the call of the `on_end` function of a saga, or None if there is none."""
+    for key, phase, waits_for_person in (yield Query(END_CALL, (id,))):
+        if phase == SagaPhase.OPEN:
+            return EndCall("person" if waits_for_person else "running", key)
+        return EndCall("done" if phase != SagaPhase.STUCK else "person", key)
+    for (detail,) in (yield Query(END_DUE, (id,))):
+        return EndCall("due" if detail is None else "blocked", None, detail)
+    return None
+
+
+OLD = f"SELECT s.key, s.saga, {queries.PHASE} FROM sagas s WHERE s.id = ? AND s.key = ?"
+RESTARTS = f"""
+SELECT s.key, s.saga, {queries.PHASE} FROM labels b JOIN sagas s ON s.id = b.id
+WHERE b.name = '{RESTART}' AND b.value = ? ORDER BY s.at, s.id LIMIT {MAX_CHILDREN}
+"""
+
+
+def restart_links(
+    row: SagaRow, value: str | None
+) -> Question[tuple[RestartLink | None, list[RestartLink]]]:
+    """Return the saga that a saga restarts, and those that restart it, in the order of starts.
+
+    `value` is the value of its hidden label, or None.
+    """
+    old = None
+    if value is not None:
+        id, key = restarted(value)
+        rows = yield Query(OLD, (id, key))
+        old = RestartLink(*rows[0]) if rows else RestartLink(key, row.saga, None)
+    below = yield Query(RESTARTS, (restart_value(row.id, row.key),))
+    return old, [RestartLink(*link) for link in below]

@@ -10,7 +10,15 @@ from typing import Any, NamedTuple
 
 from sagas.base.wording import number
 from sagas.core.history import FAILURE_EVENTS, START_EVENTS, AttemptEnd, Stretch, was_called
-from sagas.core.spans import AGAIN_WORD, LEASED_WORD, PERSON_WORD, QUEUED_WORD, RUNNING_WORD
+from sagas.core.spans import (
+    AGAIN_WORD,
+    FLEET_CONCURRENCY_WORD,
+    LEASED_WORD,
+    PERSON_WORD,
+    QUEUED_WORD,
+    RATE_LIMIT_WORD,
+    RUNNING_WORD,
+)
 from sagas.core.states import Suspension
 from sagas.definition import definition_text
 from sagas.inspection import wording
@@ -23,10 +31,11 @@ STATES: dict[str, tuple[str, str | None]] = {
     QUEUED_WORD: ("queued", "slot"),
     "slot": ("queued", "slot"),
     "concurrency": ("queued", "concurrency"),
-    "fleet_concurrency": ("queued", "fleet_limit"),
-    "rate_limit": ("queued", "fleet_limit"),
+    FLEET_CONCURRENCY_WORD: ("queued", "fleet_limit"),
+    RATE_LIMIT_WORD: ("queued", "rate_limit"),
     Suspension.STEP_LIMIT.value: ("queued", "concurrency"),
     Suspension.FLEET_LIMIT.value: ("queued", "fleet_limit"),
+    Suspension.PAUSED.value: ("queued", "paused"),
     RUNNING_WORD: ("running", None),
     AGAIN_WORD: ("running", None),
     LEASED_WORD: ("running", "worker"),
@@ -39,6 +48,8 @@ STATES: dict[str, tuple[str, str | None]] = {
     PERSON_WORD: ("waiting", "person"),
     Suspension.EXHAUSTED.value: ("waiting", "exhausted"),
     Suspension.CANNOT_DECODE.value: ("waiting", "cannot_decode"),
+    Suspension.PROGRAM_ERROR.value: ("waiting", "program_error"),
+    Suspension.NO_DEFINITION.value: ("waiting", "no_definition"),
     Suspension.TIMER.value: ("waiting", "wait"),
     Suspension.APPROVAL.value: ("waiting", "approval"),
     Suspension.CHILD.value: ("waiting", "child"),
@@ -62,6 +73,8 @@ FIRST = {
     ("queued", "slot"),
     ("queued", "concurrency"),
     ("queued", "fleet_limit"),
+    ("queued", "rate_limit"),
+    ("queued", "paused"),
 }
 """First spans that can begin an attempt. All other recorded spans follow a call."""
 CALLED_AGAIN = "called again: the program that called it before has ended"
@@ -75,9 +88,10 @@ class Span:
 
     Attributes:
         state: `queued`, `running`, `waiting` or `backoff`.
-        why: The reason: of a queued attempt `slot`, `concurrency` or `fleet_limit`; of a waiting
-            one `approval`, `wait`, `child`, `worker`, `unknown`, `person`, `exhausted` or
-            `cannot_decode`; of a running one `worker` if a worker has it.
+        why: The reason: of a queued attempt `slot`, `concurrency`, `fleet_limit`, `rate_limit` or
+            `paused`; of a waiting one `approval`, `wait`, `child`, `worker`, `unknown`, `person`,
+            `exhausted`, `cannot_decode` or `program_error`; of a running one `worker` if a worker
+            has it.
         began: Wall time, in seconds since 1970.
         ended: Wall time, or None if it has not ended.
         worker: The worker that had the attempt, if any.
@@ -187,10 +201,10 @@ def _times(
 def _is_of(note: Note, stretch: Stretch) -> bool:
     """Return whether a command concerns this attempt. A report may come before its step begins."""
     is_undo, is_early = (
-        note.told.get("kind") == "undo",
+        note.arguments.get("kind") == "undo",
         note.what != "retry" and stretch.attempt == 1,
     )
-    is_same = (note.told.get("step"), is_undo) == (stretch.step, stretch.undo)
+    is_same = (note.arguments.get("step"), is_undo) == (stretch.step, stretch.undo)
     return is_same and (note.at >= stretch.began or is_early)
 
 
@@ -256,7 +270,7 @@ def _now(
         word = LEASED_WORD
     if STATES.get(word, ("", word)) == last or last == ("running", "worker") == STATES.get(word):
         return []
-    worker = held.said if word == LEASED_WORD else None
+    worker = held.detail if word == LEASED_WORD else None
     return [_mark(word, max(held.since, stretch.began), None, worker)]
 
 
@@ -306,10 +320,10 @@ def decisions(view: SagaView) -> list[dict[str, Any]]:
         {
             "command": note.what,
             "at": note.at,
-            "step": note.told.get("step"),
-            "undo": note.told.get("kind") == "undo",
-            "by": note.told.get("by"),
-            "note": note.told.get("note"),
+            "step": note.arguments.get("step"),
+            "undo": note.arguments.get("kind") == "undo",
+            "by": note.arguments.get("by"),
+            "note": note.arguments.get("note"),
             "accepted": None if note.answer is None else note.answer is True,
         }
         for note in view.notes
@@ -329,7 +343,7 @@ TONES = {"retried": "missed", "not_called": "waiting", None: "running"}
 VERBS = {"queued": "queued", "running": "ran", "waiting": "waited", "backoff": "backed off"}
 HEIGHTS = {"running": 16, "waiting": 10, "queued": 4, "backoff": 2}
 """The height of the bar of each state."""
-PERSON = ("approval", "exhausted", "person", "cannot_decode")
+PERSON = ("approval", "exhausted", "person", "cannot_decode", "program_error", "no_definition")
 """The reasons for which an attempt waits for an operator."""
 
 

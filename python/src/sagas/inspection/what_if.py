@@ -14,7 +14,7 @@ from sagas.inspection.views import SagaView, StepView
 MAX_LISTED = 8
 ENDS = {"running": "committed", "undoing": "undone"}
 """The states in which active steps are assumed to end."""
-CALLED = ("external", "ordered", "unknown", "cannot_decode")
+CALLED = ("external", "ordered", "unknown", "cannot_decode", "program_error", "no_definition")
 """Reasons of suspended attempts that may have had their effect. Other attempts are given up by an
 abort, and by a failure if the step may be attempted again.
 """
@@ -41,11 +41,11 @@ def of(
     If a step is being undone, `failed` and `done` are about its compensation.
 
     Raises:
-        ValueError: The step has ended already, or there is no such step.
+        ValueError: The step has ended already, or does not exist.
     """
-    states = {step.name: step.state for step in view.steps}
+    states = {step.name: step.engine_state for step in view.steps}
     if failed is not None and states.get(failed) not in ("waiting", *ENDS):
-        state = states.get(failed)
+        state = next((step.state for step in view.steps if step.name == failed), None)
         raise ValueError(f"the step is {state}" if state else "the saga has no such step")
     aborted = abort or view.aborted
     assumed = _assumed(view, aborted)
@@ -61,7 +61,8 @@ def of(
         case["aborted"] = True
     verdict = library.plan(view.definition, json.dumps(case))
     answer = json.loads(verdict.text)
-    return WhatIf(Plan(view.saga, view.key, view.definition, case, answer), assumed)
+    optional = frozenset(step.name for step in view.steps if step.is_optional_failure)
+    return WhatIf(Plan(view.saga, view.key, view.definition, case, answer, optional), assumed)
 
 
 def _failed(view: SagaView) -> dict[str, str]:
@@ -80,7 +81,7 @@ def _failed(view: SagaView) -> dict[str, str]:
         step.name: end
         for step in view.steps
         for (state, undo), end in ends.items()
-        if step.state == state and (step.name, undo) in final
+        if step.engine_state == state and (step.name, undo) in final
     }
 
 
@@ -92,11 +93,11 @@ def _assumed(view: SagaView, aborted: bool) -> dict[str, str]:
     tries = {entry.name: entry.tries for entry in definition_text.listed_steps(view.definition)}
     assumed = {}
     for step in view.steps:
-        if step.state not in ENDS:
+        if step.engine_state not in ENDS:
             continue
         is_left = step.state == "running" and waits.get(step.name, CALLED[0]) not in CALLED
         may_wait = aborted or step.attempts < tries[step.name]
-        assumed[step.name] = "waiting" if is_left and may_wait else ENDS[step.state]
+        assumed[step.name] = "waiting" if is_left and may_wait else ENDS[step.engine_state]
     return assumed
 
 
@@ -113,7 +114,8 @@ def describe(forecast: WhatIf) -> str:
     text = ", ".join(parts) or "nothing has to be undone"
     assumed = [step for step, state in forecast.assumed.items() if state == "committed"]
     more = f" (if {listed(assumed)} succeeds)" if assumed else ""
-    return f"{text[0].upper()}{text[1:]}: costs {forecast.plan.cost:,}{more}"
+    costs = f": costs {forecast.plan.cost:,}" if forecast.plan.pivot is None else ""
+    return f"{text[0].upper()}{text[1:]}{costs}{more}"
 
 
 def describe_abort(view: SagaView) -> str:
@@ -128,9 +130,9 @@ def describe_failure(view: SagaView, step: str) -> str:
 
 def describe_completion(view: SagaView, step: str) -> str:
     """Describe what happens if a step, or its compensation, succeeds."""
-    if view.aborted or any(other.state in RECOVERS for other in view.steps):
+    if view.aborted or any(other.engine_state in RECOVERS for other in view.steps):
         return describe(of(view, done=step))
-    done = {other.name for other in view.steps if other.state == "committed"} | {step}
+    done = {other.name for other in view.steps if other.engine_state == "committed"} | {step}
     left = [other for other in view.steps if other.name not in done]
     if not left:
         return "The saga is completed"

@@ -5,7 +5,7 @@ from __future__ import annotations
 import datetime
 import json
 import re
-from collections.abc import Iterable, Iterator
+from collections.abc import Iterable, Iterator, Mapping
 from typing import Any
 
 from sagas.definition.payloads import unescaped
@@ -20,6 +20,8 @@ STATES = {
     "undone": "undone",
     "undo_failed": "undo failed",
 }
+OPTIONAL_FAILURE = "failed, optional"
+"""The state of a failed step without which the saga continued."""
 PHASES = {
     "open": "Open",
     "completed": "Completed",
@@ -31,9 +33,11 @@ PHASES = {
 EVENTS = {
     "open": "started",
     "start_run": "begins",
+    "call": "is called again",
     "commit": "is done",
     "missed": "failed, will be retried",
     "fail": "failed permanently",
+    "optional_failure": "failed, and is optional",
     "start_undo": "is being undone",
     "undone": "is undone",
     "undo_missed": "compensation failed, will be retried",
@@ -46,6 +50,7 @@ EVENTS = {
 TONES = {
     "commit": "good",
     "fail": "ill",
+    "optional_failure": "warn",
     "undo_fail": "ill",
     "missed": "warn",
     "undo_missed": "warn",
@@ -67,9 +72,26 @@ WAITS = {
     "person": "unknown: an operator reports it",
     "unknown": "unknown: will be called again",
     "cannot_decode": "unreadable",
+    "program_error": "error in its program: an operator decides",
+    "no_definition": "waits for a node that has its definition",
     "wait": "waits for its timer",
 }
 """What an attempt waits for, by `Span.why`."""
+WAITED_FOR = {
+    "approval": "a decision",
+    "worker": "a worker",
+    "external": "a worker's report",
+    "exhausted": "an operator: exhausted",
+    "person": "an operator: unknown",
+    "unknown": "another call",
+    "retry": "another call",
+    "cannot_decode": "a program that can read it",
+    "program_error": "an operator: program error",
+    "no_definition": "a node with its definition",
+    "wait": "its timer",
+    "child": "a child",
+}
+"""What a saga waits for, by `PageWait.why`."""
 DECISIONS = {"stands": "keep", "is run": "run", "is undone": "undo", "is left out": "skip"}
 """What a plan does with a step, by `Choice.decision`, in the words of definitions and of the
 planner page.
@@ -80,7 +102,9 @@ ACTS = {
     "fail": "reported that a step failed",
     "retry": "retried a step",
     "compensate": "compensated a step",
-    "resolve": "marked it as resolved",
+    "restart": "restarted the saga",
+    "resolve": "resolved it",
+    "erase": "erased its data",
 }
 
 
@@ -88,6 +112,8 @@ def wait(why: str | None, state: str) -> str:
     """Describe what an active attempt does now, by its last span."""
     if state == "waiting" and why in WAITS:
         return WAITS[why]
+    if why == "paused":
+        return "is paused"
     return {"backoff": "backs off", "running": "runs", "queued": "is queued"}.get(state, "waits")
 
 
@@ -136,7 +162,7 @@ def ago(seconds: float) -> str:
 
 
 LARGE = 10_000
-"""Characters from which a value is not parsed at once: 1 MiB takes about 20 ms."""
+"""A value of this many characters is not parsed at once: 1 MiB takes about 20 ms."""
 TOKENS = re.compile(r'("(?:[^"\\]|\\u[0-9a-f]{4}|\\[^u])*)("?)|[,:]')
 """The parts of compact JSON that look different when shown: strings, which may be cut off, and
 separators.
@@ -249,3 +275,11 @@ def _pieces(chunks: Iterable[str]) -> Iterator[str]:
     for chunk in chunks:
         for at in range(0, len(chunk), PIECE):
             yield chunk[at : at + PIECE]
+
+
+def call_text(value: Mapping[str, Any]) -> str:
+    """Return a repeated call of an attempt on one line."""
+    outcome = {"retried": "failed", None: "under way"}.get(value["outcome"], value["outcome"])
+    by = value["worker"] or value["node"]
+    parts = [f"call {value['number']}: {outcome}", value["error"], by and f"on {by}"]
+    return ", ".join(part for part in parts if part)

@@ -10,8 +10,8 @@ from collections.abc import Collection, Mapping
 from typing import TYPE_CHECKING
 
 from sagas.core.effects import NO_RARE_EFFECTS, Abort, Effects
-from sagas.core.attempt import Attempt
-from sagas.core.saga_instance import SagaInstance
+from sagas.core.attempt.model import Attempt
+from sagas.core.attempt.instance import SagaInstance
 from sagas.core.recovery import Recovery
 from sagas.storage.interface import Database
 from sagas.storage.record_file import BEYOND, RecordFile, Rest
@@ -27,7 +27,11 @@ class Acknowledgements:
     """
 
     def __init__(self, record: RecordFile) -> None:
-        self._record, self._acknowledge, self._sessions = record, record.told, record.sessions
+        self._record, self._acknowledge, self._sessions = (
+            record,
+            record.acknowledge,
+            record.sessions,
+        )
         self._aborts: dict[SagaInstance, dict[Abort, Rest]] = {}
         self._called: Rest | None = None  # what the last call rested on
         self._woken: Rest | None = None  # what the last notification rested on

@@ -8,9 +8,10 @@ from collections.abc import Callable
 from sagas.base import program
 from sagas.base.errors import EngineError, SagasError, ShardLost
 from sagas.base.events import EventEmitter
-from sagas.core import protocol
-from sagas.core.batch import Batch
-from sagas.core.shard import ShardDriver
+from sagas.base.pauses import doubling_pauses
+from sagas.core.shard.batch import Batch
+from sagas.core.shard.driver import ShardDriver
+from sagas.definition.capacity import HEADER
 from sagas.runtime.commit_queue import CommitQueue
 from sagas.storage import queries
 from sagas.storage.interface import Database
@@ -33,7 +34,7 @@ async def verdict(program_path: str, text: str, definitions: list[str]) -> tuple
         EngineError: The program returned no verdict, for example because it was killed.
     """
     process = await asyncio.to_thread(
-        program.run, "audit", [protocol.HEADER + text, *definitions], program_path
+        program.run, "audit", [HEADER + text, *definitions], program_path
     )
     message = (process.stdout + process.stderr).strip()
     if process.returncode < 0 or process.returncode == program.SYSTEM_ERROR_STATUS:
@@ -63,7 +64,7 @@ class Auditor:
 
         If the shard cannot be read, audited or written, the auditor retries with longer pauses.
         """
-        pause = FIRST_PAUSE
+        pauses = doubling_pauses(FIRST_PAUSE, MAX_PAUSE)
         while True:
             try:
                 await self._close(driver)
@@ -72,8 +73,7 @@ class Auditor:
             except (SagasError, OSError) as error:
                 detail = f"shard {driver.name} could not be closed yet: {error}"
                 self._teller.emit("commit_failed", detail=detail)
-                await asyncio.sleep(pause)
-                pause = min(MAX_PAUSE, 2 * pause)
+                await asyncio.sleep(next(pauses))
             else:
                 self._teller.emit("shard_closed", detail=driver.name)
                 return

@@ -10,6 +10,7 @@ import asyncio
 import contextvars
 import functools
 import inspect
+import logging
 import os
 import time
 import types
@@ -21,11 +22,12 @@ from typing import TYPE_CHECKING, Any
 from sagas.base.errors import CannotDecode, ShardLost
 from sagas.base.fork_guard import private_descriptors
 from sagas.base.logger import logger
-from sagas.core import outcomes, spans
-from sagas.core.attempt import Attempt, QUEUED, RUNNING, finish_all, start_all
-from sagas.core.saga_instance import SagaInstance
+from sagas.base.wording import number
+from sagas.core import outcomes
+from sagas.core.attempt.model import Attempt, QUEUED, RUNNING, finish_all, start_all
+from sagas.core.attempt.instance import SagaInstance
 from sagas.core.outcomes import Outcome
-from sagas.core.step_transactions import StepTransactions
+from sagas.core.attempt.step_transactions import StepTransactions
 from sagas.definition import awaitables
 from sagas.definition.payloads import BlobUnavailable
 from sagas.definition.call_options import Function, Manner
@@ -42,6 +44,8 @@ if TYPE_CHECKING:
 
 QUIET = 1.0
 """Seconds that closing waits before it logs which functions it waits for."""
+MAX_NAMED = 8
+"""Functions that a line of the log names."""
 FORKED = 70
 """The exit status of a forked child process that returned from a step function."""
 MAX_BATCH = 256
@@ -222,7 +226,7 @@ class Dispatcher:
             take = inside.enter(attempt)
             if take is None:
                 return self._wait(attempt, began, task, inside.within(attempt, function, task))
-            task.enter_by(take)
+            task._enter_by(take)
         try:
             work = function(task)
             if type(work) is not types.CoroutineType:  # an awaitable of another type
@@ -230,7 +234,7 @@ class Dispatcher:
             waits_for = context.run(driver.send, work)
         except BaseException as error:
             self._driver = _CoroutineDriver()
-            if inside and task.leave() is not None:
+            if inside and task._leave() is not None:
                 return self._wait(attempt, began, task, inside.end(attempt, task, _raised(error)))
             self._failed(attempt, began, inside.raised(error) if inside else error)
             return None
@@ -243,7 +247,7 @@ class Dispatcher:
             attempt.outcome = outcomes.succeeded(value, task)
         except outcomes.Unawaited:
             return self._suspended(attempt, function, began, task, _awaited_value(value, context))
-        if inside and task.leave() is not None:
+        if inside and task._leave() is not None:
             return self._suspended(attempt, function, began, task, awaitables.awaited(value))
         self._succeeded.append(attempt)
         if len(self._succeeded) >= self._batch_limit:
@@ -449,6 +453,7 @@ class Calls:
         self._leave(attempt)
         if attempt.state is QUEUED and not self._executor.closing:
             gate.hold(attempt, first=True)
+            attempt.note(self._clock())
 
     async def _call(self, attempt: Attempt) -> None:
         if not self.begins(attempt):
@@ -498,28 +503,34 @@ class Calls:
     async def end(self, timeout: float | None) -> set[asyncio.Task[None]]:
         """Wait for running functions; return the tasks that did not end in time.
 
-        After a while it logs the functions that it waits for.
+        It logs the functions that it waits for: at once for information, and after a while as a
+        warning, which a program without a log prints.
         """
         running = {job for job in self.running.values() if job}
         if not running:
             return set()
         quiet = QUIET if timeout is None else min(timeout, QUIET)
+        if quiet:
+            self._log_wait(logging.INFO, running, timeout)
         _, late = await asyncio.wait(running, timeout=quiet)
         if late and (timeout is None or timeout > QUIET):
-            running_items = self.running.items()
-            names = sorted(
-                f"{attempt.name} of {attempt.key!r}"
-                for attempt, job in running_items
-                if job in late
-            )
-            logger.warning(
-                "closing waits for %d running functions%s: %s",
-                len(names),
-                f", for at most {timeout:g} s" if timeout else "",
-                ", ".join(names[:8]),
-            )
+            self._log_wait(logging.WARNING, late, timeout)
             _, late = await asyncio.wait(late, timeout=None if timeout is None else timeout - QUIET)
         return late
+
+    def _log_wait(self, level: int, jobs: set[asyncio.Task[None]], timeout: float | None) -> None:
+        """Log the functions that closing waits for."""
+        calls = [attempt for attempt, job in self.running.items() if job in jobs]
+        names = sorted(f"{attempt.name} of {attempt.key!r}" for attempt in calls)
+        more = ", ..." if len(names) > MAX_NAMED else ""
+        logger.log(
+            level,
+            "closing waits for %s%s: %s%s",
+            number(len(names), "running function"),
+            f", for at most {timeout:g} s" if timeout else "",
+            ", ".join(names[:MAX_NAMED]),
+            more,
+        )
 
     # -- calls by the dispatchers
 
@@ -536,7 +547,7 @@ class Calls:
             if self._called is not None:
                 self._called(attempt)
             if attempt.extras is not None:
-                spans.note_again(attempt, self._clock())
+                attempt.note_again(self._clock())
             if self._teller.has_hook:
                 self._executor.emit(attempt, "step_started")
             return True

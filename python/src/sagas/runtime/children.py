@@ -9,29 +9,34 @@ from typing import TYPE_CHECKING, Any, NamedTuple, Protocol
 from sagas.base.errors import (
     CannotDecode,
     Closed,
+    Fail,
     InvalidResult,
     KeyConflict,
     MissingStep,
     NoSuchSaga,
+    ProgramError,
+    Retry,
     SagaMoved,
     SagasError,
     TemporaryError,
+    Unknown,
 )
 from sagas.base.logger import logger
-from sagas.core import children, outcomes
-from sagas.core.attempt import Attempt, SUSPENDED
+from sagas.core import outcomes
+from sagas.core.attempt import child_attempts
+from sagas.core.attempt.model import Attempt, SUSPENDED
 from sagas.core.outcomes import SUCCEEDED, Outcome
-from sagas.core.results import SagaResult
+from sagas.definition.saga_result import SagaResult
 from sagas.core.states import Suspension
-from sagas.definition import children as child_keys, tokens
+from sagas.definition import child_sagas as child_keys, tokens
 from sagas.definition.arguments import BELOW
 from sagas.definition.capacity import SHARD_CAPACITY
 from sagas.definition.compiled import CompiledDefinition
-from sagas.definition.labels import TOKEN
-from sagas.definition.saga import Saga
+from sagas.definition.parts import SagaParts
 from sagas.definition.start_options import StartOptions, deadline_at
 from sagas.runtime import stored_values
 from sagas.runtime.stored_values import ValueReader
+from sagas.storage import queries
 
 if TYPE_CHECKING:
     from sagas.runtime.coordinator import Coordinator
@@ -44,7 +49,6 @@ STUCK_POLL = 5.0
 PARENTS = "SELECT s.id, c.parent, s.key FROM sagas s LEFT JOIN children c ON c.id = s.id"
 PARENT = f"{PARENTS} WHERE s.key = ?"
 CHILD = f"{PARENTS} WHERE s.key IN (?, ?)"
-LABELS = f"SELECT name, value FROM labels WHERE id = ? AND name <> '{TOKEN}'"
 NAME = "SELECT name FROM shards WHERE shard = ?"
 
 
@@ -66,7 +70,7 @@ class SagaOperations(Protocol):
     """Starts, finds and aborts sagas by their keys, on any node."""
 
     async def start(
-        self, saga: Saga | CompiledDefinition, key: str, input: Any, options: StartOptions
+        self, saga: SagaParts | CompiledDefinition, key: str, input: Any, options: StartOptions
     ) -> bool:
         """Start a saga; return False if the key is used.
 
@@ -169,7 +173,7 @@ class Children:
         while True:
             self._changed.clear()
             ended = await self._operations.end(key_or_outcome)
-            outcome = children.child_outcome(ended.end, ended.kind, ended.results)
+            outcome = child_attempts.child_outcome(ended.end, ended.kind, ended.results)
             if outcome is not None:
                 if attempt.undo and outcome.kind is SUCCEEDED:
                     return Outcome(SUCCEEDED, "null")
@@ -186,25 +190,29 @@ class Children:
         return self.operations
 
     async def _begun(self, attempt: Attempt) -> str | Outcome:
-        """Start the child if needed; return its key, or an outcome if there is no child.
+        """Start the child if needed; return its key, or an outcome without a child.
 
         Raises:
             KeyConflict: Another saga has the key.
             SagasError: The child cannot be started.
         """
-        key = children.key_of(attempt)
+        key = child_attempts.key_of(attempt)
         while (stored_key := await self._stored_key(attempt, key)) is None:
             await self._values.fill(attempt)
             try:
                 saga, input = await self._new(attempt)
+            except (Fail, Retry, Unknown, ProgramError) as error:  # of the step's function
+                return outcomes.raised(error, attempt.manner)
             except SagasError:
                 raise
-            except Exception as error:  # of the step's function
+            except Exception as error:
                 return outcomes.raised(error, attempt.manner)
             finally:
                 attempt.instance.release()
             if saga is None:
-                return Outcome(SUCCEEDED, "null")  # there is no compensation to be called
+                return Outcome(SUCCEEDED, "null")  # no compensation has to be called
+            if isinstance(saga, SagaParts) and child_attempts.has_no_items(saga, input):
+                return Outcome(SUCCEEDED, "[]")
             if await self._operations.start(saga, key, input, await self._options(attempt, saga)):
                 return key
         return stored_key
@@ -225,7 +233,7 @@ class Children:
                 )
         return None
 
-    async def _new(self, attempt: Attempt) -> tuple[Saga | CompiledDefinition | None, Any]:
+    async def _new(self, attempt: Attempt) -> tuple[SagaParts | CompiledDefinition | None, Any]:
         """Return the definition and the input of the child to start.
 
         The definition is None if there is nothing to undo. A saga that undoes a child is made from
@@ -236,7 +244,7 @@ class Children:
         """
         undone = await self._child_to_undo(attempt)
         if undone is None:
-            call = children.child_input(attempt)
+            call = child_attempts.child_input(attempt)
             input = await self._coordinator.declared.call(attempt.instance.kind.name, call)
             return attempt.declared.child, input
         ended = await self._operations.end(undone)
@@ -248,8 +256,8 @@ class Children:
         token = tokens.saga_token(name, ended.id % SHARD_CAPACITY)
         earlier = await self._earlier(attempt)
         before = [(await self._operations.end(earlier_key)).end.states for earlier_key in earlier]
-        done = children.undone_steps(ended.end.states, before)
-        return kind, children.undo_input(
+        done = child_attempts.undone_steps(ended.end.states, before)
+        return kind, child_attempts.undo_input(
             undone, token, ended.kind, text, ended.results, done, earlier
         )
 
@@ -260,10 +268,9 @@ class Children:
         operator entered the result in an earlier release.
         """
         if not attempt.undo:
-            return children.undone_key(attempt)
-        result = attempt.task().result
-        key = result.get("key") if isinstance(result, dict) else None
-        if isinstance(key, str):
+            return child_attempts.undone_key(attempt)
+        key = child_attempts.child_key(attempt.task().result)
+        if key is not None:
             is_child_key = child_keys.is_of_step(key, attempt.key, attempt.name) or BELOW not in key
             rows = await self._coordinator.store.read(PARENT, key) if is_child_key else ()
             if any(parent == attempt.instance.id for _, parent, _ in rows):
@@ -283,7 +290,7 @@ class Children:
                 while await self._is_known(key := child_keys.key_of(before, attempt.name, number)):
                     keys.append(key)
                     number += 1
-        for number in range(1, children.number_of(attempt)):
+        for number in range(1, child_attempts.number_of(attempt)):
             key = child_keys.key_of(attempt.key, attempt.name, number, attempt.undo)
             if (stored_key := await self._stored_key(attempt, key)) is not None:
                 keys.append(stored_key)
@@ -293,17 +300,19 @@ class Children:
         """Return whether a saga has the key."""
         return bool(await self._coordinator.store.read(PARENT, key))
 
-    async def _options(self, attempt: Attempt, saga: Saga | CompiledDefinition) -> StartOptions:
+    async def _options(
+        self, attempt: Attempt, saga: SagaParts | CompiledDefinition
+    ) -> StartOptions:
         """Return labels, trace context and deadline of a child.
 
         Labels and trace context are those of the parent. The deadline is the earlier one of parent
         and child. A saga that undoes a child has no deadline.
         """
         parent, now = attempt.instance, self._coordinator.clock()
-        rows = await self._coordinator.store.read(LABELS, parent.id)
-        labels: dict[str, str] = {name: value for name, value in rows}
+        rows = await self._coordinator.store.read(queries.LABELS_OF, parent.id)
+        labels = queries.visible_labels(rows)
         deadline = None
-        if isinstance(saga, Saga):
+        if isinstance(saga, SagaParts):
             times = parent.options.deadline, deadline_at(saga.deadline, now)
             deadline = min((at for at in times if at is not None), default=None)
         return StartOptions(labels, deadline, parent.id, traceparent=parent.options.traceparent)

@@ -3,11 +3,11 @@
 from __future__ import annotations
 
 import asyncio
-from typing import TYPE_CHECKING
+from typing import Any, TYPE_CHECKING
 
 from sagas.base.errors import CannotDecode, DefinitionError, InvalidInput, StoreUnavailable
 from sagas.base.logger import logger
-from sagas.core.batch import Batch, PendingStart
+from sagas.core.shard.batch import Batch, PendingStart
 from sagas.definition import undo_sagas
 from sagas.definition.saga import Saga
 from sagas.definition.registry import Fitted
@@ -142,7 +142,7 @@ class StartReader:
         )
         return Fitted(None, None, invalid_input)
 
-    async def _fit(self, row: PendingStart, declared: Saga, value: str) -> None:
+    async def _fit(self, row: PendingStart, declared: Saga[Any], value: str) -> None:
         """Open a start whose steps come from its input."""
         definitions = self._definitions
         try:

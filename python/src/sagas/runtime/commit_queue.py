@@ -9,9 +9,9 @@ from typing import Protocol
 from sagas.base.errors import SagasError, ShardLost, StoreUnavailable
 from sagas.base.events import EventEmitter
 from sagas.base.logger import logger
-from sagas.core.batch import Batch
+from sagas.core.shard.batch import Batch
 from sagas.core.effects import Effects
-from sagas.core.group_commit import GroupCommitPolicy, first_half
+from sagas.core.shard.group_commit import GroupCommitPolicy, first_half
 from sagas.storage.interface import CommitWriter
 
 
@@ -197,7 +197,7 @@ class CommitQueue:
 
     def _settle_soon(self) -> None:
         """Have the result of a commit to a file delivered in the next turn of the loop."""
-        if not self._store.shared:  # the reply of a server arrives in its own turn
+        if self._store.answers_at_once:  # the reply of a server arrives in its own turn
             self._loop.call_soon(self._store.finish_commit)
 
     def _written(

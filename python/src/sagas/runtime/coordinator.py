@@ -15,11 +15,12 @@ from sagas.base.errors import Closed, InvalidStore, SagasError, SlotsTaken, Woul
 from sagas.base.events import EventEmitter
 from sagas.base.fork_guard import private_descriptors
 from sagas.base.logger import logger
-from sagas.core import children
-from sagas.core.batch import Batch, ShardRow
-from sagas.core.limits import Slots
+from sagas.core.attempt import child_attempts
+from sagas.core.shard.balance import NodeFigures
+from sagas.core.shard.batch import Batch, ShardRow
+from sagas.core.shard.limits import Slots
 from sagas.core.states import ShardState
-from sagas.core.children import CompletedChild
+from sagas.core.attempt.child_attempts import CompletedChild
 from sagas.definition.registry import DefinitionRegistry
 from sagas.definition.tracing import Tracer
 from sagas.runtime import remote_steps, stored_values
@@ -29,12 +30,14 @@ from sagas.runtime.executor import Executor
 from sagas.runtime.external_queue import ExternalQueue
 from sagas.runtime.instances import Instances
 from sagas.runtime.lifespan import Lifespan
+from sagas.runtime.pauses import PauseKeeper
 from sagas.runtime.shards import Shards
+from sagas.runtime.trends import TrendKeeper
 from sagas.storage.interface import Database
 
 if TYPE_CHECKING:
-    from sagas.core.attempt import Attempt
-    from sagas.core.saga_instance import SagaInstance
+    from sagas.core.attempt.model import Attempt
+    from sagas.core.attempt.instance import SagaInstance
 
 T = TypeVar("T")
 REMEDY = "Wait for it outside of the saga's steps"
@@ -59,8 +62,11 @@ class Coordinator:
         shards: The shards of this program.
         declared: Calls functions of definitions.
         external: The tasks of external workers.
+        pauses: What operators have paused.
         waits: Functions that wait for sagas.
+        trends: Counts events for charts.
         closed: Why nothing starts any more.
+        opened_at: When it was opened, in seconds since 1970.
         forks: The number of this process.
         refusal: Done, with the reason, when this node can no longer execute anything.
         listeners: Functions that are called when there may be commands or starts.
@@ -85,6 +91,7 @@ class Coordinator:
         self.loop = asyncio.get_running_loop()
         self.forks = private_descriptors.forks
         self.closed: SagasError | None = None
+        self.opened_at: float = clock()
         self.refusal: asyncio.Future[InvalidStore] = self.loop.create_future()
         self.listeners: list[Callable[[], None]] = []
         self._is_feeding = False
@@ -95,13 +102,17 @@ class Coordinator:
         self.external: ExternalQueue = ExternalQueue(self)
         self.sagas: Instances = Instances(self.loop)
         self.commits: CommitQueue = CommitQueue(store, self, teller, self.loop)
+        self.trends = TrendKeeper(store, clock, self.external.queues_here)
         self.executor = Executor(self, concurrency, self._threads, tracer)
         if acknowledgements := self.executor.calls.acknowledgements:
             acknowledgements.follow(self.sagas, self.executor.kept)
         self.executor.slots.is_fair = any(saga.fair_by for saga in registry.sagas.values())
+        sagas = registry.sagas.values()
+        self.pauses = PauseKeeper(store, sagas, self.executor.set_pauses)
+        self.pauses.listeners.append(self.external.offered_elsewhere)
         self.shards: Shards = Shards(self, program, engine_processes, idle)
         self.waits = DeadlockCheck(self)
-        self.listeners.append(self.executor.children.look)
+        self.listeners += [self.executor.children.look, self.pauses.look]
         self._lifespan = Lifespan(context, registry.context)
 
     # -- opening
@@ -117,32 +128,43 @@ class Coordinator:
         rows = await self.store.open(self.missing_functions)
         await self.external.open()
         await remote_steps.check(self.store, self.registry.sagas.values())
+        await self.pauses.refresh()  # before any attempt starts
+        self.spawn(self.pauses.run())
+        self.spawn(self.trends.run())
         await self._lifespan.enter()
         await self.shards.open(rows)
         self.executor.children.open()
         self.shards.close_all_over()
+        if self.store.supports_nodes:
+            self.spawn(self.shards.relocation.moves.run())
         self._timer = self.loop.call_later(1.0, self._tick, 0.0)
 
     def missing_functions(
         self, texts: list[str], indexes: list[int], completed: Sequence[CompletedChild]
     ) -> str | None:
-        """Return which function this program does not have, or None.
+        """Return which function of a shard this program does not have, or None.
+
+        A node of several takes a shard if it can execute one of its sagas. The others are parked.
 
         Args:
             texts: The definitions of a shard.
-            places: The indexes of those that its open sagas have.
+            indexes: The indexes of those that its open sagas have.
             completed: The completed children that its open sagas may undo.
         """
+        missing_functions = list[str]()
         for index in indexes:
             try:
                 kind = self.registry.kind(texts[index])
             except (ValueError, LookupError, TypeError, SagasError):
                 continue  # the shard of an invalid definition is set aside
-            missing = kind.lacks()
-            if missing:
-                return f"saga {kind.name!r} (version {kind.version}) has open sagas, but {missing}"
+            if (missing := kind.missing_function) is not None:
+                name = f"saga {kind.name!r} (version {kind.version})"
+                missing_functions.append(f"{name} has open sagas, but {missing}")
+        if missing_functions:
+            is_partial = self.store.supports_nodes and len(missing_functions) < len(indexes)
+            return None if is_partial else missing_functions[0]
         try:
-            return children.missing_compensation(self.registry.kind, completed)
+            return child_attempts.missing_compensation(self.registry.kind, completed)
         except (ValueError, LookupError, TypeError, SagasError):  # an invalid definition
             return None
 
@@ -156,7 +178,7 @@ class Coordinator:
         self.shards.deadlines.look()
         self.executor.keep_progress()
         now = time.monotonic()
-        if self.store.shared and now >= offered + stored_values.OFFER_PAUSE:
+        if self.store.supports_nodes and now >= offered + stored_values.OFFER_PAUSE:
             offered = now
             self.shards.offer_unread()
         self._timer = self.loop.call_later(self.shards.pause, self._tick, offered)
@@ -180,6 +202,18 @@ class Coordinator:
         """Execute shards that this node has taken over."""
         self.shards.taken(rows)
         self.look()
+
+    def drained(self, is_drained: bool) -> None:
+        """Handle that an operator has drained this node, or not any more."""
+        self.shards.relocation.moves.set_drained(is_drained)
+
+    def figures(self) -> NodeFigures:
+        """Return what this node stores about itself."""
+        return self.shards.relocation.moves.figures()
+
+    def paused(self) -> None:
+        """Read the pauses, because they may have changed."""
+        self.pauses.look()
 
     def slots_freed(self) -> None:
         """Handle that a node released slots of a fleet limit."""
@@ -250,8 +284,8 @@ class Coordinator:
         await self.commits.kept(batch)
 
     async def settled(self) -> None:
-        """Wait until no saga is open."""
-        while self.sagas.by_key:
+        """Wait until no saga is open, and no `on_end` call is to be started here."""
+        while self.sagas.are_open:
             if self.closed:
                 raise self.closed
             await self.sagas.emptied()

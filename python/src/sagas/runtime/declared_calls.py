@@ -15,9 +15,9 @@ from collections.abc import Callable
 from concurrent.futures import ThreadPoolExecutor
 from typing import Any, NamedTuple, TypeVar
 
-from sagas.core.declared_values import OptionCalls
-from sagas.core.attempt import Attempt
-from sagas.definition.saga import Saga
+from sagas.core.attempt.declared_values import OptionCalls
+from sagas.core.attempt.model import Attempt
+from sagas.definition.parts import SagaParts
 from sagas.definition.registry import DefinitionRegistry, Fitted
 
 FORKED = 70
@@ -250,7 +250,7 @@ class DefinitionCaller:
         extras.returned |= answers
         return True
 
-    async def fit(self, registry: DefinitionRegistry, saga: Saga, text: str) -> Fitted:
+    async def fit(self, registry: DefinitionRegistry, saga: SagaParts, text: str) -> Fitted:
         """Return the definition of a saga with an input."""
         fitted = registry.fit(saga, text)
         if fitted is None:

@@ -13,29 +13,35 @@ from concurrent.futures import Executor as Threads
 from typing import TYPE_CHECKING
 
 from sagas.base.errors import Closed, SagaMoved, SagasError, ShardLost, StepNotWaiting
-from sagas.core import (
-    attempt_machine,
-    outcomes,
-    shard as shard_module,
-    spans,
-)
-from sagas.core.attempt_machine import AttemptMachine, Decision, Do
-from sagas.core.batch import RequestRef
-from sagas.core.declared_values import OptionCalls
+from sagas.core import outcomes
+from sagas.core.shard import driver as shard_module
+from sagas.core.attempt.directives import Decision, Do
+from sagas.core.attempt.machine import AttemptMachine
+from sagas.core.attempt.pause_index import Pauses
+from sagas.core.shard.batch import RequestRef
+from sagas.core.attempt.declared_values import OptionCalls
 from sagas.core.reports import EarlyReport, Refusal
 from sagas.core.effects import Effects
-from sagas.core.limits import Slots
-from sagas.core.attempt import Attempt, CLAIMED, FINISHED, QUEUED, SUSPENDED, SuspensionRow
-from sagas.core.saga_instance import SagaInstance
-from sagas.core.outcomes import Outcome
-from sagas.core.shard import ShardDriver
-from sagas.core.states import OutcomeKind, Suspension
+from sagas.core.shard.limits import Slots
+from sagas.core.attempt.model import (
+    Attempt,
+    CLAIMED,
+    FINISHED,
+    QUEUED,
+    SUSPENDED,
+    SuspensionRow,
+    undoes_failure,
+)
+from sagas.core.attempt.instance import SagaInstance
+from sagas.core.outcomes import Outcome, is_optional_failure
+from sagas.core.shard.driver import ShardDriver
+from sagas.core.states import UNCERTAIN, OutcomeKind, RowState, Suspension
 from sagas.definition.payloads import BlobUnavailable
 from sagas.definition.compiled import ActionKey
 from sagas.definition.tracing import Tracer
 from sagas.runtime.calls import Calls
 from sagas.runtime.children import Children
-from sagas.runtime.fleet_limits import Fleet
+from sagas.runtime.fleet_limits import Fleet, GateContext
 from sagas.runtime.instances import Waiters
 from sagas.runtime.stored_values import ValueReader
 
@@ -45,6 +51,10 @@ if TYPE_CHECKING:
 
 UNDECIDED = (Do.READ, Do.ASK)
 """Decisions that need more data first."""
+PAUSE_BATCH = 256
+"""The number of sagas in which attempts are held or released in one turn of the loop."""
+LIMITS = (Suspension.STEP_LIMIT, Suspension.FLEET_LIMIT)
+"""Suspensions of an attempt that is called when a limit allows it."""
 DONE = ("commit", "undone")
 RETRYING = {"missed": "step_retrying", "undo_missed": "step_retrying"}
 
@@ -75,9 +85,15 @@ class Executor:
         self._coordinator, self._external = coordinator, coordinator.external
         self._loop, self._clock = coordinator.loop, coordinator.clock
         self._teller = coordinator.teller
-        self.machine = AttemptMachine()
-        self.slots: Slots = Slots(concurrency, self._start, coordinator.feed)
-        self.fleet: Fleet = Fleet(coordinator, self.slots.enter)
+        self.machine: AttemptMachine = AttemptMachine()
+        self.slots: Slots = Slots(concurrency, self._start, coordinator.feed, self._holds)
+        context = GateContext(
+            coordinator.store,
+            coordinator.loop,
+            coordinator.spawn,
+            lambda: coordinator.closed is not None,
+        )
+        self.fleet: Fleet = Fleet(context, self.slots.enter)
         self.values: ValueReader = ValueReader(coordinator.store, self._unread)
         self.calls: Calls = Calls(self, coordinator, threads, tracer)
         self.changes: Waiters[Attempt] = Waiters(coordinator.loop)
@@ -91,7 +107,7 @@ class Executor:
     # -- begin
 
     def begin_all(self, attempts: Sequence[Attempt]) -> None:
-        """Start attempts that are stored. Most are called at once.
+        """Start attempts that are stored, for which slots were reserved. Most are called at once.
 
         Measured on 2026-11-28 against `begin` of each, in instructions for a saga of three steps
         over SQLite: 8 % less for 16 sagas at a time, and 4 % more for one.
@@ -101,9 +117,14 @@ class Executor:
             for attempt in attempts
             if attempt.action.simple is not None
             and attempt.attempt == 1
+            and attempt.missing_function is None
             and not attempt.instance.draining
-            and not attempt.lacks_values()
+            and not (attempt.instance.is_partial and attempt.lacks_values())
         ]
+        if self.machine.pauses:
+            paused = self.machine.pauses.of_attempt
+            simple = [attempt for attempt in simple if paused(attempt) is None]
+        self.slots.release(len(attempts))
         count = 0 if self.closing else self.slots.take_slots(len(simple))
         if count < len(attempts):
             called = set(simple[:count])
@@ -119,8 +140,9 @@ class Executor:
 
     def resume(self, attempt: Attempt) -> None:
         """Resume an attempt of a recovered shard."""
-        if attempt.state is CLAIMED and not attempt.is_uncalled and not attempt.has_row:
-            spans.note_earlier_call(attempt)
+        is_claimed, has_row = attempt.state is CLAIMED, attempt.row_state is not RowState.ABSENT
+        if is_claimed and not attempt.is_uncalled and not has_row:
+            attempt.note_earlier_call()
         decision = self.machine.resume(attempt, self._clock())
         if decision.do is Do.REPORT_AGAIN:
             self._report_again(attempt)
@@ -142,7 +164,7 @@ class Executor:
 
     def _do(self, attempt: Attempt, decision: Decision, at_once: bool = False) -> None:
         if decision.event:
-            self.emit(attempt, *decision.event)
+            self.emit(attempt, *decision.event, error=_new_error(attempt, decision))
         if decision.do is Do.CALL:
             self.enter(attempt)
         elif decision.do is Do.READ:
@@ -152,6 +174,8 @@ class Executor:
         elif decision.do is Do.REPORT:
             self._finished(attempt, at_once)
         elif decision.do is Do.OFFER:
+            if self.machine.pauses:
+                self.machine.pauses.note(attempt)
             self.changes.notify(attempt)
             self._external.offer(attempt)
         elif decision.do is Do.WITHDRAW:
@@ -202,9 +226,9 @@ class Executor:
 
         External attempts have their own table, so their first suspension is left out.
         """
-        is_first = not (attempt.extras and attempt.extras.last_note)
+        is_first = not (attempt.extras and attempt.extras.notes.last)
         if not (is_first and attempt.reason is Suspension.EXTERNAL):
-            spans.note(attempt, self._clock(), row.error if row else None)
+            attempt.note(self._clock(), row.error if row else None)
 
     def _set_timer(self, attempt: Attempt) -> None:
         self._drop_timer(attempt)
@@ -223,9 +247,9 @@ class Executor:
 
     def _put(self, attempt: Attempt, row: SuspensionRow) -> None:
         """Store why the attempt waits, so that other programs know it."""
-        attempt.has_row, attempt.pending_row = True, row
+        attempt.expect_row(row)
         if runner := self._runner(attempt):
-            if row.reason is Suspension.CANNOT_DECODE:
+            if row.reason in (Suspension.CANNOT_DECODE, Suspension.NO_DEFINITION):
                 runner.has_unread = True
             runner.suspend(attempt, row)
 
@@ -267,6 +291,65 @@ class Executor:
 
     def _start(self, attempt: Attempt) -> None:
         self.calls.start(attempt)
+
+    # -- pauses
+
+    def _holds(self, attempt: Attempt) -> bool:
+        """Suspend an attempt that would get a slot, if it is paused; return whether it is."""
+        if not self.machine.pauses.hold(attempt):
+            return False
+        self.changes.notify(attempt)
+        self._add_to_history(attempt)
+        attempt.instance.release()
+        return True
+
+    def _end_pause(self, attempt: Attempt) -> None:
+        """Continue an attempt that was held: its step was resumed."""
+        attempt.end_pause()
+        if attempt.reason is Suspension.PAUSED:
+            self._go_on(attempt)
+        elif attempt.reason is Suspension.WAIT_OVER:
+            self.enter(attempt)
+        else:
+            self._timer_fired(attempt)
+
+    async def set_pauses(self, pauses: Pauses) -> None:
+        """Hold the attempts that wait and are paused now, and release the others."""
+        pauses.moving, self.machine.pauses = self.machine.pauses.moving, pauses
+        for number, saga in enumerate(list(self._coordinator.sagas.by_key.values()), 1):
+            for attempt in list(saga.busy.values()):
+                self._apply_pauses(attempt)
+            if number % PAUSE_BATCH == 0:
+                await asyncio.sleep(0)
+
+    def set_moving(self, shard: ShardDriver, is_moving: bool) -> None:
+        """Hold the attempts of a shard that is about to move, or release them again."""
+        moving = self.machine.pauses.moving
+        if is_moving:
+            moving.add(shard)
+        else:
+            moving.discard(shard)
+        for saga in list(shard.sagas.values()):
+            for attempt in list(saga.busy.values()):
+                self._apply_pauses(attempt)
+
+    def has_running(self, shard: ShardDriver) -> bool:
+        """Return whether a function of a shard runs, or is about to be called."""
+        return any(attempt.instance.shard is shard for attempt in self.calls.running)
+
+    def _apply_pauses(self, attempt: Attempt) -> None:
+        """Hold an attempt that waits and is paused now, or continue one that is not any more."""
+        state, reason = attempt.state, attempt.reason
+        if attempt.instance.busy.get(attempt.action_key) is not attempt or self.closing:
+            return
+        if attempt.is_held and state is SUSPENDED:
+            if not self.machine.pauses.hold(attempt):
+                self._end_pause(attempt)
+        elif state is SUSPENDED and reason is Suspension.EXTERNAL:
+            self.machine.pauses.note(attempt)
+        elif self.slots.is_waiting(attempt) or (state is SUSPENDED and reason in LIMITS):
+            if self._holds(attempt):
+                self.slots.cancel(attempt)
 
     # -- end
 
@@ -314,7 +397,7 @@ class Executor:
         if request is not None:
             attempt.rare.request = request
         kept = self.kept.wait(attempt)
-        self._do(attempt, attempt_machine.retry_attempt(attempt, self._clock()))
+        self._do(attempt, self.machine.retry(attempt, self._clock()))
         await kept
 
     async def until_kept(self, attempt: Attempt) -> bool:
@@ -348,7 +431,7 @@ class Executor:
 
     def _stop_following(self, attempt: Attempt) -> None:
         """Stop following the worker or the child of an attempt."""
-        if attempt.is_external:
+        if attempt.action.is_external:
             self._external.gone(attempt)
         elif attempt.reason is Suspension.CHILD:
             self.children.gone(attempt)
@@ -370,7 +453,8 @@ class Executor:
         explain why the report was not stored, so the store is checked first.
         """
         outcome = attempt.outcome
-        if not attempt.is_external or (outcome and outcome.kind is OutcomeKind.SUCCEEDED):
+        is_success = outcome and outcome.kind is OutcomeKind.SUCCEEDED
+        if not attempt.is_external or (is_success and not is_optional_failure(outcome)):
             self.machine.report(attempt)
             self._report(attempt)
         elif attempt not in self._doubted:
@@ -416,13 +500,16 @@ class Executor:
         for attempt in attempts:
             if is_awaited:
                 self.kept.notify(attempt)
+            outcome = attempt.outcome
             if attempt.event not in DONE:
                 self._emit_failure(attempt)
-            elif is_wanted:
+            elif outcome is not None and outcome.encoded and is_optional_failure(outcome):
+                self._emit_failure(attempt)
+            elif is_wanted and not undoes_failure(attempt):
                 self.emit(attempt, "step_succeeded")
 
     def _emit_failure(self, attempt: Attempt) -> None:
-        """Emit what was raised, with its traceback if there is no further attempt.
+        """Emit what was raised, with its traceback if no further attempt follows.
 
         Nothing is emitted for attempts that were given up after a permanent failure.
         """
@@ -433,10 +520,11 @@ class Executor:
             return
         name = "step_failed" if final else RETRYING.get(attempt.event, "step_failed")
         level = None if outcome.called else logging.INFO
+        if name == "step_failed":
+            self._coordinator.trends.counts.add_failed_step(attempt.saga)
         if not self._teller.is_wanted(name):
             return
-        doubt = outcomes.unknown_hint(outcome.error, attempt.manner)
-        detail = f"{outcomes.error_text(outcome)}{doubt}"
+        detail = outcomes.error_text(outcome)
         self.emit(attempt, name, detail, level, outcome.error if name == "step_failed" else None)
 
     def emit(
@@ -454,6 +542,7 @@ class Executor:
             level=level,
             error=error,
             seconds=took,
+            optional=is_optional_failure(attempt.outcome),
             key=attempt.key,
             saga=attempt.saga,
             step=attempt.declared_name,
@@ -466,7 +555,9 @@ class Executor:
     def planned(self, instance: SagaInstance) -> None:
         """Emit that a plan was adopted."""
         answer = instance.answer or {}
-        detail = f"cost {answer['cost']}" if "cost" in answer else "blocked"
+        detail: str | None = f"cost {answer['cost']}" if "cost" in answer else "blocked"
+        if instance.kind.pivot and "cost" in answer:
+            detail = None  # the package computed the costs
         self._teller.emit("plan_adopted", key=instance.key, saga=instance.kind.name, detail=detail)
 
     # -- forget
@@ -542,6 +633,19 @@ class EarlyReports:
             if not future.done():
                 future.set_exception(error or SagaMoved(f"saga {report.saga.key!r}"))
                 future.exception()  # the caller may have been cancelled
+
+
+def _new_error(attempt: Attempt, decision: Decision) -> BaseException | None:
+    """Return the exception to log with its traceback, once for each reason, and forget it.
+
+    The traceback would keep the values of its frames while the attempt waits.
+    """
+    outcome = attempt.outcome
+    if decision.row is None or outcome is None or outcome.error is None:
+        return None
+    attempt.outcome = outcome._replace(error=None)
+    is_logged = attempt.reason in UNCERTAIN and (attempt.count <= 1 or attempt.until is None)
+    return outcome.error if is_logged else None
 
 
 def _number(report: EarlyReport | Refusal) -> int | None:

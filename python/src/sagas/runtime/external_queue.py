@@ -31,17 +31,17 @@ from sagas.base.errors import (
 )
 from sagas.base.logger import logger
 from sagas.core import outcomes
-from sagas.core.states import OutcomeKind, RETRYABLE, Suspension
-from sagas.core.external_work import Signer, offered_task_name, task_name
-from sagas.core.attempt import Attempt, FINISHED, Lease, SUSPENDED
-from sagas.core.outcomes import CANNOT_DECODE, FAILED, PERMANENT, SUCCEEDED, UNKNOWN, Outcome
-from sagas.core.shard import ShardDriver
-from sagas.definition import step as step_module
+from sagas.core.states import OutcomeKind, RETRYABLE, Suspension, UNCERTAIN
+from sagas.core.attempt.external_work import Signer, offered_task_name, task_name
+from sagas.core.attempt.model import Attempt, FINISHED, Lease, SUSPENDED
+from sagas.core.outcomes import FAILED, HAS_TEXT, PERMANENT, SUCCEEDED, UNKNOWN, Outcome
+from sagas.core.shard.driver import ShardDriver
 from sagas.definition import (
     definition_text,
     tokens,
     undo_sagas,
 )
+from sagas.definition.parts import patterns
 from sagas.definition.payloads import BlobUnavailable
 from sagas.definition.capacity import SHARD_CAPACITY
 from sagas.definition.task_data import Progress
@@ -81,7 +81,7 @@ REASONS = {
     "suspended": "its row was closed as if its outcome was unknown",
     "person": "its row was closed as if an operator had to decide",
 }
-"""Why no worker could get an attempt, by the outcome of its row; None if there is no row."""
+"""Why no worker could get an attempt, by the outcome of its row; None without a row."""
 
 
 def _set(future: asyncio.Future[None]) -> None:
@@ -94,6 +94,15 @@ def awaits_worker(attempt: Attempt) -> bool:
     return attempt.state is SUSPENDED and attempt.reason is Suspension.EXTERNAL
 
 
+def may_end(attempt: Attempt) -> bool:
+    """Return whether the report of a worker ends an attempt.
+
+    A worker of a queue may have a paused attempt, because an earlier program sent its message.
+    """
+    is_paused = attempt.state is SUSPENDED and attempt.reason is Suspension.PAUSED
+    return awaits_worker(attempt) or (is_paused and attempt.is_remote)
+
+
 class ExternalQueue:
     """Offers attempts to workers, hands them out under leases, and accepts their reports.
 
@@ -103,16 +112,21 @@ class ExternalQueue:
         leased: Whether this program serves workers. If not, other nodes serve its tasks, or
             `Store.complete` and `Store.fail` report them.
         takeovers: How many tasks were claimed after a lease had expired.
+        has_any: Whether a definition of this program has a step for workers or queues.
+        on_claim: Called at each claim of a task, except after an expired lease, with the name of
+            the saga and the seconds for which the task was offered.
     """
 
     def __init__(self, coordinator: Coordinator) -> None:
         self.coordinator = coordinator
         self._table = coordinator.store.external
         self._signer = Signer(secrets.token_bytes(32))
-        self._has_any = self._is_looking = self._looks_again = False
+        self.has_any: bool = False
+        self._is_looking = self._looks_again = False
         self._reports: dict[str, asyncio.Future[Outcome]] = {}
         self.leased = False
         self.takeovers = 0
+        self.on_claim: Callable[[str, float], object] = lambda saga, seconds: None
         self._limited: set[str] = set()
         self._waiting: dict[str, dict[asyncio.Future[None], None]] = {}
         self._offering: set[Attempt] = set()
@@ -125,13 +139,13 @@ class ExternalQueue:
     async def open(self) -> None:
         """Read the secret that signs leases. Raises `StoreUnavailable`."""
         for saga in self.coordinator.registry.sagas.values():
-            for pattern in step_module.patterns(saga):
+            for pattern in patterns(saga):
                 step = pattern.step
                 if step.concurrency is not None:
                     self._limited.add(task_name(saga.name, pattern.path, "run"))
                 for manner in (step.run, step.undo):
-                    self._has_any |= manner.external or manner.queue is not None
-                    if manner.queue is not None and not self.coordinator.store.shared:
+                    self.has_any |= manner.external or manner.queue is not None
+                    if manner.queue is not None and not self.coordinator.store.supports_nodes:
                         self._pause = LOOK_AT_FILE
         self._table.begin(
             self.coordinator.commits.kept, self.coordinator.clock, self._give_back_all
@@ -310,6 +324,9 @@ class ExternalQueue:
     async def _claimed(
         self, tasks: Sequence[str], limit: int, seconds: float, worker: str
     ) -> list[Claim]:
+        tasks = self.coordinator.pauses.unpaused(tasks)
+        if not tasks:
+            return []
         limited = [task for task in tasks if task in self._limited]
         claims = await self._table.claim(tasks, limited, limit, seconds, worker)
         self.takeovers += sum(claim.is_takeover for claim in claims)
@@ -331,6 +348,8 @@ class ExternalQueue:
                 break
             try:
                 leased.append(task := await self._leased(claim, worker, holder))
+                if task and not claim.is_takeover:
+                    self.on_claim(task.task.saga, claim.waited)
                 largest = max(largest, task.size if task else 0)
                 size += task.size if task else 0
             except (CannotDecode, BlobUnavailable) as error:
@@ -456,6 +475,10 @@ class ExternalQueue:
             counts.append(Queue(saga, step, action == "undo", ready, oldest, claimed))
         return counts
 
+    async def queues_here(self) -> list[Queue]:
+        """Return the same, or nothing if no step of this program has a worker."""
+        return await self.queues() if self.has_any else []
+
     # -- reports
 
     @contextlib.contextmanager
@@ -557,27 +580,27 @@ class ExternalQueue:
     def _deliver(self, report: Report, attempt: Attempt) -> bool:
         """Deliver a report to an attempt in progress here; return whether that worked."""
         outcome = self._delivered(OutcomeKind(report.outcome), report.value)
-        if attempt.pending_row:
+        if attempt.pending_row or attempt.missing_function is not None:
             return False
         if (waiting := self._reports.get(report.attempt)) is not None:
             if not waiting.done():
                 waiting.set_result(outcome)
             return True
         is_known = attempt.reason in RETRYABLE
-        if attempt.state is not SUSPENDED or not (is_known or awaits_worker(attempt)):
+        if attempt.state is not SUSPENDED or not (is_known or may_end(attempt)):
             return False
-        if outcome.kind in (UNKNOWN, CANNOT_DECODE) and attempt.lease:
+        if outcome.kind in HAS_TEXT and attempt.lease:
             attempt.rare.lease = None  # the lease has ended: the next claim gets another
         if outcome.kind is SUCCEEDED or not is_known:
             self.coordinator.executor.ended(attempt, outcome)
-        elif outcome.kind is not UNKNOWN and attempt.reason is Suspension.UNKNOWN:
+        elif outcome.kind is not UNKNOWN and attempt.reason in UNCERTAIN:
             self.coordinator.executor.ended(attempt, outcome)
         return True
 
     def look(self) -> None:
         """Read reports, because there may be some."""
         self._looks_again = True
-        if not self._is_looking and not self.coordinator.closed and self._has_any:
+        if not self._is_looking and not self.coordinator.closed and self.has_any:
             self._is_looking = True
             self.coordinator.spawn(self._look())
 
@@ -650,7 +673,7 @@ class ExternalQueue:
         loop = self.coordinator.loop
         self._timer = loop.call_later(min(LOOK, self._pause), self._look_later)
         self.look()
-        if self._has_any:
+        if self.has_any:
             self._check.look()
         if self._waiting and not self.coordinator.closed and loop.time() >= self._next_wake:
             self._next_wake = loop.time() + LOOK

@@ -11,20 +11,18 @@ this node, takes more, and releases the others. So the next statement repairs a 
 from __future__ import annotations
 
 import asyncio
+import dataclasses
 import hashlib
 from collections import deque
-from collections.abc import Callable
-from typing import TYPE_CHECKING
+from collections.abc import Callable, Coroutine
 
 from sagas.base.errors import StoreUnavailable
 from sagas.base.logger import logger
-from sagas.core.batch import Grant
-from sagas.core.attempt import Attempt, SUSPENDED
+from sagas.core.shard.batch import Grant
+from sagas.core.attempt.model import Attempt, SUSPENDED
 from sagas.core.states import Action, Suspension
 from sagas.definition.call_options import Bounds
-
-if TYPE_CHECKING:
-    from sagas.runtime.coordinator import Coordinator
+from sagas.storage.interface import Database
 
 LOOK = 1.0  # seconds between checks: a node that holds slots may stop without notice
 MAX_LOOK = 30.0  # seconds between checks at most: the database's clock may jump
@@ -38,6 +36,23 @@ def digest_of(name: str, key: str) -> str:
     return hashlib.sha256(f"{name} {key}".encode("utf-8", "surrogatepass")).hexdigest()[:40]
 
 
+@dataclasses.dataclass(frozen=True, slots=True)
+class GateContext:
+    """The parts of the program that gates use.
+
+    Attributes:
+        store: Its database.
+        loop: Its event loop.
+        spawn: Runs a coroutine as a task of the program.
+        is_closed: Returns whether the program has closed the store.
+    """
+
+    store: Database
+    loop: asyncio.AbstractEventLoop
+    spawn: Callable[[Coroutine[None, None, None]], object]
+    is_closed: Callable[[], bool]
+
+
 class Gate:
     """The limit of a step, or of one key of it.
 
@@ -46,7 +61,7 @@ class Gate:
 
     def __init__(
         self,
-        coordinator: Coordinator,
+        context: GateContext,
         name: str,
         key: str,
         bounds: Bounds,
@@ -55,7 +70,7 @@ class Gate:
         self.name, self.bounds = name, bounds
         # the key comes from the input: it may be long, and must not be in a log or table
         self._limit_name = f"{name}/{digest_of(name, key)}" if key else name
-        self._coordinator, self._enter = coordinator, enter
+        self._context, self._enter = context, enter
         self._asking: list[tuple[Attempt, asyncio.Future[bool]]] = []
         self._waiting: deque[Attempt] = deque()
         self._held_slots: dict[Attempt, int] = {}
@@ -80,12 +95,12 @@ class Gate:
 
     def hold(self, attempt: Attempt, first: bool = False) -> None:
         """Let an attempt wait without a slot. With `first`, it waits before all others."""
-        attempt.suspend(Suspension.FLEET_LIMIT)
+        attempt.limit(Suspension.FLEET_LIMIT)
         (self._waiting.appendleft if first else self._waiting.append)(attempt)
 
     async def ask(self, attempt: Attempt) -> bool:
         """Ask for a slot; return whether it was granted. A cancelled attempt gets none."""
-        future: asyncio.Future[bool] = self._coordinator.loop.create_future()
+        future: asyncio.Future[bool] = self._context.loop.create_future()
         self._asking.append((attempt, future))
         self._work()
         try:
@@ -111,7 +126,7 @@ class Gate:
     def _work(self) -> None:
         if not self._is_asking:
             self._is_asking = True
-            self._coordinator.spawn(self._ask())
+            self._context.spawn(self._ask())
 
     async def _ask(self) -> None:
         try:
@@ -126,7 +141,7 @@ class Gate:
                     False,
                 )
                 try:
-                    grant = await self._coordinator.store.admit(
+                    grant = await self._context.store.admit(
                         self._limit_name, self.bounds, len(asking), list(self._held_slots.values())
                     )
                 except StoreUnavailable as error:
@@ -140,9 +155,9 @@ class Gate:
                     grant = Grant(0, [], LOOK)
                     for pause in (LOOK, DOUBT):
                         self._resends += 1
-                        self._coordinator.loop.call_later(pause, self._resend)
+                        self._context.loop.call_later(pause, self._resend)
                 if (
-                    has_released and not self._coordinator.store.shared
+                    has_released and not self._context.store.supports_nodes
                 ):  # if there are other nodes, the database notifies all of them
                     self._was_notified = True
                 self._distribute(asking, grant)
@@ -152,7 +167,7 @@ class Gate:
     def _resend(self) -> None:
         """Send the slots of this node again, because a reply was lost."""
         self._resends -= 1
-        if not self._coordinator.closed:
+        if not self._context.is_closed():
             self._has_released = True
             self._work()
             self.look()
@@ -167,20 +182,18 @@ class Gate:
         if slots:  # of attempts that were cancelled in the meantime
             self._has_released = True
         if grant.calls and grant.calls >= len(asking):
-            self._coordinator.loop.call_soon(self._wake, 2 * grant.calls)
+            self._context.loop.call_soon(self._wake, 2 * grant.calls)
         elif asking or self._waiting:
             self._look_later(0.0 if self._was_notified else grant.pause)
 
     def _look_later(self, seconds: float) -> None:
         if self._timer:
             self._timer.cancel()
-        self._timer = self._coordinator.loop.call_later(
-            max(0.01, min(MAX_LOOK, seconds)), self.look
-        )
+        self._timer = self._context.loop.call_later(max(0.01, min(MAX_LOOK, seconds)), self.look)
 
     def _wake(self, count: int) -> None:
         """Let the attempts that have waited longest ask for slots."""
-        while count and self.is_waited_for() and not self._coordinator.closed:
+        while count and self.is_waited_for() and not self._context.is_closed():
             attempt = self._waiting.popleft()
             count -= 1
             self._enter(attempt)
@@ -191,8 +204,8 @@ class Gate:
 class Fleet:
     """The gates of a store's steps."""
 
-    def __init__(self, coordinator: Coordinator, enter: Callable[[Attempt], None]) -> None:
-        self._coordinator, self._enter = coordinator, enter
+    def __init__(self, context: GateContext, enter: Callable[[Attempt], None]) -> None:
+        self._context, self._enter = context, enter
         self._gates: dict[tuple[str, str, str], Gate] = {}
         self._max_gates = MAX_GATES
 
@@ -210,7 +223,7 @@ class Fleet:
             if len(self._gates) >= self._max_gates:
                 self._drop()
             gate = self._gates[gate_key] = Gate(
-                self._coordinator, "/".join(gate_key[:2]), gate_key[2], step.bounds, self._enter
+                self._context, "/".join(gate_key[:2]), gate_key[2], step.bounds, self._enter
             )
         return gate
 

@@ -8,21 +8,25 @@ from __future__ import annotations
 import asyncio
 import heapq
 import itertools
+import math
 from collections.abc import Callable
 from typing import TYPE_CHECKING, Generic, TypeVar
 
 from sagas.base.errors import KeyConflict, SagasError
 from sagas.base.events import EventEmitter
 from sagas.core.effects import Abort
-from sagas.core.saga_instance import SagaInstance
-from sagas.definition import compiled, type_checks
+from sagas.core.attempt.instance import SagaInstance
+from sagas.definition import type_checks
 from sagas.definition.payloads import PLAIN, Payloads, Reference
 from sagas.definition.compiled import CompiledDefinition
+from sagas.definition.declaration import input_types
+from sagas.definition.erasure import erasure_of
+from sagas.definition.input_types import InputTypes
 from sagas.definition.start_options import StartOptions
 from sagas.storage.interface import Database
 
 if TYPE_CHECKING:
-    from sagas.definition.saga import Saga
+    from sagas.definition.parts import SagaParts
 
 K = TypeVar("K")
 MANY = 64
@@ -88,6 +92,9 @@ class Instances:
         ends: Callers that wait until the end of a saga is stored.
         on_executed: Called with each saga that is stored and executed here.
         on_unused_report: Called when a saga has ended without using an accepted report.
+        due_ends: The keys of sagas that have ended, and whose `on_end` calls this program is about
+            to start, by their ids.
+        on_end_due: Called when there is one more.
         before_abort_answer: If set, called before a caller is notified of the outcome of an abort.
     """
 
@@ -97,6 +104,8 @@ class Instances:
         self.ends: Waiters[SagaInstance] = Waiters(loop)
         self.on_executed: Callable[[SagaInstance], None] = lambda saga: None
         self.on_unused_report: Callable[[], None] = lambda: None
+        self.on_end_due: Callable[[], None] = lambda: None
+        self.due_ends: dict[int, str] = {}
         self.before_abort_answer: Callable[[Abort], object] | None = None
         self._loop = loop
         self._aborts: dict[Abort, asyncio.Future[bool]] = {}
@@ -124,8 +133,16 @@ class Instances:
         """Remove a saga that this program no longer executes."""
         if self.by_key.get(saga.key) is saga:
             del self.by_key[saga.key]
-        if not self.by_key:
+        self._check_empty()
+
+    def _check_empty(self) -> None:
+        if not self.by_key and not self.due_ends:
             self._empty.set()
+
+    @property
+    def are_open(self) -> bool:
+        """Whether there are open sagas, or ends whose `on_end` calls are not started."""
+        return bool(self.by_key or self.due_ends)
 
     def leave(
         self, saga: SagaInstance, at_start: SagasError | None, at_end: SagasError | None
@@ -149,8 +166,16 @@ class Instances:
 
     def notify_ended(self, saga: SagaInstance) -> None:
         """Notify callers that the end of a saga is stored."""
+        if saga.kind.calls_end:
+            self.due_ends[saga.id] = saga.key
+            self.on_end_due()
         self.remove(saga)
         self._has_notified = self.ends.notify(saga) or self._has_notified
+
+    def end_call_left(self, id: int) -> None:
+        """Note that an `on_end` call is started, or that this program cannot start it."""
+        self.due_ends.pop(id, None)
+        self._check_empty()
 
     # -- aborts
 
@@ -190,7 +215,7 @@ class Instances:
 
     async def emptied(self) -> None:
         """Wait until the last saga is gone. Raises the error of `close`."""
-        if self.by_key:
+        if self.are_open:
             self._empty.clear()
             await self._empty.wait()
             if self._left:
@@ -198,7 +223,7 @@ class Instances:
 
     def close(self, error: SagasError) -> None:
         """Raise an error in callers that wait in `emptied`, if sagas are still open."""
-        if self.by_key:
+        if self.are_open:
             self._left = error
             self._empty.set()
 
@@ -207,6 +232,9 @@ class Deadlines:
     """The deadlines of the open sagas of this program, the next one first.
 
     They are stored with their sagas, so each node that executes a saga knows its deadline.
+
+    Attributes:
+        next_at: Wall time of the next one; infinite if there is none.
     """
 
     def __init__(
@@ -220,6 +248,7 @@ class Deadlines:
         self._heap: list[tuple[float, int, SagaInstance]] = []
         self._order = itertools.count()
         self._max_entries = MAX_ENTRIES
+        self.next_at = math.inf
 
     def add(self, saga: SagaInstance) -> None:
         """Add the deadline of a saga that this program executes from now on."""
@@ -227,6 +256,7 @@ class Deadlines:
             if len(self._heap) >= self._max_entries:
                 self._drop()
             heapq.heappush(self._heap, (saga.options.deadline, next(self._order), saga))
+            self.next_at = self._heap[0][0]
 
     def _drop(self) -> None:
         """Keep one entry for each open saga: most sagas end long before their deadlines."""
@@ -238,8 +268,6 @@ class Deadlines:
 
     def look(self) -> None:
         """Abort the open sagas of this program whose deadlines have passed."""
-        if not self._heap:
-            return
         now = self._clock()
         while self._heap and self._heap[0][0] <= now:
             saga = heapq.heappop(self._heap)[2]
@@ -247,6 +275,7 @@ class Deadlines:
             if is_here and not saga.over and not saga.aborted:
                 self._teller.emit("saga_overdue", key=saga.key, saga=saga.kind.name)
                 self._abort(saga).add_done_callback(_ignore_result)
+        self.next_at = self._heap[0][0] if self._heap else math.inf
 
 
 def _ignore_result(aborted: asyncio.Future[bool]) -> None:
@@ -260,7 +289,7 @@ def _ignore_result(aborted: asyncio.Future[bool]) -> None:
 
 def conflict(
     key: str,
-    kind: CompiledDefinition | Saga,
+    kind: CompiledDefinition | SagaParts,
     text: str,
     stored_name: str,
     stored_input: str,
@@ -281,6 +310,11 @@ def conflict(
         return KeyConflict(
             f"key {key!r} belongs to a saga {stored_name!r}, not {saga!r}. Use another key"
         )
+    if erasure_of(stored_input):
+        return KeyConflict(
+            f"key {key!r} belongs to a saga whose data was erased, so inputs cannot be "
+            "compared. Use another key"
+        )
     if stored_input != text:
         kind_payloads: Payloads = getattr(kind, "payloads", PLAIN)
         stored = payloads or kind_payloads
@@ -290,7 +324,7 @@ def conflict(
                 return None
             return KeyConflict(f"key {key!r} belongs to a saga with another input. Use another key")
         stored_input = stored.decode(stored_input)
-    if stored_input != text and (differ := compiled.input_differences(kind, stored_input, text)):
+    if stored_input != text and (differ := _types_of(kind).differences(stored_input, text)):
         paths = type_checks.joined_paths(differ)
         return KeyConflict(
             f"key {key!r} belongs to a saga with another input, which differs at {paths}. "
@@ -299,10 +333,14 @@ def conflict(
     return None
 
 
+def _types_of(kind: CompiledDefinition | SagaParts) -> InputTypes:
+    return kind.input_types if isinstance(kind, CompiledDefinition) else input_types(kind)
+
+
 async def conflict_with_stored(
     store: Database,
     key: str,
-    kind: CompiledDefinition | Saga,
+    kind: CompiledDefinition | SagaParts,
     text: str,
     stored_name: str,
     stored_input: str,

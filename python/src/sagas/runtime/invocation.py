@@ -17,10 +17,10 @@ from concurrent.futures import Executor
 from contextvars import ContextVar
 from typing import Any
 
-from sagas.base.errors import CannotDecode, Fail
 from sagas.core import outcomes
-from sagas.core.attempt import Attempt, RUNNING
+from sagas.core.attempt.model import Attempt, RUNNING
 from sagas.core.outcomes import Outcome, Unawaited
+from sagas.core.states import OutcomeKind
 from sagas.definition import awaitables
 from sagas.definition.waits import answering
 from sagas.definition.call_options import Manner
@@ -144,7 +144,7 @@ async def _in_time(work: Awaitable[Any], left: float, task: Task[Any], manner: M
             return await ended(work, task)
     except TimeoutError as error:
         return (
-            outcomes.unknown(f"took longer than {manner.timeout} s")
+            outcomes.overdue(f"took longer than {manner.timeout} s", manner)
             if scope.expired()
             else outcomes.raised(error, manner)
         )
@@ -208,8 +208,10 @@ async def _in_thread(
         return outcomes.succeeded(
             await awaitables.awaited(value) if inspect.isawaitable(value) else value, task
         )
-    if overdue and not isinstance(error, (Fail, CannotDecode)):
-        return outcomes.unknown(
-            f"took longer than {manner.timeout} s, then raised {type(error).__name__}: {error}"
+    outcome = outcomes.raised(error, manner)
+    if overdue and outcome.kind in (OutcomeKind.FAILED, OutcomeKind.UNKNOWN):
+        return outcomes.overdue(
+            f"took longer than {manner.timeout} s, then raised {type(error).__name__}: {error}",
+            manner,
         )
-    return outcomes.raised(error, manner)
+    return outcome

@@ -49,7 +49,7 @@ class LeasedTask:
     @property
     def size(self) -> int:
         """Number of characters of its values, as JSON."""
-        texts = self.task.texts
+        texts = self.task._portable
         own_texts = (self.given, texts["input"], texts["result"] or "")
         return sum(map(len, own_texts)) + sum(map(len, texts["results"].values()))
 

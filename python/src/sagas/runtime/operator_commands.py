@@ -9,7 +9,7 @@ from typing import TYPE_CHECKING, Any, Protocol
 
 from sagas.base.errors import Closed, SagaMoved, SagasError, StoreUnavailable
 from sagas.base.logger import logger
-from sagas.core.batch import Batch, PendingRequest, RequestRef
+from sagas.core.shard.batch import Batch, PendingRequest, RequestRef
 from sagas.core.outcomes import Outcome, reported_outcome
 from sagas.core.states import OutcomeKind
 from sagas.definition.payloads import Payloads
@@ -61,6 +61,15 @@ class ReportCompensator(Protocol):
         """See `Store.compensate`."""
 
 
+class Restarter(Protocol):
+    """Restarts ended sagas."""
+
+    async def restart(
+        self, key: str, new_key: str, request: RequestRef, of: int | None = None
+    ) -> bool:
+        """See `Store.restart`."""
+
+
 def report_command(
     step: str, kind: str, outcome: Outcome, early: bool, payloads: Payloads
 ) -> tuple[str, dict[str, Any]]:
@@ -84,9 +93,14 @@ class RequestExecutor:
     """Executes requests of the store, and replies in the commit that has their events."""
 
     def __init__(
-        self, coordinator: Coordinator, executor: CommandExecutor, compensator: ReportCompensator
+        self,
+        coordinator: Coordinator,
+        executor: CommandExecutor,
+        compensator: ReportCompensator,
+        restarter: Restarter,
     ) -> None:
         self._coordinator, self._executor, self._compensator = coordinator, executor, compensator
+        self._restarter = restarter
         self._loop = asyncio.get_running_loop()
         self._doing: dict[int, asyncio.Task[None]] = {}
         self._looking: asyncio.Task[None] | None = None
@@ -161,5 +175,8 @@ class RequestExecutor:
             return True
         if command == "compensate":
             await self._compensator.compensate(key, arguments["step"], id, of)
+            return True
+        if command == "restart":
+            await self._restarter.restart(key, arguments["new_key"], id, of)
             return True
         raise ValueError(command)

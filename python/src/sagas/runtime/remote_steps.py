@@ -10,11 +10,12 @@ from collections.abc import Iterable
 from typing import TYPE_CHECKING, Any
 
 from sagas.base.errors import SagasError
-from sagas.core.external_work import Declared, Order, Position
+from sagas.base.pauses import doubling_pauses
+from sagas.core.attempt.external_work import Declared, Order, Position
 from sagas.definition.payloads import ABSENT
 
 if TYPE_CHECKING:
-    from sagas.core.attempt import Attempt
+    from sagas.core.attempt.model import Attempt
     from sagas.definition.saga import Saga
     from sagas.definition.call_options import RemoteQueue
     from sagas.definition.step import Step
@@ -77,7 +78,7 @@ def _declared(attempt: Attempt) -> Declared | None:
     return Declared(step.saga.name, step.saga.version, step.name)
 
 
-async def check(database: Database, sagas: Iterable[Saga]) -> None:
+async def check(database: Database, sagas: Iterable[Saga[Any]]) -> None:
     """Check that reports of queue workers can reach this database.
 
     Raises `WrongStore` and `DefinitionError`.
@@ -95,11 +96,10 @@ async def check(database: Database, sagas: Iterable[Saga]) -> None:
 
 async def send(queue: RemoteQueue, order: Order) -> None:
     """Send an order, with retries until it is sent. The caller limits the time."""
-    pause = FIRST_PAUSE
+    pauses = doubling_pauses(FIRST_PAUSE, MAX_PAUSE)
     while True:
         try:
             await queue.send(order)
             return
         except Unsent:
-            await asyncio.sleep(pause)
-            pause = min(MAX_PAUSE, 2 * pause)
+            await asyncio.sleep(next(pauses))

@@ -3,11 +3,11 @@
 A whole closed shard is deleted when the retention of all its sagas is over. If an archive directory
 is given, the shard is exported first.
 
-A shard is deleted only if its audit succeeded. A stuck saga, or one with a compensation that failed
-permanently, counts as ended once an operator has resolved it. The key of a deleted saga is free
-again. Each shard is deleted in its own transaction, on its own connection, and followed by an
-equally long pause. So a start waits for at most one shard in a file. In PostgreSQL it does not
-wait, because other rows are touched.
+A shard is deleted only if its audit succeeded, and no `on_end` call of its sagas is due. A stuck
+saga, or one with a compensation that failed permanently, counts as ended once an operator has
+resolved it. The key of a deleted saga is free again. Each shard is deleted in its own transaction,
+on its own connection, and followed by an equally long pause. So a start waits for at most one shard
+in a file. In PostgreSQL it does not wait, because other rows are touched.
 """
 
 from __future__ import annotations
@@ -25,9 +25,9 @@ from sagas.base.errors import SagasError
 from sagas.base.logger import logger
 from sagas.base.wording import number
 from sagas.definition.capacity import SHARD_CAPACITY
-from sagas.storage import admin, archive, blob_layer
+from sagas.storage import admin, archive, blob_layer, store_decisions
 from sagas.storage.admin import Source
-from sagas.storage.queries import RESOLVABLE
+from sagas.storage.queries import END_DUE, RESOLVABLE
 
 if TYPE_CHECKING:
     from sagas.runtime.coordinator import Coordinator
@@ -42,7 +42,7 @@ WITHIN = f"s.id >= l.shard * {SHARD_CAPACITY} AND s.id < (l.shard + 1) * {SHARD_
 OVER = f"""
 l.closed = 1 AND l.shard > ? AND NOT EXISTS (
   SELECT 1 FROM sagas s WHERE {WITHIN} AND (s.phase IS NULL OR s.ended >= ?
-    OR (s.note IS NULL AND {RESOLVABLE})))
+    OR (s.note IS NULL AND {RESOLVABLE}) OR {END_DUE}))
 """
 NEXT = f"""
 SELECT l.shard, l.name, (SELECT count(*) FROM sagas s WHERE {WITHIN}) FROM shards l
@@ -127,11 +127,11 @@ def prune(
             pruned.other = True
             return pruned
         before = min(clock(), link.now()) - keep
-        kept = _kept_for_parents(link, before)
+        due = _due_shards(link, before)
         while not stop.is_set() and (rows := link.ask(NEXT, shard, before)):
             ((shard, log, sagas),) = rows
-            if shard in kept:
-                continue
+            if shard not in due:
+                continue  # a parent keeps it, or it was closed after the parents were read
             if pruned.sagas + sagas > max_sagas:
                 pruned.more = True
                 break
@@ -143,22 +143,19 @@ def prune(
                 pruned.sagas += sagas
             stop.wait(time.monotonic() - began)
         pruned.starts = link.drop_refused(before)
+        store_decisions.drop_old(link, before)
         if pruned.logs:
             link.drop_definitions()
     return pruned
 
 
-def _kept_for_parents(link: Source, before: float) -> set[int]:
-    """Return due shards that are kept because the shard of a parent is kept."""
+def _due_shards(link: Source, before: float) -> set[int]:
+    """Return the shards to delete: those that are over, unless the shard of a parent is kept."""
     pairs = link.ask(PARENTS)
-    if not pairs:
-        return set()
-    deleted = {log for (log,) in link.ask(f"SELECT l.shard FROM shards l WHERE {OVER}", -1, before)}
-    kept = set[int]()
-    while added := {log for log, parent in pairs if log in deleted and parent not in deleted}:
-        kept |= added
-        deleted -= added
-    return kept
+    due = {log for (log,) in link.ask(f"SELECT l.shard FROM shards l WHERE {OVER}", -1, before)}
+    while kept := {log for log, parent in pairs if log in due and parent not in due}:
+        due -= kept
+    return due
 
 
 def _delete(link: Source, log: int, blobs: list[str] | None) -> bool:

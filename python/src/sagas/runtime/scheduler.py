@@ -77,6 +77,8 @@ class Scheduler:
             if (schedule.saga, schedule.version) not in coordinator.registry.sagas:
                 await self._report_missing(schedule, now)
                 continue
+            if coordinator.pauses.is_definition_paused(schedule.saga):
+                continue  # its missed times are due after the pause, as `catch_up` says
             if schedule.next_at > now:
                 pause = min(pause, schedule.next_at - now)
                 break  # the others are due later
@@ -138,7 +140,7 @@ class Scheduler:
 
         The schedule stores the reason as its error.
         """
-        grace = timing.LATE if self._coordinator.store.shared else 0.0
+        grace = timing.LATE if self._coordinator.store.supports_nodes else 0.0
         if schedule.next_at + grace > now:
             return
         why = f"no program has its saga {schedule.saga!r} (version {schedule.version})"
@@ -155,7 +157,7 @@ class Scheduler:
 
     async def _is_unchanged(self, schedule: Schedule) -> bool:
         """Return whether the stored schedule is unchanged since it was read."""
-        rows = await self._coordinator.store.read(schedules.ONE, schedule.name)
+        rows = await self._coordinator.store.read(schedules.BY_NAME, schedule.name)
         return [schedules.of_row(row) for row in rows] == [schedule]
 
     async def _try(self, schedule: Schedule, key: str) -> str | None:

@@ -9,12 +9,13 @@ from typing import TYPE_CHECKING
 from sagas.base.errors import DamagedShard, SagasError
 from sagas.base.logger import logger
 from sagas.core import recovery, reports
-from sagas.core.batch import LoadedShard
-from sagas.core.effects import Abort, Effects, EngineDisagrees, NO_RARE_EFFECTS, RareEffects
-from sagas.core.attempt import Attempt, SuspensionRow
-from sagas.core.saga_instance import SagaInstance
+from sagas.core.shard.batch import LoadedShard
+from sagas.core.effects import Abort, Effects, NO_RARE_EFFECTS, RareEffects
+from sagas.core.attempt.model import Attempt, SuspensionRow
+from sagas.core.protocol import MAX_REPORTS, EngineDisagrees
+from sagas.core.attempt.instance import SagaInstance
 from sagas.core.recovery import Recovery
-from sagas.core.shard import MAX_REPORTS, ShardDriver
+from sagas.core.shard.driver import ShardDriver
 from sagas.core.states import ShardState, saga_phase, undo_failures
 from sagas.definition.payloads import ABSENT
 from sagas.engine.process import EngineProcess, Listener
@@ -42,8 +43,10 @@ class ShardRunner:
         fault: Why it could not be loaded or written.
         is_set_aside: Whether its data is damaged, so that it is rarely loaded again.
         note: The stored reason why it is set aside.
-        has_unread: Whether this program cannot read some stored values of its open sagas.
+        has_unread: Whether this program cannot execute some of its open sagas, because it cannot
+            read their values or does not have their functions.
         used: When its engine was last asked, by the monotonic clock.
+        is_moving: Whether it is about to move to another node, and claims no tasks.
     """
 
     def __init__(self, driver: ShardDriver, coordinator: Coordinator, shards: Shards) -> None:
@@ -52,7 +55,7 @@ class ShardRunner:
         self.fault: BaseException | None = None
         self.is_set_aside = False
         self.note: str | None = None
-        self.has_unread = False
+        self.has_unread = self.is_moving = False
         self.used = 0.0
         self._coordinator, self._store, self._shards = coordinator, coordinator.store, shards
         self._slots, self._engines = coordinator.executor.slots, shards.engines
@@ -67,7 +70,7 @@ class ShardRunner:
 
     def report(self, attempt: Attempt, at_once: bool = False) -> None:
         """Report a finished attempt. With `at_once`, no other operation is half done."""
-        self.driver.report(attempt)
+        self.driver.reports[attempt] = None
         self.poke(at_once)
 
     def suspend(self, attempt: Attempt, row: SuspensionRow) -> None:
@@ -110,12 +113,13 @@ class ShardRunner:
             self._loop.call_soon(self.give_up_engine)
             if not self.driver.commits_in_flight:
                 return
-        self._shards.deadlines.look()
+        if self._clock() >= self._shards.deadlines.next_at:
+            self._shards.deadlines.look()
         if self._shards.placement.waiting:
             self._shards.placement.fill(self)
         if self.driver.state is not ACTIVE or engine.unanswered:  # another shard took its engine
             return
-        lines = [] if self.driver.needs_new_engine else self._requests()
+        lines = self._requests()
         if not lines:
             if self.driver.needs_new_engine:  # also if a definition was too long for a request
                 self._renew()
@@ -140,8 +144,11 @@ class ShardRunner:
             self._coordinator.spawn(self._start())
 
     def _requests(self) -> list[str]:
-        is_closing, driver = self._shards.is_closing, self.driver
-        lines = driver.requests(0 if is_closing else self._slots.free_count(), self._clock())
+        is_closing, driver = self._claims_nothing, self.driver
+        free_slots = 0 if is_closing else self._slots.free_count()
+        if driver.needs_new_engine:
+            return []
+        lines = driver.requests(free_slots, self._clock())
         if (request := driver.unanswered) and request.claim_count:
             self._slots.reserve(request.claim_count)
         elif driver.may_have_tasks and not is_closing:
@@ -224,7 +231,7 @@ class ShardRunner:
         if not self.driver.commits_in_flight:
             if self.driver.state is STALE:
                 self._load_soon()
-            if self.driver.needs_new_engine:
+            if self.driver.identity.definitions.is_fixed:  # it may need a new engine
                 self.poke()
             if self._engines.waiting:
                 self._offer()
@@ -233,8 +240,27 @@ class ShardRunner:
     # -- its engine
 
     def _is_due(self) -> bool:
-        may_claim = not (self in self._slots.waiting_shards or self._shards.is_closing)
-        return self.driver.is_due(may_claim)
+        """Return whether a request to the engine is due."""
+        driver = self.driver
+        if driver.reports or driver.opens or driver.aborts:
+            return True
+        is_waiting = self in self._slots.waiting_shards
+        return driver.may_have_tasks and not (is_waiting or self._claims_nothing)
+
+    @property
+    def _claims_nothing(self) -> bool:
+        """Whether it starts no further attempts."""
+        return self._shards.is_closing or self.is_moving
+
+    @property
+    def is_quiescent(self) -> bool:
+        """Whether all of it is stored, and nothing of it is in progress except functions."""
+        driver, engine = self.driver, self.engine
+        requested = driver.opens or driver.reports or driver.aborts or driver.unanswered
+        sent = driver.opens_sent or driver.reports_sent or driver.aborts_sent
+        has_work = requested or sent or driver.commits_in_flight or driver.new_shard
+        is_here = driver.state in (ACTIVE, IDLE) and not (engine and engine.unanswered)
+        return is_here and not has_work
 
     def pending_answers(self) -> int:
         """Return how much its engine is about to reply to."""
@@ -403,7 +429,7 @@ class ShardRunner:
         self.engine.ask(recovery.requests(rows, self._overdue))
 
     async def _is_left(self, rows: LoadedShard) -> bool:
-        """Return whether the shard is left to another node, because values cannot be read.
+        """Return whether the shard is left to another node, which may execute all of its sagas.
 
         If no other node takes it, this program logs a warning once.
         """
@@ -417,9 +443,13 @@ class ShardRunner:
             return True
         if not self.has_unread:
             count = "1 open saga" if len(errors) == 1 else f"{len(errors)} open sagas"
+            has_functions = all(
+                kinds[index].missing_function is None for _, _, index, *_ in rows.open
+            )
             logger.warning(
-                "shard %s: this program cannot read %s: %s. The first one: %s",
+                "shard %s: this program cannot %s %s: %s. The first one: %s",
                 driver.name,
+                "read" if has_functions else "execute",
                 count,
                 stored_values.REMEDY,
                 errors[0],
@@ -433,7 +463,14 @@ class ShardRunner:
         known = self._coordinator.sagas.by_key
         try:
             recovered = recovery.recover(
-                rows, replies, self._clock(), driver, known, store.shared, self._overdue, log_text
+                rows,
+                replies,
+                self._clock(),
+                driver,
+                known,
+                store.supports_nodes,
+                self._overdue,
+                log_text,
             )
             self._effects.recovered(recovered)
         except Exception as error:
@@ -468,6 +505,8 @@ class EffectHandler:
     def __init__(self, coordinator: Coordinator, shards: Shards) -> None:
         self._executor, self._slots = coordinator.executor, coordinator.executor.slots
         self._sagas, self._teller = coordinator.sagas, coordinator.teller
+        self._trends = coordinator.trends.counts
+        self._clock = coordinator.clock
         self._shards, self._offers = shards, coordinator.external
         self._acknowledgements = coordinator.executor.calls.acknowledgements
 
@@ -504,7 +543,6 @@ class EffectHandler:
             if self._acknowledgements is not None:
                 self._acknowledgements.over(effects.ended)
         if dispatch := effects.dispatch:
-            self._slots.release(len(dispatch))
             self._executor.begin_all(dispatch)
         for saga in effects.opened:
             if saga.is_large:  # it may wait for a slot
@@ -592,19 +630,29 @@ class EffectHandler:
         is_wanted = self._teller.is_wanted("saga_started")
         for saga in sagas:
             self._sagas.notify_started(saga)
+            self._trends.add_start(saga.kind.name)
             if is_wanted:
                 self._teller.emit("saga_started", key=saga.key, saga=saga.kind.name)
 
     def _ended(self, sagas: Sequence[SagaInstance]) -> None:
-        is_wanted = self._teller.is_wanted("saga_ended")
+        is_wanted, now = self._teller.is_wanted("saga_ended"), self._clock()
         for saga in sagas:
             self._sagas.notify_ended(saga)
+            self._count_end(saga, now)
             if is_wanted or saga.phase != "ended":
                 self._emit_end(saga)
             if saga.has_deviated and saga.phase == "ended" and (steps := undo_failures(saga.end)):
                 self._emit_undo_failed(saga, steps)
-            if unused := reports.unused_report_steps(saga):
+            has_early = saga.extras is not None and saga.extras.early_reports
+            if has_early and (unused := reports.unused_report_steps(saga)):
                 self._emit_unused(saga, unused)
+
+    def _count_end(self, saga: SagaInstance, now: float) -> None:
+        if saga.phase == "stuck":
+            self._trends.add_stuck(saga.kind.name)
+        else:
+            is_planned = saga.answer is not None and saga.answer.get("kind") == "plan"
+            self._trends.add_end(saga.kind.name, is_planned, now - saga.started_at)
 
     def _emit_end(self, saga: SagaInstance) -> None:
         """Emit how a saga ended: its phase, and the blocking steps of a stuck one."""
@@ -614,7 +662,13 @@ class EffectHandler:
         if saga.phase != "stuck":
             recovered = (saga.answer or {}).get("kind") == "plan"
             detail = saga_phase(saga.phase, recovered, None).value
-        self._teller.emit(f"saga_{saga.phase}", key=saga.key, saga=saga.kind.name, detail=detail)
+        self._teller.emit(
+            f"saga_{saga.phase}",
+            key=saga.key,
+            saga=saga.kind.name,
+            seconds=max(0.0, self._clock() - saga.started_at),
+            detail=detail,
+        )
 
     def _emit_unused(self, saga: SagaInstance, steps: Sequence[int]) -> None:
         """Emit that a saga ended without using successes that were reported early."""

@@ -14,11 +14,12 @@ from typing import TYPE_CHECKING
 
 from sagas.base.errors import DamagedShard, EngineError, SagaMoved, SagasError, StoreUnavailable
 from sagas.base.logger import logger
+from sagas.base.wording import number
 from sagas.core import recovery
-from sagas.core.batch import Batch, LoadedShard, RequestRef, SagaRow, ShardRow
+from sagas.core.shard.batch import Batch, LoadedShard, RequestRef, SagaRow, ShardRow
 from sagas.core.effects import Abort
-from sagas.core.saga_instance import SagaInstance
-from sagas.core.shard import ShardDefinitions, ShardDriver, ShardIdentity
+from sagas.core.attempt.instance import SagaInstance
+from sagas.core.shard.driver import ShardDefinitions, ShardDriver, ShardIdentity
 from sagas.core.states import ShardState
 from sagas.definition.payloads import Reference
 from sagas.definition.compiled import CompiledDefinition
@@ -27,6 +28,7 @@ from sagas.engine.process import EnginePool, EngineProcess
 from sagas.runtime import stored_values
 from sagas.runtime.audits import Auditor
 from sagas.runtime.instances import INPUT, Deadlines, conflict
+from sagas.runtime.shard_moves import ShardMoves
 from sagas.runtime.shard_runner import EffectHandler, ShardRunner
 from sagas.runtime.stored_values import until_answered
 
@@ -112,11 +114,15 @@ class Shards:
             EngineError: An engine process cannot be started, or its output is invalid.
             StoreUnavailable: The store cannot be read.
         """
+        began = time.monotonic()
         adopted = [runner for runner in self.adopt(rows) if runner.driver.state is STALE]
         self._opening.begin(adopted)
         for runner in adopted:
             self.engines.request_engine(runner)
         await self._opening.over()
+        if rows:
+            opened = (number(len(rows), "shard"), time.monotonic() - began)
+            logger.info("opened the store with %s in %.1f s", *opened)
 
     def adopt(self, rows: list[ShardRow]) -> list[ShardRunner]:
         """Return runners of shards that this program has taken. They accept no new sagas.
@@ -130,6 +136,7 @@ class Shards:
             state = STALE if row.open else IDLE
             runner = self.run(ShardDriver(identity, state, row.epoch, row.opened))
             runner.note = row.note
+            self.relocation.moves.adopted(row)
             adopted.append(runner)
         return adopted
 
@@ -155,7 +162,9 @@ class Shards:
         """Continue shards that another node had."""
         if self.closed:
             return
-        for runner in self.adopt([row for row in rows if row.shard not in self.runners]):
+        adopted = self.adopt([row for row in rows if row.shard not in self.runners])
+        self._opening.take_over([runner for runner in adopted if runner.driver.state is STALE])
+        for runner in adopted:
             self._teller.emit("shard_taken", detail=runner.driver.name)
             if runner.driver.state is STALE:
                 self.engines.request_engine(runner)
@@ -320,7 +329,7 @@ class Shards:
             "the same key"
         )
         for saga in sent:
-            self.refuse(saga, nothing if rows or not self._store.shared else unsure)
+            self.refuse(saga, nothing if rows or self._store.answers_at_once else unsure)
         for saga in new:
             self.refuse(saga, nothing)
 
@@ -376,6 +385,7 @@ class Shards:
 
     def changed(self, runner: ShardRunner) -> None:
         """Handle that a write of a shard succeeded or failed."""
+        self.relocation.moves.changed()
         if not runner.driver.sagas:
             self.close_if_over(runner)
         if self._change:
@@ -384,17 +394,23 @@ class Shards:
     def close_if_over(self, runner: ShardRunner) -> None:
         """Audit and close a finished shard that accepts no more sagas."""
         driver = runner.driver
-        if not driver.is_over or driver.state not in (ACTIVE, IDLE):
-            return
         is_current = self.placement.is_current(runner)
         takes_more = is_current and not driver.is_full and driver.opened < self._definitions.room
         if self.closed or driver.new_shard or takes_more:
+            return
+        if not driver.is_over or driver.state not in (ACTIVE, IDLE):
             return
         for abort in (*driver.aborts, *driver.aborts_sent):  # all its sagas had ended before
             abort.done = False
             self._sagas.answer_abort(abort)
         self._stop(runner)
         self._closing[driver.number] = self._spawn(self._close(driver))
+
+    def retire(self) -> None:
+        """Have no shard accept new sagas, and close those that are finished."""
+        for runner in list(self.placement.current.values()):
+            self.placement.forget(runner)
+            self.close_if_over(runner)
 
     def close_all_over(self) -> None:
         """Close all finished shards. See `close_if_over`."""
@@ -472,10 +488,28 @@ class Shards:
         return engines
 
 
+class Takeover:
+    """Shards that were taken over at one time, until all are open."""
+
+    def __init__(self, runners: list[ShardRunner]) -> None:
+        self._began, self._count = time.monotonic(), len(runners)
+        self._loading = {*runners}
+
+    def is_over(self, runner: ShardRunner) -> bool:
+        """Note that a shard is open or lost, and return whether that was the last one."""
+        if runner in self._loading:
+            self._loading.discard(runner)
+            if not self._loading:
+                opened = (number(self._count, "shard"), time.monotonic() - self._began)
+                logger.info("took over %s in %.1f s", *opened)
+        return not self._loading
+
+
 class Opening:
-    """The shards that are loaded while the store opens."""
+    """The shards that are loaded while the store opens, and those that were taken over."""
 
     def __init__(self) -> None:
+        self._takeovers: list[Takeover] = []
         self._loading: set[ShardRunner] = set()
         self._over: asyncio.Future[None] | None = None
 
@@ -490,8 +524,14 @@ class Opening:
         if self._over:
             await self._over
 
+    def take_over(self, runners: list[ShardRunner]) -> None:
+        """Note shards of other nodes that are to be loaded."""
+        if runners:
+            self._takeovers.append(Takeover(runners))
+
     def ready(self, runner: ShardRunner) -> None:
-        """Handle that a shard is loaded or lost."""
+        """Handle that a shard is loaded, lost or set aside."""
+        self._takeovers = [takeover for takeover in self._takeovers if not takeover.is_over(runner)]
         self._loading.discard(runner)
         if not self._loading and self._over and not self._over.done():
             self._over.set_result(None)
@@ -537,9 +577,9 @@ class Placement:
         try:
             if self._shards.closed:
                 raise self._shards.closed
-            if not self._store.shared:
+            if self._store.answers_at_once:
                 stored_rows = self._store.find_many(
-                    [saga.key for saga in waiting if not saga.guessed]
+                    [saga.key for saga in waiting if not saga.has_unchecked_key]
                 )
         except SagasError as error:
             for saga in waiting:
@@ -596,9 +636,14 @@ class Placement:
 
 
 class Relocation:
-    """Releases sagas that other nodes execute, and opens sagas in another shard."""
+    """Releases sagas that other nodes execute, and opens sagas in another shard.
+
+    Attributes:
+        moves: Moves shards to other nodes.
+    """
 
     def __init__(self, coordinator: Coordinator, shards: Shards) -> None:
+        self.moves: ShardMoves = ShardMoves(coordinator)
         self._store, self._sagas = coordinator.store, coordinator.sagas
         self._executor, self._commits = coordinator.executor, coordinator.commits
         self._clock, self._spawn, self._shards = coordinator.clock, coordinator.spawn, shards
@@ -665,7 +710,7 @@ class Relocation:
         ]
         others = await asyncio.gather(*(self._store.find(saga.key) for saga in unconfirmed))
         for saga, other in zip(unconfirmed, others):
-            if other is not None and (other.id >= 0 or saga.guessed):
+            if other is not None and (other.id >= 0 or saga.has_unchecked_key):
                 driver.opens_sent.pop(saga, None)
                 saga.number, saga.shard = -1, None
                 self.key_taken(saga, other)

@@ -8,14 +8,15 @@ and offers the shard again from time to time.
 from __future__ import annotations
 
 import asyncio
-from collections.abc import AsyncIterator, Awaitable, Callable, Coroutine, Sequence
+from collections.abc import AsyncIterator, Awaitable, Callable, Coroutine, Iterator, Sequence
 from typing import Any, TypeVar, cast
 
 from sagas.base.errors import StoreUnavailable
-from sagas.core.batch import LoadedShard
-from sagas.core.saga_instance import StoredValues
-from sagas.core.attempt import Attempt, RUNNING
-from sagas.core.shard import ShardDriver
+from sagas.base.pauses import doubling_pauses
+from sagas.core.shard.batch import LoadedShard
+from sagas.core.attempt.instance import StoredValues
+from sagas.core.attempt.model import Attempt, RUNNING
+from sagas.core.shard.driver import ShardDriver
 from sagas.definition.payloads import ABSENT, BlobUnavailable, Reference
 from sagas.definition.compiled import CompiledDefinition
 from sagas.storage.interface import Database
@@ -46,15 +47,15 @@ async def until_answered(ask: Callable[[], Awaitable[T]], with_blobs: bool = Tru
         with_blobs: Whether to retry also if a large value cannot be read. If not, `BlobUnavailable`
             is raised.
     """
-    pause = FIRST_PAUSE
+    pauses: Iterator[float] | None = None  # most reads are answered at once
     while True:
         try:
             return await ask()
         except StoreUnavailable as error:
             if isinstance(error, BlobUnavailable) and not with_blobs:
                 raise
-            await asyncio.sleep(pause)
-            pause = min(MAX_PAUSE, 2 * pause)
+            pauses = pauses or doubling_pauses(FIRST_PAUSE, MAX_PAUSE)
+            await asyncio.sleep(next(pauses))
 
 
 async def values_of(
@@ -144,7 +145,7 @@ class ValueReader:
 async def unreadable_sagas(
     kinds: Sequence[CompiledDefinition], rows: LoadedShard, store: Database
 ) -> AsyncIterator[str]:
-    """Yield the first unreadable value of each open saga of a shard.
+    """Yield the first unreadable value of each open saga, or a function that is missing.
 
     Values in a blob store are not checked. They are read when a function needs them.
     """
@@ -152,22 +153,27 @@ async def unreadable_sagas(
     for id, step, word, _, outcome, value, _ in rows.results:
         if outcome in ("commit", "ok") and word == "run":
             results.setdefault(id, {})[step] = value or "null"
-    for count, (id, key, index, input, *_) in enumerate(rows.open):
+    for count, (id, key, index, input, _, _, shape, _) in enumerate(rows.open):
         kind, text = kinds[index], cast("str | None", input)
         if count % MANY == MANY - 1:
             await asyncio.sleep(0)
+        if kind.missing_function is not None:
+            yield f"saga {kind.name!r}, key {key!r}, {kind.missing_function}"
+            continue
         if not kind.reads:
             continue
         known = results.get(id, {})
-        if ABSENT in (text, *known.values()):
+        if ABSENT in (text, shape, *known.values()):
             lacking = [step for step, value in known.items() if value == ABSENT]
             stored = await until_answered(lambda: values_of(store, id, lacking, with_blobs=False))
             if stored is None:
                 continue
             text = None if Reference.of(stored.text) else stored.text
+            shape = None if stored.shape is None or Reference.of(stored.shape) else stored.shape
             known = {**known, **stored.results}
             known = {step: value for step, value in known.items() if not Reference.of(value)}
-        if why := kind.unread(text, known):
+        is_here = shape is not None and shape != ABSENT and not Reference.of(shape)
+        if why := kind.unread(text, known, shape if is_here else None):
             yield f"saga {kind.name!r}, key {key!r}, {why}"
 
 

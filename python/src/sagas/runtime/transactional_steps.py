@@ -17,8 +17,8 @@ import psycopg
 
 from sagas.base.errors import ShardLost, Unknown
 from sagas.core import outcomes
-from sagas.core.batch import Tail
-from sagas.core.attempt import RUNNING
+from sagas.core.shard.batch import Tail
+from sagas.core.attempt.model import RUNNING
 from sagas.core.outcomes import Outcome
 from sagas.definition import awaitables
 from sagas.definition.call_options import Function, Manner
@@ -38,8 +38,8 @@ from sagas.storage.postgresql.step_pool import REST, Loan, Pool, Reservation
 if TYPE_CHECKING:
     from concurrent.futures import Executor
 
-    from sagas.core.attempt import Attempt
-    from sagas.core.step_transactions import TakeConnection
+    from sagas.core.attempt.model import Attempt
+    from sagas.core.attempt.step_transactions import TakeConnection
 
 PLAIN = frozenset((type(None), bool, int, float, str, dict, list))
 """Types of results that are never awaitable."""
@@ -266,10 +266,10 @@ class Transactions:
         See `StepTransactions`.
         """
         reservation = None
-        if task.leave() is None and self._pool.has_idle():
+        if task._leave() is None and self._pool.has_idle():
             reservation = self._pool.reserve_now()
         acquire = reservation.acquire if reservation else self._pool.acquire_now
-        task.enter_by(functools.partial(self._taken, attempt, acquire))
+        task._enter_by(functools.partial(self._taken, attempt, acquire))
         return await self._ended(attempt, task, work, reservation)
 
     def raised(self, error: BaseException) -> BaseException:
@@ -287,7 +287,7 @@ class Transactions:
             reservation = await self._pool.reserve()
         except psycopg.Error as error:
             raise as_raised(error)
-        task.enter_by(functools.partial(self._taken, attempt, reservation.acquire))
+        task._enter_by(functools.partial(self._taken, attempt, reservation.acquire))
         return await self._ended(attempt, task, _called(function, task), reservation)
 
     async def _ended(
@@ -302,12 +302,12 @@ class Transactions:
             try:
                 value = await work
             except BaseException:
-                if (link := task.leave()) is not None:
+                if (link := task._leave()) is not None:
                     await self._left(link)
                 elif reservation:
                     reservation.release()
                 raise
-            if (link := task.leave()) is not None:
+            if (link := task._leave()) is not None:
                 await self._end(attempt, link, value)
             elif reservation:
                 reservation.release()
@@ -362,7 +362,7 @@ class Transactions:
         try:
             link = loan.begin()
             try:
-                task.enter(link)
+                task._enter(link)
                 link.begun = False
                 value = awaitables.plain_result(function(task))
                 if link.begun:

@@ -1,4 +1,4 @@
-"""Who a request is from, and what it may: tokens, sessions, roles and rates.
+"""The sender of a request, and what it may do: tokens, sessions, roles and rates.
 
 `Resource` checks the headers first: a request without permission is answered before a byte of
 its body is read. A request that waits ends with its client, its token or the service.
@@ -9,13 +9,14 @@ from __future__ import annotations
 import asyncio
 import contextlib
 import functools
-from collections.abc import Iterator
+from collections.abc import Iterator, Mapping
 from typing import Any
 
 from starlette.requests import Request
 from starlette.responses import Response
 
-from sagas.server.auth import LOCAL_PRINCIPAL, ROLES, Permission, Principal, Session
+from sagas.core.decisions import Requester, Way
+from sagas.server.auth import LOCAL_PRINCIPAL, Permission, Principal, Session, roles_with
 from sagas.server.event_stream import CHECK_INTERVAL
 from sagas.server.limits import RequestKind
 from sagas.server.middleware import CROWDING, FOLLOWED, GONE, LEAVE, LOGIN, SERVICE, SLASH
@@ -27,6 +28,8 @@ PRINCIPAL_NAME = "sagas.who"
 """In a scope: the name of the principal, for the log."""
 PRINCIPAL = "sagas.owner"
 """In a scope: the `Principal`, once the request is authorized."""
+SESSION = "sagas.session"
+"""In a scope: the `Session` of a page, or None without tokens as long as there is none."""
 SIZE = "sagas.size"
 """In a scope: the number of bytes of the body, once it was read."""
 HAS_SLOT = "sagas.place"
@@ -92,7 +95,7 @@ def occupy(request: Request, principal: Principal) -> None:
     """Take one of the token's slots until the request ends. Raises `Problem`."""
     CURRENT_CLIENT.set(client_key(request, principal))
     if HAS_SLOT not in request.scope:
-        leave = service_of(request).places.take(
+        leave = service_of(request).concurrency.take(
             client_key(request, principal), RequestKind.CONNECTION
         )
         request.scope[HAS_SLOT] = True
@@ -102,7 +105,7 @@ def occupy(request: Request, principal: Principal) -> None:
 @contextlib.contextmanager
 def waiting(request: Request, principal: Principal, kind: RequestKind) -> Iterator[None]:
     """Count the request as waiting. Raises `Problem` if too many of the token wait."""
-    leave = service_of(request).places.take(client_key(request, principal), kind)
+    leave = service_of(request).concurrency.take(client_key(request, principal), kind)
     try:
         yield
     finally:
@@ -123,11 +126,7 @@ def authorize(request: Request, permission: Permission) -> Principal:
     """
     principal = authenticate(request)
     request.scope[PRINCIPAL_NAME] = principal.name
-    if not principal.has_permission(permission):
-        roles = " or ".join(role for role, may in ROLES.items() if permission in may)
-        owner = f"{principal.name} ({', '.join(sorted(principal.roles))})"
-        reason = f"{owner} is not permitted to {permission.value}"
-        raise Problem("Forbidden", f"{reason}: use a token with the role {roles}")
+    check_permission(principal, permission)
     has_tokens = service_of(request).tokens is not None
     check_capacity(request, is_operator=has_tokens and principal.has_permission(Permission.OPERATE))
     count_request(request, principal)
@@ -135,6 +134,15 @@ def authorize(request: Request, permission: Permission) -> Principal:
     request.scope[PRINCIPAL] = principal
     request.scope[RIGHTS_CHECK] = functools.partial(check_unchanged, request, principal)
     return principal
+
+
+def check_permission(principal: Principal, permission: Permission) -> None:
+    """Raise `Problem` if none of the principal's roles has the permission."""
+    if not principal.has_permission(permission):
+        owner = f"{principal.name} ({', '.join(sorted(principal.roles))})"
+        reason = f"{owner} is not permitted to {permission.value}"
+        roles = " or ".join(roles_with(permission))
+        raise Problem("Forbidden", f"{reason}: use a token with the role {roles}")
 
 
 async def body_of(request: Request) -> bytes:
@@ -170,6 +178,16 @@ def rights_changed() -> Problem:
     return Problem("RightsChanged", "the rights of your token have changed. Send the request again")
 
 
+def over_http(principal: Principal) -> Requester:
+    """Return who decides by a call of the API."""
+    return Requester(principal.name, Way.HTTP)
+
+
+def on_page(principal: Principal) -> Requester:
+    """Return who decides on a page of the dashboard."""
+    return Requester(principal.name, Way.DASHBOARD)
+
+
 def check_definition(principal: Principal, definition: str | None, starts: bool = True) -> None:
     """Raise `Problem` if the token has no right to sagas of this definition.
 
@@ -188,9 +206,12 @@ def check_key(principal: Principal, key: str) -> None:
         raise Problem("Forbidden", f"{principal.name} has no right to the key {key[:64]!r}")
 
 
-def check_steps(principal: Principal, steps: list[str]) -> None:
-    """Raise `Problem` if the token may not claim tasks of some of these steps."""
-    forbidden = sorted({step for step in steps if not principal.does(step)})
+def check_steps(principal: Principal, steps: list[str], ended: Mapping[str, str]) -> None:
+    """Raise `Problem` if the token may not claim tasks of some of these steps.
+
+    `ended` is as of `Principal.does`.
+    """
+    forbidden = sorted({step for step in steps if not principal.does(step, ended)})
     if forbidden:
         listed = ", ".join(forbidden[:10]) + (" ..." if forbidden[10:] else "")
         raise Problem("Forbidden", f"{principal.name} has no right to the steps {listed}")
@@ -255,24 +276,35 @@ def cookie_of(request: Request) -> str:
     return f"{COOKIE}_{port}" if port.isascii() and port.isdigit() and len(port) < 6 else COOKIE
 
 
-def session_of(request: Request) -> Session | None:
-    """Return the session of an operator with the current rights of its token, or None."""
-    session = current_session(request)
+def enter(request: Request, permission: Permission) -> Principal:
+    """Return the principal of a page's session, with the current rights of its token.
+
+    Without tokens, every local user is logged in. Raises `Problem` without a session, or
+    the session's token does not have the permission.
+    """
+    session = request.scope[SESSION] = current_session(request)
+    check_capacity(request, is_operator=is_operator_session(session))
+    if session is None and service_of(request).tokens is not None:
+        is_form = request.method == "POST"
+        raise expired_form() if is_form else Problem("NoSession", "log in first")
+    principal = request.scope[PRINCIPAL] = LOCAL_PRINCIPAL if session is None else session.principal
+    request.scope[PRINCIPAL_NAME] = principal.name
     if session is not None:
-        request.scope[PRINCIPAL_NAME], request.scope[PRINCIPAL] = (
-            session.principal.name,
-            session.principal,
-        )
-        request.scope[RIGHTS_CHECK] = functools.partial(
-            check_session_unchanged, request, session.principal
-        )
-        count_request(request, session.principal)
-        occupy(request, session.principal)
-    return session
+        check = functools.partial(check_session_unchanged, request, principal)
+        request.scope[RIGHTS_CHECK] = check
+        count_request(request, principal)
+        occupy(request, principal)
+    check_permission(principal, permission)
+    return principal
+
+
+def is_operator_session(session: Session | None) -> bool:
+    """Return whether a session is that of an operator."""
+    return session is not None and session.principal.has_permission(Permission.OPERATE)
 
 
 def current_session(request: Request) -> Session | None:
-    """Return the same as `session_of`, without counting the request."""
+    """Return the session of the request's cookie, with the current rights of its token, or None."""
     service = service_of(request)
     session = service.sessions.find(request.cookies.get(cookie_of(request), ""))
     if session is None:
@@ -280,7 +312,7 @@ def current_session(request: Request) -> Session | None:
     principal = (
         LOCAL_PRINCIPAL if service.tokens is None else service.tokens.of(session.principal.digest)
     )
-    if principal is None or not principal.has_permission(Permission.OPERATE):
+    if principal is None or not principal.has_permission(Permission.LOG_IN):
         return None  # its token is not in the file any more, or has expired
     session.principal = principal
     return session
@@ -306,12 +338,8 @@ def expired_form() -> Problem:
 
 
 def viewer_of(request: Request) -> Principal:
-    """Return the principal that views a page, after `login_redirect` has let the request pass."""
-    principal: Principal = (
-        request.scope.get(PRINCIPAL, LOCAL_PRINCIPAL)
-        if service_of(request).tokens is None
-        else request.scope[PRINCIPAL]
-    )
+    """Return the principal that `enter` has let see a page."""
+    principal: Principal = request.scope[PRINCIPAL]
     return principal
 
 

@@ -2,9 +2,12 @@
 
 from __future__ import annotations
 
-from sagas.definition.shape import COSTS
+from sagas.core.nodes import NodeState
+from sagas.definition.call_options import COST_NAMES
+from sagas.inspection.views import END_CALLS
 from sagas.server import problems
 from sagas.server.auth import DEFINITION
+from sagas.server.json_bodies import name_of_text
 from sagas.server.shapes import (
     Anything,
     Choice,
@@ -24,7 +27,7 @@ TASK_SHAPE = Record(
     {
         "saga": Field(Text(), "the saga in which the step is declared, also if it is included"),
         "counts": Field(
-            Mapped(Number(least=0, whole=True)),
+            Mapped(Number(minimum=0, whole=True)),
             "how many items there are of each step, and of each inclusion: `ship`, `hotel[1]/room`",
         ),
         "keys": Field(
@@ -54,12 +57,16 @@ KINDS = (
     "unknown",
     "exhausted",
     "cannot_decode",
+    "program_error",
+    "on_end",
+    "no_definition",
+    "no_node",
     "damaged",
     "approval",
 )
 """What needs an operator."""
-NAME = Text(most=32, pattern=DEFINITION.pattern)
-COUNT = Number(least=0, whole=True)
+NAME = Text(max_length=32, pattern=DEFINITION.pattern)
+COUNT = Number(minimum=0, whole=True)
 SECONDS = Number()
 COST = Nullable(COUNT)
 MAYBE = Nullable(Text())
@@ -71,7 +78,7 @@ def time(name: str, description: str, nullable: bool = False) -> dict[str, Field
     text: Shape = Nullable(Text(form="date-time")) if nullable else Text(form="date-time")
     return {
         name: Field(seconds, f"{description}, in seconds since 1970"),
-        f"{name}_at": Field(text, f"{description}, as RFC 3339"),
+        name_of_text(name): Field(text, f"{description}, as RFC 3339"),
     }
 
 
@@ -87,11 +94,12 @@ PROBLEM = Record(
         "status": Field(Number(400, 599, whole=True), "the HTTP status"),
         "detail": Field(Text(), "what happened, and what to do"),
         "field": Field(Text(), "the parameter, or the path in the body", default=None),
+        "request_id": Field(Text(), "the id of the request, also in `X-Request-Id`", default=None),
     },
     "Problem details (RFC 9457).",
     {
         "type": "urn:sagas:problem:KeyConflict",
-        "title": "The key is already used with another saga or input",
+        "title": "The key is already used with another saga, version or input",
         "status": 409,
         "detail": "the key 'order-1' has another input: use another key",
     },
@@ -111,6 +119,9 @@ SUMMARY = Record(
     {
         "key": Field(Text()),
         "definition": Field(NAME),
+        "version": Field(
+            Nullable(COUNT), "of its definition; null: a damaged shard has lost the definition"
+        ),
         "phase": Field(Choice(PHASES)),
         **time("started", "when it was started"),
         **time("ended", "when it ended, or got stuck", nullable=True),
@@ -143,6 +154,10 @@ PLAN = Record(
     "Plan",
     {
         "cost": Field(COST, "null: no plan is feasible"),
+        "pivot": Field(
+            Nullable(NAME),
+            "the pivot, if there is one: then the costs have no meaning of their own",
+        ),
         "blocking_steps": Field(Several(NAME), "the steps that make every plan infeasible"),
         "steps": Field(Several(PLANNED)),
     },
@@ -150,13 +165,13 @@ PLAN = Record(
 WAITING = Record(
     "Waiting",
     {
-        "step": Field(NAME),
+        "step": Field(MAYBE, "null: no node executes the saga"),
         "undo": Field(Flag(), "whether it is the compensation"),
         "attempt": Field(COUNT),
         "why": Field(Text(), "what it waits for"),
         **time("since", "since when"),
         **time("until", "until when", nullable=True),
-        "said": Field(MAYBE, "the last error, or the name of the worker"),
+        "detail": Field(MAYBE, "the last error, the name of the worker, or the note of a pause"),
         "person": Field(Flag(), "an operator must report something"),
     },
 )
@@ -164,7 +179,9 @@ PROGRESS = Record(
     "Progress",
     {
         "step": Field(NAME),
-        "fraction": Field(Number(least=0, most=1), "the progress of its function, from 0 to 1"),
+        "fraction": Field(
+            Number(minimum=0, maximum=1), "the progress of its function, from 0 to 1"
+        ),
         "detail": Field(MAYBE, "a text from the function"),
     },
 )
@@ -175,6 +192,26 @@ RELATIVE = Record(
         "definition": Field(NAME),
         "phase": Field(Choice(PHASES)),
         "step": Field(Text(), "the step that started the child; `STEP:undo`: the child undoes it"),
+        "children": Field(COUNT, "how many sagas it started itself; 0 of a parent"),
+    },
+)
+END_CALL = Record(
+    "EndCall",
+    {
+        "state": Field(
+            Choice(tuple(END_CALLS)),
+            "blocked: no program could start it; person: it waits for a person, or has failed",
+        ),
+        "key": Field(MAYBE, "of the saga that calls the function; null: it is not started"),
+        "detail": Field(MAYBE, "why no program could start it"),
+    },
+)
+RESTART = Record(
+    "RestartLink",
+    {
+        "key": Field(Text()),
+        "definition": Field(NAME),
+        "phase": Field(Nullable(Choice(PHASES)), "null: it was deleted"),
     },
 )
 SAGA = Record(
@@ -182,6 +219,7 @@ SAGA = Record(
     {
         "key": Field(Text()),
         "definition": Field(NAME),
+        "version": Field(COUNT, "of its definition"),
         "phase": Field(Choice(PHASES)),
         "over": Field(Flag(), "it is not open"),
         **time("started", "when it was started"),
@@ -189,13 +227,21 @@ SAGA = Record(
         **DEADLINE,
         "aborted": Field(Flag()),
         "note": Field(MAYBE, "the note with which it was resolved"),
+        **time("erased", "when its data was erased", nullable=True),
+        "erased_by": Field(MAYBE, "who erased its data"),
         "labels": Field(Mapped(Text())),
         "parent": Field(Nullable(RELATIVE), "the saga that started it"),
         "children": Field(Several(RELATIVE), "the sagas that it started, at most 1,024"),
+        "end_call": Field(Nullable(END_CALL), "the call of its on_end function"),
+        "restart_of": Field(Nullable(RESTART), "the saga that it restarts"),
+        "restarts": Field(Several(RESTART), "the sagas that restart it, at most 1,024"),
         "input": Field(Anything()),
         "states": Field(Mapped(Choice(STATES)), "of each step"),
         "results": Field(Mapped(Anything()), "of the steps that are in effect"),
         "errors": Field(Mapped(Text()), "the last error of each failed step"),
+        "optional_failures": Field(
+            Several(NAME), "the failed steps without which the saga continued"
+        ),
         "plan": Field(Nullable(PLAN), "the last plan; null: nothing has failed"),
         "waits": Field(Several(WAITING), "the attempts that wait"),
         "progress": Field(Several(PROGRESS), "the last reported progress of running functions"),
@@ -208,13 +254,64 @@ SAGA = Record(
 EVENT = Record(
     "SagaEvent",
     {
-        "event": Field(Text(), "the event's name; `note`: a command of an operator"),
+        "event": Field(
+            Text(), "the event's name; `note`: a command of an operator; `call`: a repeated call"
+        ),
         **time("at", "when"),
         "step": Field(MAYBE),
         "value": Field(Anything(), "its result or error"),
     },
 )
+DECISION_ENTRY = Record(
+    "DecisionEntry",
+    {
+        "number": Field(COUNT, "its position: a later decision has a larger number"),
+        "decision": Field(Text(), "what was decided, for example `retry`"),
+        **time("at", "when; of several sagas, the first time"),
+        "by": Field(MAYBE, "who decided; null: a program that did not say"),
+        "via": Field(Choice(("dashboard", "http", "command", "program")), "by which way"),
+        "note": Field(MAYBE, "the reason"),
+        "bulk": Field(Flag(), "it was one decision on several sagas"),
+        "subject": Field(MAYBE, "of a pause: its scope; of a drain: node:NAME; null: on sagas"),
+        "count": Field(COUNT, "the number of sagas and steps"),
+        "done": Field(COUNT, "how many were changed"),
+        "refused": Field(COUNT, "how many refused it"),
+        "waiting": Field(COUNT, "how many have not answered"),
+        "sagas": Field(
+            Several(
+                Record(
+                    "DecidedSaga",
+                    {
+                        "key": Field(Text()),
+                        "definition": Field(NAME),
+                        "step": Field(MAYBE, "null: the saga is meant"),
+                        "undo": Field(Flag(), "whether the compensation is meant"),
+                        "answer": Field(Choice(("done", "refused", "waiting"))),
+                    },
+                )
+            ),
+            "at most 1,000",
+        ),
+    },
+)
+DECISIONS = Record(
+    "DecisionPage",
+    {
+        "decisions": Field(Several(DECISION_ENTRY)),
+        "next": Field(Nullable(COUNT), "`after` for the next page; null: this is the last page"),
+    },
+)
 HISTORY = Record("History", {"events": Field(Several(EVENT))})
+EXPORT = Record(
+    "SagaExport",
+    {
+        "definition": Field(Text(), "in TOML"),
+        "events": Field(Several(Mapped(Anything())), "of its log, each with its time"),
+        "saga": Field(SAGA),
+        "history": Field(Several(EVENT), "the events with results, errors and operator commands"),
+    },
+    "All that is stored of a saga. The planner page replays it.",
+)
 CERTIFICATE = Record(
     "Certificate",
     {
@@ -236,6 +333,14 @@ WHAT_IF = Record(
         ),
     },
     "A plan that is not executed.",
+)
+ERASED = Record(
+    "Erased",
+    {
+        "key": Field(Text()),
+        "erased": Field(Flag()),
+        "new": Field(Flag(), "false: all of it was erased before"),
+    },
 )
 ABORTED = Record(
     "Aborted",
@@ -261,7 +366,7 @@ TASK = Record(
         "name": Field(Text(), "the requested step: `trip/car`, or `trip/car/undo`"),
         "attempt_id": Field(Text(), "the task's name, for heartbeats and the report"),
         "lease": Field(Text(), "the right to report it, for heartbeats and the report"),
-        "seconds": Field(Number(least=0), "for how long the lease holds from now"),
+        "seconds": Field(Number(minimum=0), "for how long the lease holds from now"),
         **time("until", "when the lease expires"),
         **DEADLINE,
         **CANCELLED,
@@ -294,7 +399,7 @@ CLAIMED = Record(
     "Claimed",
     {
         "tasks": Field(Several(TASK)),
-        "heartbeat_seconds": Field(Number(least=0), "how often to send heartbeats"),
+        "heartbeat_seconds": Field(Number(minimum=0), "how often to send heartbeats"),
         "repeat_statuses": Field(
             Several(Number(400, 599, whole=True)),
             "repeat requests that are answered with these statuses",
@@ -353,10 +458,15 @@ STEP = Record(
             Choice(("worker", "approval", "wait", "child", "function")), "what executes it"
         ),
         "needs": Field(Several(Text())),
-        **{word: Field(COST, "null: not possible, or computed") for word in COSTS},
-        "computed": Field(Several(Choice(COSTS)), "the costs that are computed from the input"),
+        **{word: Field(COST, "null: not possible, or computed") for word in COST_NAMES},
+        "computed": Field(
+            Several(Choice(COST_NAMES)),
+            "the costs that are computed from the input, or all of them if there is a pivot",
+        ),
         "for_each": Field(Flag(), "whether it exists once for each item of the input"),
         "conditional": Field(Flag(), "whether it exists only for some inputs"),
+        "optional": Field(Flag(), "whether the saga continues without it if it fails"),
+        "pivot": Field(Flag(), "whether it is the pivot, which determines all costs"),
         "tries": Field(COUNT),
         "undo_tries": Field(COUNT),
     },
@@ -383,6 +493,9 @@ ATTENTION_ENTRY = Record(
             MAYBE, "the error, or what cannot be read; of an unused report, its result as JSON"
         ),
         "by": Field(MAYBE, "of an unused report, who reported it"),
+        "shown": Field(
+            Mapped(Anything()), "of an approval, the fields of the input that its definition shows"
+        ),
         "waits_for": Field(Text(), "what it waits for, in words"),
         "calls": Field(
             Several(Choice(("compensate", "resolve", "retry", "complete", "fail", "abort"))),
@@ -410,7 +523,7 @@ BULK = Record(
         "done": Field(COUNT, "how many were changed"),
         "refused": Field(Several(REFUSED_KEY), "those that were refused, and why"),
         "left": Field(COUNT, "how many are left for a further call"),
-        "undoing": Field(COUNT, "how many an abort leaves out, because they undo children"),
+        "undoing": Field(COUNT, "how many an abort leaves out: they undo children, or call on_end"),
         "warnings": Field(
             Several(Text()), "labels and steps that do not exist, if the filter selects nothing"
         ),
@@ -438,6 +551,57 @@ SCHEDULE = Record(
         **time("last", "the last time", nullable=True),
     },
 )
+PAUSE = Record(
+    "Pause",
+    {
+        "definition": Field(Nullable(NAME), "the definition; null: any"),
+        "step": Field(Nullable(Text()), "its step; null: all"),
+        "queue": Field(MAYBE, "the Celery queue; without it and a definition: everything"),
+        "forward_only": Field(Flag(), "whether compensations start nevertheless"),
+        "refuse_starts": Field(Flag(), "whether new sagas are refused"),
+        "note": Field(Text(), "why"),
+        "by": Field(MAYBE, "who paused it"),
+        **time("at", "since when"),
+    },
+)
+PAUSES = Record("Pauses", {"pauses": Field(Several(PAUSE))})
+DRAIN = Record(
+    "Drain",
+    {
+        "note": Field(Text(), "why"),
+        "by": Field(MAYBE, "who drained it"),
+        **time("at", "since when"),
+    },
+)
+NODE_DEFINITION = Record(
+    "NodeDefinition",
+    {
+        "name": Field(NAME),
+        "version": Field(COUNT),
+        "digest": Field(Text(), "it differs if the declarations differ"),
+    },
+)
+NODE = Record(
+    "Node",
+    {
+        "name": Field(Text()),
+        "run": Field(MAYBE, "this run of the node; null: it has ended"),
+        "state": Field(
+            Choice((*NodeState,)), "`draining`: it is drained, and still has open sagas"
+        ),
+        "release": Field(MAYBE, "the release of its package"),
+        "definitions": Field(Several(NODE_DEFINITION)),
+        **time("since", "when it started", nullable=True),
+        "lease_seconds": Field(Nullable(SECONDS), "until its lease ends; negative after that"),
+        "heartbeat_seconds": Field(Nullable(SECONDS), "since its last heartbeat; null: unknown"),
+        "shards": Field(COUNT, "its open shards"),
+        "open_sagas": Field(COUNT),
+        "running": Field(Nullable(COUNT), "the functions that run; null: unknown"),
+        "concurrency": Field(Nullable(COUNT), "how many functions may run; null: unknown"),
+        "drain": Field(Nullable(DRAIN), "null: it is not drained"),
+    },
+)
+NODES = Record("Nodes", {"nodes": Field(Several(NODE))})
 SCHEDULES = Record("Schedules", {"schedules": Field(Several(SCHEDULE))})
 SCHEDULE_CHANGED = Record(
     "ScheduleChanged",
@@ -472,9 +636,10 @@ SPAN = Record(
         "state": Field(Choice(("queued", "running", "waiting", "backoff"))),
         "why": Field(
             MAYBE,
-            "why it was queued (`slot`, `concurrency`, `fleet_limit`) or waited (`approval`, "
-            "`wait`, `child`, `worker`, `unknown`, `person`, `exhausted`, `cannot_decode`); "
-            "`worker` if it ran at a worker",
+            "why it was queued (`slot`, `concurrency`, `fleet_limit`, `rate_limit`, `paused`) or "
+            "waited "
+            "(`approval`, `wait`, `child`, `worker`, `unknown`, `person`, `exhausted`, "
+            "`cannot_decode`, `program_error`); `worker` if it ran at a worker",
         ),
         **time("began", "since when"),
         **time("ended", "until when; null: it has not ended", nullable=True),
@@ -516,7 +681,9 @@ ATTEMPT_TIMES = Record(
 DEED = Record(
     "PersonsCommand",
     {
-        "command": Field(Text(), "`abort`, `complete`, `fail`, `retry`, `compensate` or `resolve`"),
+        "command": Field(
+            Text(), "`abort`, `complete`, `fail`, `retry`, `compensate`, `restart` or `resolve`"
+        ),
         **time("at", "when"),
         "step": Field(Nullable(NAME)),
         "undo": Field(Flag(), "whether it is about the compensation"),
@@ -525,6 +692,65 @@ DEED = Record(
         "accepted": Field(Nullable(Flag()), "null: not answered yet"),
     },
 )
+CALL_TIMES = Record(
+    "CallTimes",
+    {
+        "step": Field(NAME),
+        "undo": Field(Flag(), "whether it is the compensation"),
+        "attempt": Field(COUNT, "1 for the first"),
+        "number": Field(COUNT, "of the call, over all attempts; 1 for the first"),
+        **time("began", "when it began"),
+        **time("ended", "when it ended", nullable=True),
+        "outcome": Field(
+            Nullable(Choice(("succeeded", "failed", "retried", "not_called", "unknown"))),
+            "`retried`: another attempt follows; null: it has not ended",
+        ),
+        "error": Field(MAYBE, "the error"),
+        "worker": Field(MAYBE, "the worker that had it"),
+        "node": Field(MAYBE, "the node that executed the saga then; null in a file"),
+    },
+)
 TIMELINE = Record(
-    "Timeline", {"attempts": Field(Several(ATTEMPT_TIMES)), "decisions": Field(Several(DEED))}
+    "Timeline",
+    {
+        "attempts": Field(Several(ATTEMPT_TIMES)),
+        "calls": Field(Several(CALL_TIMES)),
+        "decisions": Field(Several(DEED)),
+    },
+)
+TREND_BUCKET = Record(
+    "TrendBucket",
+    {
+        **time("at", "when it begins"),
+        "started": Field(COUNT, "sagas that were started"),
+        "completed": Field(COUNT, "sagas that ended because each step is done"),
+        "recovered": Field(COUNT, "sagas that a plan ended"),
+        "stuck": Field(COUNT, "sagas that got stuck"),
+        "failed_steps": Field(COUNT, "attempts that failed permanently"),
+        "durations": Field(
+            Nullable(
+                Record(
+                    "TrendDurations",
+                    {f"p{percent}": Field(SECONDS) for percent in (50, 95, 99)},
+                    "Percentiles in seconds, each wrong by less than 26 percent.",
+                )
+            ),
+            "of sagas that ended, from the start to the end; null: none ended",
+        ),
+        "oldest_task": Field(
+            Nullable(COUNT),
+            "the greatest age of a task that waited for a worker, in seconds; null: none waited",
+        ),
+    },
+)
+TRENDS = Record(
+    "Trends",
+    {
+        "definition": Field(Nullable(NAME), "as requested; null: all that the token may see"),
+        "range": Field(Choice(("hour", "day", "week"))),
+        "bucket_seconds": Field(COUNT, "the width of a bucket in seconds"),
+        "total": Field(TREND_BUCKET, "the whole range"),
+        "buckets": Field(Several(TREND_BUCKET), "in the order of time; the last one has now"),
+    },
+    "Counts that each node stores once a minute. A kill loses those of the last minute.",
 )

@@ -7,23 +7,28 @@ from starlette.responses import Response
 from starlette.routing import Route, Router
 
 from sagas.server import openapi, problems
+from sagas.server.auth import Permission
 from sagas.server.connections import Connections
 from sagas.server.dashboard import refused
-from sagas.server.middleware import DASHBOARD, LOGIN, App, Guard, Receive, Scope, Send
+from sagas.server.middleware import DASHBOARD, LOGIN, REQUEST_ID, App, Guard, Receive, Scope, Send
 from sagas.server.operations import Operation, path_not_found, resources
 from sagas.server.problems import Problem
 from sagas.server.routes import (
     attention,
+    decisions,
     definitions,
     deliveries,
     inbox,
+    nodes,
     operators,
     page_forms,
     pages,
+    pauses,
     saga_pages,
     sagas,
     schedules,
     tasks,
+    trends,
 )
 from sagas.server.service import Service
 from sagas.server.settings import Settings
@@ -33,8 +38,12 @@ API = [
     sagas.routes,
     attention.routes,
     definitions.routes,
+    trends.routes,
     schedules.routes,
+    pauses.routes,
+    nodes.routes,
     operators.routes,
+    decisions.routes,
     deliveries.routes,
     openapi.routes,
 ]
@@ -45,6 +54,9 @@ PAGES = [
     saga_pages.routes,
     page_forms.routes,
     schedules.page_routes,
+    pauses.page_routes,
+    nodes.page_routes,
+    decisions.page_routes,
     deliveries.page_routes,
 ]
 
@@ -56,7 +68,7 @@ def operations() -> list[Operation]:
 
 def answered(request: Request, problem: Problem) -> Response:
     """Return the response for a problem of an API call."""
-    return problems.response(problem)
+    return problems.response(problem, request.scope.get(REQUEST_ID))
 
 
 class Paths:
@@ -80,14 +92,24 @@ class Paths:
 
 async def no_such_path(scope: Scope, receive: Receive, send: Send) -> None:
     """Answer that the path does not exist."""
-    await problems.response(path_not_found())(scope, receive, send)
+    await problems.response(path_not_found(), scope.get(REQUEST_ID))(scope, receive, send)
 
 
 def application(settings: Settings, connections: Connections | None = None) -> tuple[App, Service]:
     """Return the application over a store. The server opens and closes the store."""
     service, routes = Service(settings), resources([*API, *PAGES], answered, refused)
-    service.pages = [route.path_regex for route in routes if is_shown(route)]
+    service.pages = {route.path: route.path_regex for route in routes if is_shown(route)}
+    service.page_permissions = permissions_of_pages()
     return Guard(Paths(routes), service, connections), service
+
+
+def permissions_of_pages() -> dict[tuple[str, str], Permission | None]:
+    """Return what each route of the dashboard requires, by its method and path."""
+    return {
+        (operation.method, operation.path): operation.permission
+        for routes in PAGES
+        for operation in routes.operations
+    }
 
 
 def is_shown(route: Route) -> bool:

@@ -20,6 +20,7 @@ from collections.abc import Callable, Collection, Iterable, Mapping
 from typing import Any
 
 from sagas.base.events import Event
+from sagas.core.decisions import APPROVAL, Decision
 from sagas.storage.filters import EVERYTHING, Scope
 
 MAX_SESSIONS = 1000
@@ -50,18 +51,47 @@ class Permission(enum.Enum):
     START = "start and abort sagas"
     APPROVE = "report how a step ended"
     WORK = "execute tasks"
+    QUEUES = "read the queues of tasks"
     MEASURE = "read metrics"
     OPERATE = "resolve sagas and report any step"
+    LOG_IN = "log in to the dashboard"
+    BROWSE = "see the pages of sagas"
 
 
 ROLES = {
     "caller": frozenset({Permission.LOOK, Permission.START}),
-    "approver": frozenset({Permission.LOOK, Permission.APPROVE}),
-    "worker": frozenset({Permission.WORK}),
+    "approver": frozenset({Permission.LOOK, Permission.APPROVE, Permission.LOG_IN}),
+    "worker": frozenset({Permission.WORK, Permission.QUEUES}),
     "operator": frozenset(Permission),
     "metrics": frozenset({Permission.MEASURE}),
+    "reader": frozenset({Permission.LOOK, Permission.QUEUES, Permission.LOG_IN, Permission.BROWSE}),
 }
 """The permissions of each role."""
+KEYED_ROLES = frozenset({"caller", "approver", "reader"})
+"""The roles whose tokens may be restricted to keys."""
+DECISIONS = {
+    Decision.RETRY: Permission.OPERATE,
+    Decision.COMPLETE: Permission.APPROVE,
+    Decision.FAIL: Permission.APPROVE,
+    Decision.ABORT: Permission.START,
+    Decision.RESOLVE: Permission.OPERATE,
+    Decision.COMPENSATE: Permission.OPERATE,
+    Decision.RESTART: Permission.START,
+    Decision.ERASE: Permission.OPERATE,
+    Decision.DRAIN: Permission.OPERATE,
+    Decision.UNDRAIN: Permission.OPERATE,
+    Decision.PAUSE: Permission.OPERATE,
+    Decision.RESUME: Permission.OPERATE,
+}
+"""What a token must permit for each decision. For reports of other steps than approvals see
+`Principal.may_decide`.
+"""
+REPORTS = (Decision.COMPLETE, Decision.FAIL)
+
+
+def roles_with(permission: Permission) -> list[str]:
+    """Return the roles that have a permission."""
+    return [role for role, permissions in ROLES.items() if permission in permissions]
 
 
 class TokenFault(Exception):
@@ -91,7 +121,7 @@ class Limits:
 class Principal:
     """The owner of a token, with its roles and limits.
 
-    An operator has the permissions of callers, approvers and workers, and may read the metrics.
+    An operator has the permissions of all other roles.
     """
 
     name: str
@@ -103,6 +133,14 @@ class Principal:
         """Return whether one of the roles has a permission."""
         return any(permission in ROLES[role] for role in self.roles)
 
+    def may_decide(self, decision: Decision, reason: str) -> bool:
+        """Return whether it may decide on an entry with this reason.
+
+        An approver reports only approvals.
+        """
+        is_report = decision in REPORTS and reason != APPROVAL
+        return self.has_permission(Permission.OPERATE if is_report else DECISIONS[decision])
+
     @property
     def definitions(self) -> frozenset[str] | None:
         """Return the definitions that it may see. None: all."""
@@ -112,6 +150,11 @@ class Principal:
     def scope(self) -> Scope:
         """Return the sagas that it may see."""
         return self.limits.scope
+
+    @property
+    def is_unlimited(self) -> bool:
+        """Return whether it may see all sagas."""
+        return self.scope == EVERYTHING
 
     def sees(self, definition: str | None) -> bool:
         """Return whether it may see sagas of this definition.
@@ -124,11 +167,14 @@ class Principal:
         """Return whether it may see the saga of an event."""
         return self.scope.has_saga(event.saga, event.key)
 
-    def does(self, step: str) -> bool:
-        """Return whether it may claim tasks of a step (`saga/step` or `saga/step/undo`)."""
-        return self.sees(step.partition("/")[0]) and (
-            self.limits.steps is None or step in self.limits.steps
-        )
+    def does(self, step: str, ended: Mapping[str, str]) -> bool:
+        """Return whether it may claim tasks of a step (`saga/step` or `saga/step/undo`).
+
+        `ended`: the definition of the sagas that have ended, for each one that calls `on_end`.
+        """
+        definition = step.partition("/")[0]
+        is_seen = self.sees(definition) or self.sees(ended.get(definition, definition))
+        return is_seen and (self.limits.steps is None or step in self.limits.steps)
 
     @property
     def is_over(self) -> bool:
@@ -140,7 +186,7 @@ class Principal:
 
 
 LOCAL_PRINCIPAL = Principal("local", frozenset(ROLES))
-"""The principal of local connections if there is no token file."""
+"""The principal of local connections without a token file."""
 
 
 ANONYMOUS = Principal("nobody", frozenset())
@@ -221,8 +267,10 @@ def limits_of(roles: Collection[str], table: Mapping[str, Any]) -> Limits:
     steps = _listed("steps", table, STEP, "DEFINITION/STEP or DEFINITION/STEP/undo")
     quota = [_count(name, table, roles) for name in ("open_sagas", "open_bytes")]
     limits = Limits(Scope(names, keys), steps, _moment(table.get("expires")), *quota)
-    if keys is not None and not {"caller", "approver"} >= set(roles):
-        raise ValueError("keys can only restrict a token with the roles caller and approver")
+    if keys is not None and not KEYED_ROLES >= set(roles):
+        raise ValueError(
+            "keys can only restrict a token with the roles caller, approver and reader"
+        )
     if limits.steps is not None and not {"worker", "operator"} & set(roles):
         raise ValueError("steps requires the role worker or operator")
     if names is not None and "metrics" in roles:

@@ -8,10 +8,10 @@ from __future__ import annotations
 
 import argparse
 import asyncio
+import contextlib
 import datetime
 import errno
 import gc
-import inspect
 import ipaddress
 import logging
 import os
@@ -19,20 +19,19 @@ import pathlib
 import re
 import socket
 import sys
-from collections.abc import Iterable, Mapping
+from collections.abc import Iterator
 from typing import Any
 
-from sagas.api import store as store_module
-from sagas.api.store import Store
-from sagas.api.sync_store import SyncStore
+from sagas.api.app import App, load_app
+from sagas.api.settings import DEFAULTS
 from sagas.base import options as options_module
 from sagas.base.errors import DefinitionError, InvalidStore, SagasError
 from sagas.base.options import age, integer_from, positive
 from sagas.definition.payloads import MIN_THRESHOLD
-from sagas.definition import arguments, payloads
+from sagas.definition import arguments, definition_files, payloads
 from sagas.definition.payloads import check_blobs
 from sagas.definition.saga import Saga
-from sagas.server import auth, definition_files, log_format
+from sagas.server import auth, log_format
 from sagas.server.settings import (
     LOOPBACK,
     ConcurrencySettings,
@@ -59,7 +58,7 @@ small request waits for that several times.
 PACKAGES = "python3-starlette, python3-uvicorn, python3-jinja2 and python3-prometheus-client"
 
 
-PLACES = (
+CONCURRENCY_OPTIONS = (
     ("--most-waits", 200, "requests of one token that wait for a saga"),
     ("--most-claims", 200, "claims of one token at once"),
     ("--most-streams", 50, "event streams of one token"),
@@ -130,7 +129,13 @@ def parser() -> argparse.ArgumentParser:
         "--log",
         choices=["json", "text"],
         default="json",
-        help="format of the log on standard error (default: json)",
+        help="format of the log (default: json)",
+    )
+    result.add_argument(
+        "--log-file",
+        type=pathlib.Path,
+        metavar="FILE",
+        help="file for the log, opened again at SIGHUP (default: standard error)",
     )
     result.add_argument(
         "--log-level",
@@ -252,6 +257,7 @@ def add_limits(result: argparse.ArgumentParser) -> None:
     """Add the options for limits of requests."""
     result.add_argument(
         "--most-body",
+        dest="max_body",
         type=integer_from(1),
         default=1 << 20,
         metavar="BYTES",
@@ -259,14 +265,16 @@ def add_limits(result: argparse.ArgumentParser) -> None:
     )
     result.add_argument(
         "--most-connections",
+        dest="max_connections",
         type=integer_from(1),
         default=2000,
         metavar="N",
         help="maximum number of connections (default: 2000)",
     )
-    for option, default, counted in PLACES:
+    for option, default, counted in CONCURRENCY_OPTIONS:
         result.add_argument(
             option,
+            dest=option.removeprefix("--").replace("most-", "max_").replace("-", "_"),
             type=integer_from(1),
             default=default,
             metavar="N",
@@ -340,15 +348,24 @@ def blobs_of(location: str | None) -> Any:
         raise Trouble(str(error)) from error
 
 
-def app_of(location: str | None) -> AppStore | None:
+def app_of(location: str | None) -> App | None:
     """Return what a module provides for the service. Raises `Trouble`."""
+    if location is None:
+        return None
     try:
-        return None if location is None else AppStore(location, loaded("--app", location))
+        app = load_app(location)
+        settings = app.options.get("settings", DEFAULTS)
+        if not app.options.get("accept_new", True) or settings.clock is not DEFAULTS.clock:
+            raise ValueError(
+                f"--app {location}: its store has accept_new=False or a clock in its settings, "
+                "which a service cannot have. Leave it out, or name a list of sagas"
+            )
     except ValueError as error:
         raise Trouble(str(error)) from error
+    return app
 
 
-def options_of(parsed: argparse.Namespace, app: AppStore | None) -> dict[str, Any]:
+def options_of(parsed: argparse.Namespace, app: App | None) -> dict[str, Any]:
     """Return the options of the store: those of the command, else those of a store of `--app`.
 
     Raises `Trouble`.
@@ -401,7 +418,7 @@ def settings_of(parsed: argparse.Namespace) -> Settings:
         store_name.check_name(parsed.path)
     except InvalidStore as error:
         raise Trouble(str(error)) from error
-    if not store_name.is_url(parsed.path):
+    if not store_name.supports_nodes(parsed.path):
         if parsed.record:
             raise Trouble("--record requires a postgresql:// URL")
         file = pathlib.Path(parsed.path)
@@ -421,14 +438,14 @@ def settings_of(parsed: argparse.Namespace) -> Settings:
         port,
         parsed.token_file,
         WebhookSettings(parsed.webhooks, parsed.local_webhooks),
-        most_body=parsed.most_body,
-        streams=StreamSettings(most_each=parsed.most_streams),
-        places=ConcurrencySettings(
-            parsed.most_connections,
-            parsed.most_waits,
-            parsed.most_claims,
-            parsed.most_token_connections,
-            parsed.most_address_connections,
+        max_body=parsed.max_body,
+        streams=StreamSettings(max_each=parsed.max_streams),
+        concurrency=ConcurrencySettings(
+            parsed.max_connections,
+            parsed.max_waits,
+            parsed.max_claims,
+            parsed.max_token_connections,
+            parsed.max_address_connections,
             parsed.kept_connections,
         ),
         rate=parsed.rate,
@@ -439,17 +456,27 @@ def settings_of(parsed: argparse.Namespace) -> Settings:
     )
 
 
-def serve(options: argparse.Namespace) -> int:
-    """Serve until a signal stops the service."""
+@contextlib.contextmanager
+def missing_packages() -> Iterator[None]:
+    """Import the service within it. Raises `Trouble` if a package is missing."""
     try:
-        from sagas.server.uvicorn_server import run
+        yield
     except ImportError as error:
         raise Trouble(
             f"module {error.name} is not installed; install Debian's {PACKAGES}, or run "
             "pip install 'sagas[server]'"
         ) from error
+
+
+def serve(options: argparse.Namespace) -> int:
+    """Serve until a signal stops the service."""
+    with missing_packages():
+        from sagas.server.uvicorn_server import run
     settings = settings_of(options)
-    log_format.begin(options.log, options.log_level, sys.stderr)
+    try:
+        log_file = log_format.begin(options.log, options.log_level, sys.stderr, options.log_file)
+    except OSError as error:
+        raise Trouble(f"--log-file {options.log_file}: {error.strerror}") from error
     family = socket.AF_INET6 if ":" in settings.host else socket.AF_INET
     with socket.socket(family, socket.SOCK_STREAM, socket.IPPROTO_TCP) as listening:
         listening.setsockopt(socket.SOL_SOCKET, socket.SO_REUSEADDR, 1)
@@ -476,7 +503,8 @@ def serve(options: argparse.Namespace) -> int:
 
         gc.set_threshold(GARBAGE)
         sys.setswitchinterval(SWITCH)
-        asyncio.run(run(settings, listening, opened, overdue))
+        reopen = None if log_file is None else log_file.reopen
+        asyncio.run(run(settings, listening, opened, overdue, reopen))
     return GOOD
 
 
@@ -499,7 +527,7 @@ def main(argv: list[str]) -> int:
     except DefinitionError as error:
         print(f"sagas serve: {error}", file=sys.stderr)
         return NO
-    except (SagasError, auth.TokenFault, WebhookFault) as error:
+    except (SagasError, auth.TokenFault, WebhookFault, ImportError) as error:
         print(f"sagas serve: {error}", file=sys.stderr)
         return CANNOT
     except KeyboardInterrupt:
@@ -535,8 +563,8 @@ def token_parser() -> argparse.ArgumentParser:
         "--key",
         action="append",
         metavar="PATTERN",
-        help="for callers and approvers: allow only sagas with this key; a * at the end matches "
-        "any rest, for example 'team-a-*'; repeat it for several (default: all)",
+        help="for callers, approvers and readers: allow only sagas with this key; a * at the end "
+        "matches any rest, for example 'team-a-*'; repeat it for several (default: all)",
     )
     result.add_argument(
         "--step",
@@ -584,60 +612,3 @@ def token(argv: list[str]) -> int:
         print(f"sagas token: {error}", file=sys.stderr)
         return CANNOT
     return GOOD
-
-
-# -- the value that --app names
-
-
-NOT_TAKEN_OVER = ("path", "sagas", "accept_new", "clock")
-"""Arguments of `sagas.open` that the service does not take over, because it has its own."""
-REFUSED = ("accept_new", "clock")
-"""Those arguments that are rejected if a store has them."""
-
-
-class AppStore:
-    """The sagas and options that a module provides for a service.
-
-    Attributes:
-        sagas: The definitions that are executed.
-        options: The arguments of `sagas.open` that differ from their defaults, if it is a store.
-    """
-
-    def __init__(self, location: str, value: Any) -> None:
-        """`location`: the module and name, for messages.
-
-        Raises:
-            ValueError: It is something else, or has an option that the service cannot take over.
-        """
-        store = value._inner if isinstance(value, SyncStore) else value
-        self.options: Mapping[str, Any] = {}
-        if isinstance(store, Store):
-            self.options = _options_of_store(location, store)
-            # those that undo children are made again
-            self.sagas = [saga for saga in store.sagas if saga.undoes is None]
-            return
-        listed = [value] if isinstance(value, Saga) else []
-        if not listed and isinstance(value, Iterable):
-            listed = list(value)
-        if not listed or not all(isinstance(saga, Saga) for saga in listed):
-            raise ValueError(
-                f"--app {location}: must be a saga, a list of sagas, or a store made by sagas.open"
-            )
-        self.sagas = listed
-
-
-def _options_of_store(location: str, store: Store) -> dict[str, Any]:
-    """Return the options of a store that differ from their defaults. Raises `ValueError`."""
-    defaults = inspect.signature(store_module.open).parameters
-    set_options = {
-        name: value
-        for name, value in store.opened_with.items()
-        if name in defaults and value is not defaults[name].default
-    }
-    for name in REFUSED:
-        if name in set_options and set_options[name] != defaults[name].default:
-            raise ValueError(
-                f"--app {location}: its store has {name}=, which a service cannot have. "
-                "Leave it out, or name a list of sagas"
-            )
-    return {name: value for name, value in set_options.items() if name not in NOT_TAKEN_OVER}

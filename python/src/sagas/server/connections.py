@@ -172,7 +172,7 @@ class Connection(asyncio.Protocol):
         except Malformed as error:
             has_begun = self._is_open and self.outlet.has_written
             self.finish(None if has_begun else refusal(error))
-        except Exception:  # it is not HTTP, and an answer has started: there is no other
+        except Exception:  # it is not HTTP, and its answer has started already
             self.close()
         ahead = len(self._framing) if self._is_open and self._framing.is_between else 0
         if ahead and not self.followed.done():
@@ -298,22 +298,22 @@ class Connections:
     none, the new connection is refused.
 
     A request's head must arrive within `head_time`. A client that reads nothing of its answer
-    for `send_time` is disconnected. `places` limits the connections of one address, except for
-    `trusted` proxies, and reserves some for health checks and operators.
+    for `send_time` is disconnected. `concurrency` limits the connections of one address, except
+    for `trusted` proxies, and reserves some for health checks and operators.
     """
 
     def __init__(
         self,
-        most: int,
+        max_connections: int,
         head_time: float,
         send_time: float,
-        places: ConcurrencySettings = ConcurrencySettings(),
+        concurrency: ConcurrencySettings = ConcurrencySettings(),
         trusted: tuple[Network, ...] = LOOPBACK,
     ) -> None:
-        self.most, self.head_time, self.send_time = most, head_time, send_time
+        self.max_connections, self.head_time, self.send_time = max_connections, head_time, send_time
         self.all: dict[Connection, None] = {}
-        self._most_each, self._trusted = places.connections_of_address, trusted
-        self._kept = min(places.kept, most // 4)
+        self._max_per_address, self._trusted = concurrency.connections_of_address, trusted
+        self._kept = min(concurrency.kept, max_connections // 4)
         self._addresses: Counter[str] = Counter()
         self._of: dict[Peer, Connection] = {}
         self._owing: OrderedDict[Connection, None] = OrderedDict()
@@ -334,7 +334,7 @@ class Connections:
         """
         if connection is not None and connection.crowding:
             return connection.crowding
-        limit = self.most - self._kept
+        limit = self.max_connections - self._kept
         if len(self._at_work) > limit:
             return f"the service is processing {limit} requests"
         return None
@@ -344,8 +344,8 @@ class Connections:
 
         Returns a function that ends it. Raises `Problem` if the address has too many.
         """
-        if self._addresses[address] >= self._most_each:
-            why = f"your address has {self._most_each} connections: retry later"
+        if self._addresses[address] >= self._max_per_address:
+            why = f"your address has {self._max_per_address} connections: retry later"
             raise Problem("TooManyConnections", why)
         self._addresses[address] += 1
         return functools.partial(self._forget, address)
@@ -359,7 +359,7 @@ class Connections:
         if self._is_stopping:
             connection.close()
             return
-        if len(self.all) > self.most:
+        if len(self.all) > self.max_connections:
             self._make_room(connection)
         if connection in self.all:
             self.begins(connection)
@@ -368,15 +368,17 @@ class Connections:
         if is_among(address, self._trusted):
             return
         self._addresses[address] += 1
-        if self._addresses[address] > self._most_each:
-            connection.crowding = f"your address has {self._most_each} connections"
+        if self._addresses[address] > self._max_per_address:
+            connection.crowding = f"your address has {self._max_per_address} connections"
 
     def _make_room(self, connection: Connection) -> None:
         other = next(iter(self._owing), None)
         if other is None or other.crowding or other.is_new():
             other = None
-            connection.crowding = connection.crowding or f"there are {self.most} connections"
-            if len(self.all) > self.most + SPARE:
+            connection.crowding = (
+                connection.crowding or f"there are {self.max_connections} connections"
+            )
+            if len(self.all) > self.max_connections + SPARE:
                 other = next(iter(self._owing), None)
                 if other is None:
                     why = f"{connection.crowding}: retry later"

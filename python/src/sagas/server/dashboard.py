@@ -2,7 +2,7 @@
 
 from __future__ import annotations
 
-import contextlib
+import functools
 import string
 from typing import Any
 from urllib.parse import parse_qsl, quote, urlencode
@@ -11,9 +11,20 @@ from starlette.requests import Request
 from starlette.responses import HTMLResponse, RedirectResponse, Response
 
 from sagas.server import problems, renderer
-from sagas.server.access import begin_session, body_of, expired_form, service_of, session_of
+from sagas.server.access import (
+    SESSION,
+    begin_session,
+    body_of,
+    current_session,
+    expired_form,
+    service_of,
+)
 from sagas.server.auth import LOCAL_PRINCIPAL, Session
 from sagas.server.problems import Problem
+
+
+EVENTS = "/ui/events"
+"""The stream of events that update the pages."""
 
 
 def address_of(key: str) -> str:
@@ -27,6 +38,9 @@ def page(
     """Return a page of this template."""
     service = service_of(request)
     defaults: dict[str, Any] = {"here": "", "tokens": service.tokens is not None}
+    if session is not None:
+        defaults["paused"] = service.pauses_of(session.principal)
+        defaults["can"] = functools.partial(service.may_open, session.principal)
     all_values = {**defaults, "session": session, **values}
     return renderer.Page(service.threads.pages.do, template, all_values, status)
 
@@ -44,12 +58,13 @@ def login_first(request: Request) -> Response:
 
 
 def show_page(request: Request, template: str, status: int = 200, **values: Any) -> Response:
-    """Return a page for the logged-in user. Without tokens, every local user is logged in."""
-    session = session_of(request)
+    """Return a page for the user that `enter` has let in.
+
+    Without tokens, every local user is logged in.
+    """
+    session: Session | None = request.scope[SESSION]
     if session is not None:
         return page(request, template, session, status, **values)
-    if service_of(request).tokens is not None:
-        return login_first(request)
     response = Response()
     session = begin_session(request, response, LOCAL_PRINCIPAL)
     shown_page = page(request, template, session, status, **values)
@@ -57,19 +72,12 @@ def show_page(request: Request, template: str, status: int = 200, **values: Any)
     return shown_page
 
 
-def login_redirect(request: Request) -> Response | None:
-    """Return a redirect to the login if there is no session, else None."""
-    if service_of(request).tokens is None or session_of(request) is not None:
-        return None
-    return login_first(request)
-
-
 async def form_of(request: Request) -> dict[str, str]:
     """Return the fields of a form. Raises `Problem`."""
     return dict(await fields_of(request, 20))
 
 
-async def fields_of(request: Request, most: int) -> list[tuple[str, str]]:
+async def fields_of(request: Request, max_fields: int) -> list[tuple[str, str]]:
     """Return the fields of a form in their order. A name may occur more than once. Raises
     `Problem`.
     """
@@ -80,7 +88,7 @@ async def fields_of(request: Request, most: int) -> list[tuple[str, str]]:
         )
     try:
         text = (await body_of(request)).decode("utf-8")
-        return parse_qsl(text, keep_blank_values=True, max_num_fields=most)
+        return parse_qsl(text, keep_blank_values=True, max_num_fields=max_fields)
     except ValueError:
         raise Problem("MalformedRequest", "the form cannot be read") from None
 
@@ -91,24 +99,29 @@ async def session_and_form(request: Request) -> tuple[Session, dict[str, str]]:
     return session, dict(fields)
 
 
-async def session_and_fields(request: Request, most: int) -> tuple[Session, list[tuple[str, str]]]:
+async def session_and_fields(
+    request: Request, max_fields: int
+) -> tuple[Session, list[tuple[str, str]]]:
     """Return the session of a form, and its fields in order.
 
     Raises `Problem` if the form does not belong to the session. Without a session, the form is
     not read.
     """
-    session = session_of(request)
-    fields = await fields_of(request, most) if session else []
+    session: Session | None = request.scope[SESSION]
+    fields = await fields_of(request, max_fields) if session else []
     if session is None or not session.owns_form(dict(fields).get("csrf", "")):
         raise expired_form()
     return session, fields
 
 
 def refused(request: Request, problem: Problem) -> Response:
-    """Return a page that says why a request was not carried out."""
-    session = None
-    with contextlib.suppress(Problem):
-        session = session_of(request)
+    """Return a page that says why a request was not carried out.
+
+    Without a session, it is a redirect to the login, except for the stream of events.
+    """
+    if problem.name == "NoSession" and request.scope["path"] != EVENTS:
+        return login_first(request)
+    session = request.scope[SESSION] if SESSION in request.scope else current_session(request)
     values = {"title": problem.kind.title, "text": f"{problem}.", "back": "/ui"}
     answer = page(request, "fault.html", session, problem.kind.status, **values)
     answer.headers.update(problems.HEADERS.get(problem.kind.status, {}) | problem.headers)

@@ -6,12 +6,12 @@ import dataclasses
 from collections.abc import Iterator
 from typing import Any, Union
 
+from sagas.definition.call_options import COST_NAMES, NEVER
 from sagas.definition.compiled import CompiledDefinition
-from sagas.definition.shape import COSTS
 from sagas.definition.layout import Scope, StepOrigin
-from sagas.definition.step import Inclusion, Step, need_name
+from sagas.definition.parts import SagaParts
 from sagas.definition.saga import Saga
-from sagas.definition.call_options import NEVER
+from sagas.definition.step import Inclusion, Step, need_name
 
 COMPUTED = "input"
 """Replaces a cost that depends on the input."""
@@ -44,12 +44,14 @@ class DeclaredStep:
     @property
     def costs(self) -> dict[str, DeclaredCost]:
         """Return its costs: a number, None (never), or `COMPUTED`."""
-        return {name: _cost(self.step, name) for name in COSTS}
+        return {name: _cost(self.step, name) for name in COST_NAMES}
 
     @property
     def note(self) -> str:
-        """Describe when the step exists."""
-        return ", ".join(["for each item"] * self.for_each + ["for some inputs"] * self.conditional)
+        """Describe when the step exists, and whether its failure ends the saga."""
+        notes = ["for each item"] * self.for_each + ["for some inputs"] * self.conditional
+        notes += ["optional"] * self.step.is_optional + ["pivot"] * self.step.is_pivot
+        return ", ".join(notes)
 
 
 def _cost(step: Step[Any], name: str) -> DeclaredCost:
@@ -59,7 +61,7 @@ def _cost(step: Step[Any], name: str) -> DeclaredCost:
     return None if cost is NEVER else cost
 
 
-def approvals(saga: Saga, definition: str) -> set[str]:
+def approvals(saga: Saga[Any], definition: str) -> set[str]:
     """Return the names of a definition's approval steps, including items and included sagas.
 
     `saga` is the saga that the definition belongs to.
@@ -69,13 +71,13 @@ def approvals(saga: Saga, definition: str) -> set[str]:
     return {name for name, step in steps if step is not None and step.kind == "approval"}
 
 
-def of(saga: Saga) -> list[DeclaredStep]:
+def of(saga: Saga[Any]) -> list[DeclaredStep]:
     """Return the steps of a saga and of the sagas that it includes, in their order."""
     return [*_within(saga, (), [], False, False)]
 
 
 def _within(
-    saga: Saga, scope: Scope, outer: list[str], for_each: bool, conditional: bool
+    saga: SagaParts, scope: Scope, outer: list[str], for_each: bool, conditional: bool
 ) -> Iterator[DeclaredStep]:
     """Yield the steps of a scope. `outer`: what its first steps need outside of it."""
     ends: dict[str, list[str]] = {}

@@ -104,7 +104,7 @@ class Hub:
         for listener in self._listeners:
             listener.awake.set()
 
-    def behind(self, last: str | None) -> tuple[list[tuple[int, Event]], bool]:
+    def events_after(self, last: str | None) -> tuple[list[tuple[int, Event]], bool]:
         """Return the events after an id, and whether some of them are no longer stored."""
         if last is None:
             return [], False
@@ -131,7 +131,7 @@ class Hub:
         self._listeners[listener] = None
         last_sent = time.monotonic()
         try:
-            events, missed = self.behind(last)
+            events, missed = self.events_after(last)
             yield (
                 "retry: 2000\nid: "
                 f"{self.boot}-{self.count if missed or last is None else last.partition('-')[2]}\n"

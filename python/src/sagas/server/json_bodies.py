@@ -113,9 +113,14 @@ def text_of(at: float) -> str:
     return moment.isoformat(timespec="milliseconds").replace("+00:00", "Z")
 
 
+def name_of_text(name: str) -> str:
+    """Return the name of the field that has a time as text: `started_at`, and `time` for `at`."""
+    return "time" if name == "at" else f"{name}_at"
+
+
 def times(**moments: float | None) -> dict[str, Any]:
     """Return each time in seconds since 1970, and as text: `started` and `started_at`."""
     fields: dict[str, Any] = {}
     for name, at in moments.items():
-        fields[name], fields[f"{name}_at"] = at, None if at is None else text_of(at)
+        fields[name], fields[name_of_text(name)] = at, None if at is None else text_of(at)
     return fields

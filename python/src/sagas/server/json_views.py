@@ -2,13 +2,17 @@
 
 from __future__ import annotations
 
+import dataclasses
+from collections.abc import Mapping
 from typing import Any
 
+from sagas.core.decisions import CHOICES
 from sagas.core.results import Summary
 from sagas.definition import serialization
 from sagas.engine.plan import Plan
-from sagas.inspection import timeline as timeline_module
-from sagas.inspection.views import Relative, SagaView, Waits, state_of
+from sagas.inspection import calls, timeline as timeline_module
+from sagas.inspection.calls import CallTimes
+from sagas.inspection.views import Relative, RestartLink, SagaView, Waits, state_of
 from sagas.inspection.attention_pages import Entry
 from sagas.inspection.timeline import AttemptTimes
 from sagas.inspection.what_if import WhatIf
@@ -22,6 +26,7 @@ def summary(saga_summary: Summary) -> dict[str, Any]:
     return {
         "key": saga_summary.key,
         "definition": saga_summary.saga,
+        "version": saga_summary.version,
         "phase": saga_summary.phase,
         **times(
             started=saga_summary.started, ended=saga_summary.ended, deadline=saga_summary.deadline
@@ -46,18 +51,23 @@ def plan(shown_plan: Plan | None) -> dict[str, Any] | None:
         }
         for choice in shown_plan.choices
     ]
-    return {"cost": shown_plan.cost, "blocking_steps": shown_plan.blocking_steps, "steps": steps}
+    return {
+        "cost": shown_plan.cost,
+        "pivot": shown_plan.pivot,
+        "blocking_steps": shown_plan.blocking_steps,
+        "steps": steps,
+    }
 
 
 def held(wait: Waits) -> dict[str, Any]:
     """Return what an attempt waits for."""
     return {
-        "step": wait.step,
+        "step": wait.step or None,
         "undo": wait.undo,
         "attempt": wait.attempt,
         "why": wait.why,
         **times(since=wait.since, until=wait.until),
-        "said": wait.said,
+        "detail": wait.detail,
         "person": wait.asks,
     }
 
@@ -69,7 +79,13 @@ def relative(related: Relative) -> dict[str, Any]:
         "definition": related.saga,
         "phase": related.phase,
         "step": related.step,
+        "children": related.children,
     }
+
+
+def restart(link: RestartLink) -> dict[str, Any]:
+    """Return the saga that a saga restarts, or one that restarts it."""
+    return {"key": link.key, "definition": link.saga, "phase": link.phase}
 
 
 def saga(view: SagaView) -> dict[str, Any]:
@@ -77,18 +93,25 @@ def saga(view: SagaView) -> dict[str, Any]:
     return {
         "key": view.key,
         "definition": view.saga,
+        "version": view.summary.version,
         "phase": view.phase,
         "over": view.phase != "open",
         **times(started=view.started, ended=view.ended, deadline=view.summary.deadline),
         "aborted": view.aborted,
         "note": view.note,
+        **times(erased=view.erased.at if view.erased else None),
+        "erased_by": view.erased.by if view.erased else None,
         "labels": view.summary.labels,
         "parent": view.parent and relative(view.parent),
         "children": [relative(child) for child in view.children],
+        "end_call": view.end_call and dataclasses.asdict(view.end_call),
+        "restart_of": view.restart_of and restart(view.restart_of),
+        "restarts": [restart(link) for link in view.restarts],
         "input": view.input,
         "states": {step.name: state_of(view, step) for step in view.steps},
         "results": view.results,
         "errors": {step.name: step.raised for step in view.steps if step.raised is not None},
+        "optional_failures": [step.name for step in view.steps if step.is_optional_failure],
         "plan": plan(view.plan),
         "waits": [held(child) for child in view.held],
         "progress": [
@@ -100,9 +123,23 @@ def saga(view: SagaView) -> dict[str, Any]:
     }
 
 
-def log(view: SagaView) -> list[dict[str, Any]]:
-    """Return a saga's events in the order of its log, with operator commands in between."""
-    return [event(entry.event, entry.at, entry.step, entry.value) for entry in view.history]
+def log(view: SagaView, now: float) -> list[dict[str, Any]]:
+    """Return a saga's events in the order of its log, with commands and repeated calls."""
+    history = calls.history(view, now)
+    return [event(entry.event, entry.at, entry.step, entry.value) for entry in history]
+
+
+def export(view: SagaView, now: float) -> dict[str, Any]:
+    """Return all that is stored of a saga. The planner page replays it."""
+    return {**replayed(view), "saga": saga(view), "history": log(view, now)}
+
+
+def replayed(view: SagaView) -> dict[str, Any]:
+    """Return what the planner page needs to replay a saga: no input, result or error."""
+    return {
+        "definition": view.definition,
+        "events": [{**times(at=at), **line} for at, line in view.lines],
+    }
 
 
 def event(name: str, at: float, step: str | None, value: Any) -> dict[str, Any]:
@@ -114,9 +151,25 @@ def timeline(view: SagaView, now: float) -> dict[str, Any]:
     """Return what each attempt did, and the operator commands."""
     return {
         "attempts": [attempt_times(entry) for entry in timeline_module.of(view, now)],
+        "calls": [call_times(entry) for entry in calls.of(view, now)],
         "decisions": [
             {**entry, **times(at=entry["at"])} for entry in timeline_module.decisions(view)
         ],
+    }
+
+
+def call_times(call: CallTimes) -> dict[str, Any]:
+    """Return a call of a function."""
+    return {
+        "step": call.step,
+        "undo": call.undo,
+        "attempt": call.attempt,
+        "number": call.number,
+        **times(began=call.began, ended=call.ended),
+        "outcome": call.outcome,
+        "error": call.error,
+        "worker": call.worker,
+        "node": call.node,
     }
 
 
@@ -146,8 +199,8 @@ def attempt_times(attempt: AttemptTimes) -> dict[str, Any]:
         and {
             "command": note.what,
             **times(at=note.at),
-            "by": note.told.get("by"),
-            "note": note.told.get("note"),
+            "by": note.arguments.get("by"),
+            "note": note.arguments.get("note"),
         },
     }
 
@@ -186,7 +239,7 @@ def task(leased: LeasedTask, now: float) -> dict[str, Any]:
         "idempotency_key": task.idempotency_key,
         "original_idempotency_key": task.original_idempotency_key,
         "traceparent": task.traceparent,
-        **task.plain,
+        **task._plain,
         "given": serialization.read(leased.given),
     }
 
@@ -227,17 +280,6 @@ def queue(waiting: Queue) -> dict[str, Any]:
     return {**fields, "claimed": waiting.claimed, **times(oldest=waiting.oldest)}
 
 
-CALLS = {
-    "stuck": ["resolve"],
-    "undo_failed": ["resolve"],
-    "unused_report": ["compensate", "resolve"],
-    "unknown": ["retry", "complete", "fail", "abort"],
-    "exhausted": ["retry", "complete", "fail", "abort"],
-    "cannot_decode": ["complete", "fail", "abort"],
-    "damaged": [],
-    "approval": ["complete", "fail", "abort"],
-}
-"""The calls that apply to an entry that needs an operator."""
 WAITS_FOR = {
     "stuck": "an operator who repairs it by hand and resolves it",
     "undo_failed": "an operator who undoes the step by hand and resolves the saga",
@@ -245,13 +287,17 @@ WAITS_FOR = {
     "unknown": "an operator who finds out whether the step had its effect and reports it",
     "exhausted": "an operator who retries it or reports it",
     "cannot_decode": "a program that can read the stored value, or an operator's report",
+    "program_error": "a program without the error, or an operator who retries it or reports it",
+    "on_end": "a program that has the on_end function, and can read the stored values",
+    "no_definition": "a node that has its definition, or an operator's report",
+    "no_node": "a node that has its definition",
     "damaged": "an operator who repairs or deletes the damaged shard of the saga",
     "approval": "an approver's decision",
 }
 
 
-def entry(attention: Entry) -> dict[str, Any]:
-    """Return an entry that needs an operator."""
+def entry(attention: Entry, shown: Mapping[str, Any]) -> dict[str, Any]:
+    """Return an entry that needs an operator. `shown`: the fields that an approval shows."""
     because = f"because of {' and '.join(attention.blocking)}" if attention.blocking else ""
     return {
         "kind": attention.kind,
@@ -261,7 +307,8 @@ def entry(attention: Entry) -> dict[str, Any]:
         "undo": attention.undo,
         "detail": ": ".join(part for part in (because, attention.detail) if part) or None,
         "by": attention.by,
+        "shown": shown,
         "waits_for": WAITS_FOR[attention.kind],
-        "calls": CALLS[attention.kind],
+        "calls": [decision.value for decision in CHOICES[attention.kind]],
         **times(since=attention.since, until=attention.until),
     }

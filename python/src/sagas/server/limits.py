@@ -26,8 +26,8 @@ from sagas.server.settings import ConcurrencySettings, Quota
 class Rates:
     """Token buckets of clients: each fills at a rate, up to two seconds' worth and at least 1."""
 
-    def __init__(self, rate: float, most: int = 10_000) -> None:
-        self.rate, self.most, self._size = rate, most, max(1.0, 2 * rate)
+    def __init__(self, rate: float, max_buckets: int = 10_000) -> None:
+        self.rate, self.max_buckets, self._size = rate, max_buckets, max(1.0, 2 * rate)
         self._buckets: OrderedDict[str, tuple[float, float]] = OrderedDict()
 
     def take(self, name: str) -> bool:
@@ -36,7 +36,7 @@ class Rates:
         available, at = self._buckets.pop(name, (self._size, now))
         available = min(self._size, available + (now - at) * self.rate)
         self._buckets[name] = (available - 1 if available >= 1 else available), now
-        if len(self._buckets) > self.most:
+        if len(self._buckets) > self.max_buckets:
             self._buckets.popitem(last=False)
         return available >= 1
 
@@ -86,21 +86,21 @@ class ConcurrencyLimits:
 
 
 class StreamLimits:
-    """Limits of streams: `most` in total, `each` per client, and `kept` for the dashboard alone."""
+    """Limits of streams: `maximum` in total, `each` per client, `kept` for the dashboard alone."""
 
-    def __init__(self, most: int, each: int, kept: int) -> None:
-        self.most, self.each, self.kept = most, each, kept
+    def __init__(self, maximum: int, each: int, kept: int) -> None:
+        self.maximum, self.each, self.kept = maximum, each, kept
         self._open: Counter[tuple[str, bool]] = Counter()
 
     def full(self, client_key: str, dashboard: bool) -> str | None:
         """Return why a client gets no further stream, or None."""
         if self._open[client_key, dashboard] >= self.each:
             return f"you have {self.each} event streams: close some"
-        most = self.most if dashboard else self.most - self.kept
+        limit = self.maximum if dashboard else self.maximum - self.kept
         others = sum(count for (_, shown), count in self._open.items() if not shown)
         total = self._open.total()
-        if total >= self.most or (not dashboard and others >= most):
-            return f"there are {most} event streams: retry later"
+        if total >= self.maximum or (not dashboard and others >= limit):
+            return f"there are {limit} event streams: retry later"
         return None
 
     def take(self, client_key: str, dashboard: bool) -> Callable[[], None]:

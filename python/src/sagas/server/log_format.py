@@ -4,10 +4,14 @@ from __future__ import annotations
 
 import json
 import logging
+import pathlib
 import time
 from typing import Any, TextIO
 
 from sagas.base.wording import escaped
+
+
+logger = logging.getLogger("sagas.server")
 
 
 class Lines(logging.Formatter):
@@ -50,9 +54,38 @@ class Text(logging.Formatter):
         )
 
 
-def begin(form: str, level: str, stream: TextIO) -> None:
-    """Send all log messages to a stream."""
-    handler = logging.StreamHandler(stream)
+class LogFile(logging.FileHandler):
+    """A file of log lines that is opened again after its rotation."""
+
+    def reopen(self) -> None:
+        """Write to the file that has the name now. If that fails, write to the former one."""
+        try:
+            stream = self._open()
+        except OSError as error:
+            logger.error("%s cannot be opened again: %s", self.baseFilename, error.strerror)
+            return
+        self.acquire()
+        try:
+            previous, self.stream = self.stream, stream
+        finally:
+            self.release()
+        previous.close()
+        logger.info("%s was opened again", self.baseFilename)
+
+
+def begin(
+    form: str, level: str, stream: TextIO, file: pathlib.Path | None = None
+) -> LogFile | None:
+    """Send all log messages to a stream, or to the end of a file.
+
+    Returns:
+        The handler of the file, or None.
+
+    Raises:
+        OSError: The file cannot be opened.
+    """
+    log_file = None if file is None else LogFile(file, encoding="utf-8")
+    handler = log_file or logging.StreamHandler(stream)
     handler.setFormatter(
         Lines() if form == "json" else Text("%(asctime)s %(levelname)s %(name)s: %(message)s")
     )
@@ -60,4 +93,6 @@ def begin(form: str, level: str, stream: TextIO) -> None:
     root.handlers[:] = [handler]
     root.setLevel(level.upper())
     logging.getLogger("asyncio").setLevel(logging.WARNING)
-    logging.getLogger("uvicorn").setLevel(logging.ERROR)  # it warns of each request that is no HTTP
+    # it warns of each request that is not HTTP
+    logging.getLogger("uvicorn").setLevel(logging.ERROR)
+    return log_file

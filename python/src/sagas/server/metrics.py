@@ -3,19 +3,26 @@
 from __future__ import annotations
 
 import functools
+import importlib
+import itertools
 import math
+import platform
 import time
 from collections import OrderedDict, deque
-from collections.abc import Callable, Iterator
-from typing import TYPE_CHECKING, Optional, Union
+from collections.abc import Callable, Iterable, Iterator, Sequence
+from typing import TYPE_CHECKING, Any, Optional, Union
 
-from prometheus_client import CollectorRegistry, Counter, Gauge, Histogram
+from prometheus_client import CollectorRegistry, Counter, Gauge, Histogram, ProcessCollector
 from prometheus_client.core import CounterMetricFamily, GaugeMetricFamily, Metric
 from prometheus_client.exposition import CONTENT_TYPE_LATEST, generate_latest
 
 from sagas.base.events import Event
-from sagas.runtime.leased_tasks import Queue
-from sagas.storage.filters import EVERYTHING
+from sagas.core.states import SagaPhase
+from sagas.definition import undo_sagas
+from sagas.definition.saga import Saga
+from sagas.server import gauges as store_gauges
+from sagas.server.gauges import StoreGauges
+from sagas.storage.webhook_deliveries import DeliveryState
 
 if TYPE_CHECKING:
     from sagas.server.service import Service
@@ -49,7 +56,16 @@ class Durations:
         )
 
 
-SECONDS = (0.01, 0.03, 0.1, 0.3, 1, 3, 10, 30, 100, 300, 1000, 3600, 86400)
+CALL_SECONDS = (0.01, 0.1, 1, 10, 60, 600, 3600)
+SAGA_SECONDS = (0.1, 1, 10, 60, 600, 3600, 86400)
+REQUEST_SECONDS = (0.005, 0.025, 0.1, 0.25, 1, 5, 30)
+"""The upper bounds of histograms in seconds. With that without a bound, each has eight buckets."""
+POST_OUTCOMES = {
+    DeliveryState.DELIVERED: "delivered",
+    DeliveryState.PENDING: "retrying",
+    DeliveryState.FAILED: "failed",
+}
+"""What became of a delivery after a post."""
 OUTCOMES = {
     "step_succeeded": "succeeded",
     "step_retrying": "retrying",
@@ -57,7 +73,10 @@ OUTCOMES = {
     "step_unknown": "unknown",
     "step_exhausted": "exhausted",
     "step_cannot_decode": "cannot_decode",
+    "step_program_error": "program_error",
 }
+ENDS = (SagaPhase.COMPLETED.value, SagaPhase.RECOVERED.value, SagaPhase.STUCK.value)
+"""How a saga may end, or get stuck."""
 INTERNAL_ERRORS = (
     "engine_died",
     "shard_damaged",
@@ -79,13 +98,19 @@ def _attempt(event: Event) -> Begun:
 
 
 class Metrics:
-    """Counts the events of a store. Gauges are read from the store when metrics are requested."""
+    """Counts the events of a store. Gauges are read from the store when metrics are requested.
 
-    def __init__(self, service: Service) -> None:
+    Counters of a closed set begin at 0: Prometheus does not see an increase in the first value of a
+    new series.
+    """
+
+    def __init__(self, service: Service, sagas: Iterable[Saga[Any]] = ()) -> None:
         self.registry = CollectorRegistry()
         self._service = service
-        self.counts: dict[str, dict[str, int]] = {}
-        self.attention_counts: dict[str, int] = {}
+        self._gauges: StoreGauges | None = None
+        declared = {(saga.name, saga.version): saga for saga in sagas}
+        self._sagas = [*undo_sagas.with_undo_sagas(declared).values()]
+        self._names = sorted({saga.name for saga in self._sagas})
         self.durations = Durations()
         self._began: OrderedDict[Begun, float] = OrderedDict()
         self.started = self._counter("sagas_started", "Sagas that were started", "saga")
@@ -100,14 +125,12 @@ class Metrics:
             "action",
             "outcome",
         )
-        seconds = Histogram(
-            "sagas_step_seconds",
-            "Seconds from the start of an attempt to its report",
-            ["saga", "step", "action"],
-            buckets=SECONDS,
-            registry=self.registry,
+        self.posts = self._counter(
+            "sagas_webhook_posts",
+            "Posts to webhooks, by what became of the delivery",
+            "webhook",
+            "outcome",
         )
-        self.step_seconds = functools.cache(seconds.labels)
         self.internal_errors = self._counter(
             "sagas_internal_errors",
             f"Internal errors: {', '.join(INTERNAL_ERRORS)}",
@@ -121,22 +144,89 @@ class Metrics:
         self.requests = self._counter(
             "sagas_http_requests", "Requests, by method and status", "method", "status"
         )
-        request_times = Histogram(
+        self._make_histograms()
+        self._describe_process()
+        self._begin_counters()
+        self.registry.register(Now(self))  # type: ignore[arg-type]
+
+    def _make_histograms(self) -> None:
+        self.saga_seconds = self._histogram(
+            "sagas_seconds", "Seconds from a saga's start to its end", SAGA_SECONDS, "saga", "phase"
+        )
+        self.step_seconds = self._histogram(
+            "sagas_step_seconds",
+            "Seconds from the start of an attempt to its report",
+            CALL_SECONDS,
+            "saga",
+            "action",
+        )
+        self.task_wait_seconds = self._histogram(
+            "sagas_task_wait_seconds",
+            "Seconds for which a task waited until a worker claimed it",
+            CALL_SECONDS,
+            "saga",
+        )
+        self.request_seconds = self._histogram(
             "sagas_http_request_seconds",
             "Seconds of requests; long waits are counted separately",
-            ["waits"],
-            registry=self.registry,
+            REQUEST_SECONDS,
+            "waits",
         )
-        self.request_seconds = functools.cache(request_times.labels)
+
+    def _describe_process(self) -> None:
         self.up = Gauge(
             "sagas_start_time_seconds", "When this service was started", registry=self.registry
         )
         self.up.set(time.time())
-        self.registry.register(Now(self))  # type: ignore[arg-type]
+        labels = {
+            "version": importlib.import_module("sagas").__version__,
+            "python": platform.python_version(),
+        }
+        build = Gauge(
+            "sagas_build_info", "Versions of the program", [*labels], registry=self.registry
+        )
+        build.labels(**labels).set(1)
+        ProcessCollector(registry=self.registry)
+
+    def _begin_counters(self) -> None:
+        """Make the series of each definition, step and error with the value 0."""
+        for kind in INTERNAL_ERRORS:
+            self.internal_errors(kind)
+        for method, status in itertools.product(("GET", "POST"), ("500", "503")):
+            self.requests(method, status)
+        for saga in self._sagas:
+            for counter in (self.started, self.aborted, self.plans):
+                counter(saga.name)
+            for phase in ENDS:
+                self.ended(saga.name, phase)
+            for name, step in saga.declared_steps:
+                for action in ("run", "undo") if step.has_compensation else ("run",):
+                    for outcome in OUTCOMES.values():
+                        self.steps(saga.name, name, action, outcome)
 
     def _counter(self, name: str, description: str, *labels: str) -> Callable[..., Counter]:
         """Return a counter's children by their labels, cached."""
         return functools.cache(Counter(name, description, labels, registry=self.registry).labels)
+
+    def _histogram(
+        self, name: str, description: str, bounds: Sequence[float], *labels: str
+    ) -> Callable[..., Histogram]:
+        """Return a histogram's children by their labels, cached."""
+        histogram = Histogram(name, description, labels, buckets=bounds, registry=self.registry)
+        return functools.cache(histogram.labels)
+
+    def begin_webhooks(self, names: Iterable[str]) -> None:
+        """Make the series of webhooks with the value 0."""
+        for name, outcome in itertools.product(names, POST_OUTCOMES.values()):
+            self.posts(name, outcome)
+
+    def posted(self, webhook: str, state: DeliveryState) -> None:
+        """Count a post to a webhook, and what became of the delivery."""
+        self.posts(webhook, POST_OUTCOMES[state]).inc()
+
+    def claimed(self, saga: str, seconds: float) -> None:
+        """Count a task that a worker has claimed, by the time for which it waited."""
+        self.task_wait_seconds(saga).observe(max(0.0, seconds))
 
     def event(self, event: Event) -> None:
         """Count an event."""
@@ -144,7 +234,9 @@ class Metrics:
         if event.name == "saga_started":
             self.started(saga).inc()
         elif event.name in ("saga_ended", "saga_stuck"):
-            self.ended(saga, "stuck" if event.name == "saga_stuck" else event.detail or "").inc()
+            phase = "stuck" if event.name == "saga_stuck" else event.detail or ""
+            self.ended(saga, phase).inc()
+            self.saga_seconds(saga, phase).observe(event.seconds or 0.0)
         elif event.name == "saga_aborted":
             self.aborted(saga).inc()
         elif event.name == "plan_adopted":
@@ -163,7 +255,7 @@ class Metrics:
             began = self._began.pop(_attempt(event), None)
             if began is not None:
                 seconds = max(0.0, event.at - began)
-                self.step_seconds(saga, event.step, kind).observe(seconds)
+                self.step_seconds(saga, kind).observe(seconds)
                 self.durations.add((saga, event.step or "", event.undo), seconds)
 
     def request(self, method: str, status: int, seconds: float, waits: bool) -> None:
@@ -173,37 +265,28 @@ class Metrics:
         self.request_seconds("yes" if waits else "no").observe(seconds)
 
     async def text(self) -> bytes:
-        """Return all metrics in Prometheus's text format."""
-        self.counts, self.attention_counts = await self._service.figures.of(EVERYTHING)
-        self.queues = await self._service.store.workers.queues()
-        return generate_latest(self.registry)
+        """Return all metrics in Prometheus's text format.
+
+        If the store does not answer, its gauges are left out.
+        """
+        gauges = await store_gauges.read(self._service)
+        self._gauges = gauges  # nothing else runs until they are written
+        return generate_latest(WithoutCreated(self.registry))  # type: ignore[arg-type]
 
     def now(self) -> Iterator[Metric]:
-        """Yield the gauges of the store."""
-        sagas = GaugeMetricFamily(
-            "sagas_current", "Sagas, by definition and phase", labels=["saga", "phase"]
-        )
-        for saga, phases in self.counts.items():
-            for phase, count in phases.items():
-                sagas.add_metric([saga, phase], count)
-        yield sagas
-        needed = GaugeMetricFamily(
-            "sagas_attention_required",
-            "Stuck sagas, compensations that failed permanently, unknown outcomes, exhausted "
-            "attempts, stored values that cannot be read, sagas of damaged shards, approvals",
-            labels=["reason"],
-        )
-        for why, count in self.attention_counts.items():
-            needed.add_metric([why], count)
-        yield needed
-        yield from queues_of(self.queues, time.time())
+        """Yield the gauges of the store, and the counters that others count."""
+        up = "Whether the store answered; if not, its gauges are left out"
+        yield GaugeMetricFamily("sagas_store_up", up, int(self._gauges is not None))
+        if self._gauges is not None:
+            yield from store_gauges.families(self._gauges, self._names, time.time())
+            yield store_gauges.paused(self._service.store._pauses)
         yield CounterMetricFamily(
             "sagas_tasks_reclaimed",
             "Tasks claimed by another worker after their lease expired",
             self._service.store.workers.takeovers,
         )
         yield CounterMetricFamily(
-            "sagas_commits", "Transactions of the store", self._service.store.commits
+            "sagas_commits", "Transactions of the store", self._service.store._commits
         )
         yield GaugeMetricFamily(
             "sagas_event_streams", "Open event streams", self._service.hub.listeners
@@ -223,21 +306,15 @@ class Now:
         return []
 
 
-def queues_of(queues: list[Queue], now: float) -> Iterator[Metric]:
-    """Yield the metrics of tasks that wait for workers."""
-    families: list[tuple[str, str, Callable[[Queue], float]]] = [
-        ("sagas_tasks_ready", "Tasks that wait for a worker", lambda queue: queue.ready),
-        ("sagas_tasks_claimed", "Tasks that workers have claimed", lambda queue: queue.claimed),
-        (
-            "sagas_tasks_oldest_seconds",
-            "Seconds for which the oldest task has waited for a worker",
-            lambda queue: now - queue.oldest if queue.oldest else 0.0,
-        ),
-    ]
-    for name, description, value in families:
-        family = GaugeMetricFamily(name, description, labels=["saga", "step", "action"])
-        for queue in queues:
-            family.add_metric(
-                [queue.saga, queue.step, "undo" if queue.undo else "run"], max(0.0, value(queue))
-            )
-        yield family
+class WithoutCreated:
+    """A registry without the series that say when a counter was created."""
+
+    def __init__(self, registry: CollectorRegistry) -> None:
+        self._registry = registry
+
+    def collect(self) -> Iterator[Metric]:
+        for metric in self._registry.collect():
+            metric.samples = [
+                sample for sample in metric.samples if not sample.name.endswith("_created")
+            ]
+            yield metric

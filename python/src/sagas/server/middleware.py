@@ -6,6 +6,7 @@ import asyncio
 import functools
 import logging
 import re
+import secrets
 import time
 from collections.abc import Awaitable, Callable, MutableMapping
 from typing import TYPE_CHECKING, Any
@@ -39,6 +40,8 @@ FOLLOWED = "sagas.followed"
 that wait are then answered, because they would hide another request or the end of the
 connection.
 """
+REQUEST_ID = "sagas.request"
+"""In a scope: the id of the request, for its answer, its problem and the log."""
 CROWDING = "sagas.crowding"
 """In a scope: why only health checks and operators are answered now, or None."""
 LEAVE = "sagas.leave"
@@ -63,6 +66,9 @@ HEADERS = [
 logger = logging.getLogger("sagas.http")
 
 
+REQUEST_ID_HEADER = b"x-request-id"
+WELL_FORMED_ID = re.compile(r"[A-Za-z0-9._+/=:@-]{1,128}")
+"""An id that is taken from a request. Another one is replaced, so that no log line is forged."""
 TOKEN = re.compile(rb"[!#$%&'*+.^_`|~0-9A-Za-z-]+")
 """A valid header name."""
 ONCE = (b"host", b"content-length", b"transfer-encoding", b"authorization")
@@ -155,10 +161,19 @@ def foreign(fields: dict[bytes, str], host: str) -> str | None:
     return None
 
 
+def request_id(scope: Scope) -> str:
+    """Return the id of a request: that of its header if it has one, else a new one."""
+    ids: list[bytes] = [
+        value for name, value in scope["headers"] if name.lower() == REQUEST_ID_HEADER
+    ]
+    text = ids[0].decode("latin-1") if len(ids) == 1 else ""
+    return text if WELL_FORMED_ID.fullmatch(text) else secrets.token_hex(8)
+
+
 def answer_of(scope: Scope, problem: Problem) -> Response:
     """Return the answer that refuses a request. For the dashboard, it is a page."""
     if scope["path"] != DASHBOARD and not scope["path"].startswith(f"{DASHBOARD}/"):
-        return problems.response(problem)
+        return problems.response(problem, scope[REQUEST_ID])
     values = {"title": problem.kind.title, "text": f"{problem}.", "back": DASHBOARD}
     page = renderer.render("fault.html", {**values, "session": None, "here": ""})
     headers = problems.HEADERS.get(problem.kind.status, {}) | problem.headers
@@ -176,7 +191,7 @@ class Guard:
         if scope["type"] != "http":
             await self.app(scope, receive, send)
             return
-        scope[SERVICE] = self.service
+        scope[SERVICE], scope[REQUEST_ID] = self.service, request_id(scope)
         connection = self.connections.of(scope.get("client")) if self.connections else None
         if connection and connection.is_over:  # what followed its head was no HTTP
             connection.leave()
@@ -209,17 +224,17 @@ class Guard:
                 return Problem(
                     "CrossOrigin", f"requests from pages of other sites are refused: {why}"
                 )
-        length, limit = fields.get(b"content-length"), self.most(scope)
+        length, limit = fields.get(b"content-length"), self.max_body(scope)
         if length is not None and (not length.isdigit() or len(length) > 12 or int(length) > limit):
             return too_large(limit)
         return None
 
-    def most(self, scope: Scope) -> int:
+    def max_body(self, scope: Scope) -> int:
         """Return the maximum bytes of a request's body."""
         return (
-            min(MAX_LOGIN, self.settings.most_body)
+            min(MAX_LOGIN, self.settings.max_body)
             if scope["path"] == LOGIN
-            else self.settings.most_body
+            else self.settings.max_body
         )
 
 
@@ -308,7 +323,8 @@ class Passage:
         except Exception:
             if self._refused:
                 return
-            logger.exception("a request failed", extra={"sagas": {"path": self.scope["path"]}})
+            fields = {"path": self.scope["path"], "request_id": self.scope[REQUEST_ID]}
+            logger.exception("a request failed", extra={"sagas": fields})
             if not self.status:
                 await self._refuse(
                     Problem(
@@ -328,7 +344,7 @@ class Passage:
         if message["type"] == "http.request":
             self._size += len(message.get("body", b""))
             self._is_read = not message.get("more_body", False)
-            if self._size > (limit := self.guard.most(self.scope)):
+            if self._size > (limit := self.guard.max_body(self.scope)):
                 await self._refuse(too_large(limit))
                 raise Refusal
             if self._is_read and self._connection:
@@ -355,7 +371,8 @@ class Passage:
             self.status = message["status"]
             present = {name.lower() for name, _ in message["headers"]}
             missing = [pair for pair in HEADERS if pair[0] not in present]
-            message["headers"] = [*message["headers"], *missing]
+            own_id = (REQUEST_ID_HEADER, self.scope[REQUEST_ID].encode())
+            message["headers"] = [*message["headers"], *missing, own_id]
             if self.guard.service.is_stopping and b"connection" not in present:
                 message["headers"].append((b"connection", b"close"))
             if self._connection and b"content-length" in present:  # its body follows at once

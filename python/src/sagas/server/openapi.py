@@ -19,6 +19,7 @@ from starlette.responses import Response
 from sagas.server import answers
 from sagas.server.auth import ROLES
 from sagas.server.json_bodies import has_tag
+from sagas.server.middleware import WELL_FORMED_ID
 from sagas.server.operations import Answer, Call, Operation, Routes
 from sagas.server.problems import MEDIA_TYPE, PREFIX, PROBLEMS
 from sagas.server.shapes import Record, records
@@ -77,6 +78,22 @@ def _file() -> tuple[bytes, str]:
     return text, f'"{hashlib.sha256(text).hexdigest()[:32]}"'
 
 
+REQUEST_ID_NAME = "X-Request-Id"
+REQUEST_ID_PARAMETER = {
+    "name": REQUEST_ID_NAME,
+    "in": "header",
+    "description": "an id for the log; if it is missing or has another form, the service makes one",
+    "required": False,
+    "schema": {"type": "string", "pattern": f"^{WELL_FORMED_ID.pattern}$"},
+}
+REQUEST_ID_ANSWER = {
+    "description": "the id of the request: in the log and in problems, it is `request_id`",
+    "schema": {"type": "string"},
+}
+EACH_ANSWER = {REQUEST_ID_NAME: {"$ref": f"#/components/headers/{REQUEST_ID_NAME}"}}
+"""The headers that each answer has."""
+
+
 def problems_of(operation: Operation) -> dict[int, list[str]]:
     """Return the problems of an operation, by status."""
     names = [*ALWAYS, *operation.problems]
@@ -91,11 +108,13 @@ def problems_of(operation: Operation) -> dict[int, list[str]]:
 def answer_of(answer: Answer) -> dict[str, Any]:
     """Return a response object of the document."""
     result: dict[str, Any] = {"description": answer.description}
-    if answer.headers:
-        result["headers"] = {
+    result["headers"] = {
+        **{
             name: {"description": text, "schema": {"type": "string"}}
             for name, text in answer.headers.items()
-        }
+        },
+        **EACH_ANSWER,
+    }
     content: dict[str, Any] = {"schema": answer.shape.schema() if answer.shape else {}}
     if answer.media_type not in ("application/json", "image/svg+xml"):
         content = {"schema": {"type": "string"}}
@@ -123,6 +142,7 @@ def problem_of(status: int, names: list[str]) -> dict[str, Any]:
     }
     return {
         "description": "; ".join(f"`{name}`: {PROBLEMS[name].title}" for name in names),
+        "headers": EACH_ANSWER,
         "content": {
             MEDIA_TYPE: {
                 "schema": answers.PROBLEM.schema(),
@@ -149,7 +169,7 @@ def parameters_of(operation: Operation) -> list[dict[str, Any]]:
             schema = dict(field.schema())
             parameter = {"name": name, "in": location, "description": schema.pop("description", "")}
             parameters.append({**parameter, "required": field.is_required, "schema": schema})
-    return parameters
+    return [*parameters, REQUEST_ID_PARAMETER]
 
 
 def operation_of(operation: Operation) -> dict[str, Any]:
@@ -165,8 +185,7 @@ def operation_of(operation: Operation) -> dict[str, Any]:
         result["security"] = [{"token": []}]
     else:
         result["security"] = []
-    if parameters := parameters_of(operation):
-        result["parameters"] = parameters
+    result["parameters"] = parameters_of(operation)
     if operation.body:
         content: dict[str, Any] = {"schema": operation.body.schema()}
         if operation.body.example is not None:
@@ -179,7 +198,8 @@ def operation_of(operation: Operation) -> dict[str, Any]:
     for status, names in problems_of(operation).items():
         responses.setdefault(str(status), {"$ref": f"#/components/responses/{title_of(names)}"})
     if any(answer.headers.get("ETag") for answer in operation.answers.values()):
-        responses["304"] = {"description": "Nothing has changed since `If-None-Match`."}
+        text = "Nothing has changed since `If-None-Match`."
+        responses["304"] = {"description": text, "headers": EACH_ANSWER}
     result["responses"] = dict(sorted(responses.items()))
     return result
 
@@ -214,6 +234,7 @@ def document(operations: Iterable[Operation]) -> dict[str, Any]:
                 name: operation.whole() for name, operation in sorted(records_by_name.items())
             },
             "responses": dict(sorted(shared.items())),
+            "headers": {REQUEST_ID_NAME: REQUEST_ID_ANSWER},
             "securitySchemes": {
                 "token": {
                     "type": "http",

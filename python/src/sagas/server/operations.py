@@ -21,6 +21,8 @@ from sagas.server.access import (
     body_of,
     check_capacity,
     current_session,
+    enter,
+    is_operator_session,
     service_of,
     unslashed,
 )
@@ -91,7 +93,8 @@ class Operation:
     Attributes:
         headers: The request headers that its handler reads.
         problems: The problems of this operation, in addition to those of every operation.
-        permission: What the token must permit. None: no token is needed.
+        permission: What the token must permit, on a page that of the session. None: no token is
+            needed.
     """
 
     method: str
@@ -244,17 +247,22 @@ class Resource:
                 f"this path supports only {self.allowed}",
                 headers={"Allow": self.allowed},
             )
-        if operation.permission is None:
-            principal = ANONYMOUS
-            check_capacity(
-                request, is_operator=self._is_page and current_session(request) is not None
-            )
-        else:
-            principal = authorize(request, operation.permission)
+        principal = self._principal(request, operation.permission)
         call = await operation.call(request, principal, self._is_page)
         if method == "HEAD" and operation.streams:
             return Response(media_type="text/event-stream")
         return await operation.handler(call)
+
+    def _principal(self, request: Request, permission: Permission | None) -> Principal:
+        """Return the principal of a request: of a page by its session, else by its token.
+
+        Raises `Problem` if it does not have the permission.
+        """
+        if permission is not None:
+            return enter(request, permission) if self._is_page else authorize(request, permission)
+        session = current_session(request) if self._is_page else None
+        check_capacity(request, is_operator=is_operator_session(session))
+        return ANONYMOUS
 
 
 def headers_of(answer: Response) -> Response:

@@ -40,15 +40,19 @@ PROBLEMS = {
     "NoSuchTask": Kind(404, "No task has this attempt id"),
     "NoSuchDelivery": Kind(404, "No delivery has this id"),
     "NoSuchSchedule": Kind(404, "No schedule has this name"),
+    "NoSuchPause": Kind(404, "The scope is not paused"),
+    "NoSuchNode": Kind(404, "No node has this name, or it is not drained"),
     "NoSuchDefinition": Kind(404, "The service has no such definition"),
     "NoPlan": Kind(404, "The saga has no plan"),
     "MethodNotAllowed": Kind(405, "The path does not have this method"),
     "RequestTimeout": Kind(408, "The body did not arrive in time", repeat=True),
-    "KeyConflict": Kind(409, "The key is already used with another saga or input"),
+    "KeyConflict": Kind(409, "The key is already used with another saga, version or input"),
     "StepNotWaiting": Kind(409, "The saga or step is not waiting for this"),
     "ConflictingReport": Kind(409, "Another outcome was reported first"),
     "LeaseLost": Kind(409, "The task has a newer lease"),
-    "NotAbortable": Kind(409, "The saga undoes a child"),
+    "NotAbortable": Kind(409, "The saga undoes a child, or calls on_end"),
+    "NotRestartable": Kind(409, "The saga is open, has completed, or is a child"),
+    "NotErasable": Kind(409, "The saga is open, needs an operator, or is a child"),
     "SagaOver": Kind(409, "The saga is over"),
     "CountChanged": Kind(409, "The filter now selects another number of sagas"),
     "BodyTooLarge": Kind(413, "The body exceeds the limit"),
@@ -56,9 +60,9 @@ PROBLEMS = {
     "InvalidRequest": Kind(422, "The request does not fit the schema"),
     "InvalidKey": Kind(422, "The key cannot be stored"),
     "InvalidLabel": Kind(422, "A label is invalid"),
-    "InvalidInput": Kind(422, "The input does not fit the first steps"),
+    "InvalidInput": Kind(422, "The input does not have the declared type"),
     "NotSerializable": Kind(422, "A value cannot be stored as JSON"),
-    "InvalidResult": Kind(422, "The result is not that of a child saga"),
+    "InvalidResult": Kind(422, "The result does not have the type of the step"),
     "TooLarge": Kind(422, "The saga has too many steps or needs for its input"),
     "TooManyRequests": Kind(429, "Too many requests", repeat=True),
     "QuotaExceeded": Kind(429, "The token has too many open sagas", repeat=True),
@@ -69,6 +73,7 @@ PROBLEMS = {
     "Stopping": Kind(503, "The service is stopping", repeat=True),
     "Closed": Kind(503, "The store is closed", repeat=True),
     "RightsChanged": Kind(503, "The rights of the token have changed", repeat=True),
+    "StartsPaused": Kind(503, "An operator has paused new sagas", repeat=True),
     "OwnerUnavailable": Kind(503, "The node that executes the saga does not answer", repeat=True),
     "StoreUnavailable": Kind(503, "The store cannot be read or written", repeat=True),
 }
@@ -123,19 +128,23 @@ def of(error: SagasError) -> Problem:
     return Problem(name, SILENT[name])
 
 
-def body(problem: Problem) -> dict[str, Any]:
-    """Return the problem details of a problem."""
+def body(problem: Problem, request_id: str | None = None) -> dict[str, Any]:
+    """Return the problem details of a problem, and of its request if that has an id."""
     fields: dict[str, Any] = {
         "type": PREFIX + problem.name,
         "title": problem.kind.title,
         "status": problem.kind.status,
         "detail": str(problem)[:MAX_DETAIL],
     }
-    return fields if problem.field is None else {**fields, "field": problem.field}
+    if problem.field is not None:
+        fields["field"] = problem.field
+    if request_id is not None:
+        fields["request_id"] = request_id
+    return fields
 
 
-def response(problem: Problem) -> Json:
+def response(problem: Problem, request_id: str | None = None) -> Json:
     """Return the response for a problem, with `Retry-After` if the service is unavailable."""
     status = problem.kind.status
     headers = {**HEADERS.get(status, {}), **problem.headers}
-    return Json(body(problem), status, headers, media_type=MEDIA_TYPE)
+    return Json(body(problem, request_id), status, headers, media_type=MEDIA_TYPE)

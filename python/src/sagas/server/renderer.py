@@ -47,6 +47,7 @@ def _environment() -> Environment:
         wait=wording.wait,
         decision=lambda decision: wording.DECISIONS[decision],
         act=lambda command: wording.ACTS.get(command, command),
+        waited_for=lambda why: wording.WAITED_FOR.get(why, why),
         cost=cost_text,
         count=lambda number: f"{number:,}",
         path=lambda key: quote(key, safe=""),

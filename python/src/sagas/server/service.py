@@ -6,16 +6,19 @@ import asyncio
 import contextlib
 import dataclasses
 import functools
+import importlib
 import logging
 import re
 import time
 from collections import OrderedDict
-from collections.abc import Awaitable, Iterator
+from collections.abc import Awaitable, Callable, Iterator
 from typing import TYPE_CHECKING, Any, TypeVar
 
 from sagas.api import store
+from sagas.api.restarts import check_restartable
 from sagas.api.store import Run, Store
 from sagas.base.errors import (
+    Closed,
     DefinitionError,
     KeyConflict,
     NoSuchSaga,
@@ -24,7 +27,9 @@ from sagas.base.errors import (
     StoreUnavailable,
 )
 from sagas.base.events import Event
+from sagas.core.pauses import Pause
 from sagas.core.results import ActiveAttempt
+from sagas.core.decisions import Requester
 from sagas.definition import tokens
 from sagas.definition.definition_text import version_of
 from sagas.definition.labels import Labels
@@ -35,15 +40,18 @@ from sagas.inspection.wording import stored
 from sagas.inspection.views import SagaView
 from sagas.runtime.leased_tasks import Queue
 from sagas.server import auth, declared_steps, webhooks
-from sagas.server.auth import Principal, Sessions, Tokens
+from sagas.server.auth import Permission, Principal, Sessions, Tokens
 from sagas.server.event_stream import Hub
+from sagas.server.explanations import Explanations
 from sagas.server.figures import Figures
 from sagas.server.limits import ConcurrencyLimits, Quotas, Rates, StreamLimits
 from sagas.server.metrics import Metrics
-from sagas.server.middleware import SLASH, parted
+from sagas.server.middleware import REQUEST_ID, SLASH, parted
 from sagas.server.settings import Settings
+from sagas.server.shown_fields import ShownFields
 from sagas.server.threads import Threads
 from sagas.server.webhooks import Webhooks
+from sagas.storage import store_name
 
 if TYPE_CHECKING:
     from sagas.storage.interface import Peers
@@ -59,6 +67,10 @@ After that, new requests have to show whether commits succeed.
 """
 PEER_ANSWER_KEPT = 1.0
 """Seconds for which another service's answer about a saga is reused."""
+SHOWN_OPTIONS = ("concurrency", "retention", "archive_dir", "lease", "record", "blob_threshold")
+"""The options of the store that the log has at the start."""
+FREQUENT = ("/v1/tasks/claim", "/heartbeat")
+"""The ends of paths whose requests change no saga."""
 MAX_DETAIL = 500
 """Maximum characters of an event's detail that other services receive."""
 
@@ -109,15 +121,15 @@ class Service:
     def __init__(self, settings: Settings) -> None:
         self.settings = settings
         self.hub = Hub()
-        self.metrics = Metrics(self)
+        self.metrics = Metrics(self, settings.sagas)
         self.tokens = Tokens(settings.tokens, logger.error) if settings.tokens else None
         self.sessions = Sessions(settings.session_time)
         self.rates = Rates(settings.rate)
         self.refusals = Rates(5.0)
         self.quotas = Quotas(settings.quota, self.look)
-        self.places = ConcurrencyLimits(settings.places)
+        self.concurrency = ConcurrencyLimits(settings.concurrency)
         streams = settings.streams
-        self.streams = StreamLimits(streams.most, streams.most_each, streams.kept)
+        self.streams = StreamLimits(streams.maximum, streams.max_each, streams.kept)
         self.store: Store = store.open(
             settings.path,
             settings.sagas,
@@ -130,16 +142,22 @@ class Service:
                 logger.warning("%s", warning)
         file, allow = settings.webhooks.file, settings.webhooks.allow_local
         hooks = webhooks.read_file(file, allow) if file else []
-        self.webhooks = Webhooks(hooks, self.store.deliveries, allow)
+        self.metrics.begin_webhooks(hook.name for hook in hooks)
+        self.webhooks = Webhooks(hooks, self.store.deliveries, allow, self.metrics.posted)
         self._peers: Peers | None = None
         self._peer_attempts: dict[
             str, tuple[float, list[ActiveAttempt]]
         ] = {}  # attempts that other nodes reported, and until when these are valid
-        self.pages: list[re.Pattern[str]] = []
+        self.pages: dict[str, re.Pattern[str]] = {}
+        """The pages that users visit, by the paths of their routes."""
+        self.page_permissions: dict[tuple[str, str], Permission | None] = {}
+        """What the routes of the dashboard require, by their methods and paths."""
         self.workers: OrderedDict[str, Seen] = OrderedDict()
         self.claims = WaitingClaims()
         self.unwritten: float | None = None
         self.figures = Figures(self.hub, self.look)
+        self.explanations = Explanations()
+        self.shown_fields = ShownFields(self)
 
     # -- life
 
@@ -147,10 +165,34 @@ class Service:
         """Open the store. Raises the errors of `Store`."""
         self.stopping: asyncio.Future[None] = asyncio.get_running_loop().create_future()
         await self.store.__aenter__()
+        self.store.workers.observe_claims(self.metrics.claimed)
         await self._meet()
         self.webhooks.begin()
-        self.threads = Threads(self.store.reader)
+        self.threads = Threads(self.store._reader)
         self.figures.prime()
+        fields = self._description()
+        message = "service started: sagas %s, store %s, node %s"
+        names = (fields["version"], fields["store"], fields["node"])
+        logger.info(message, *names, extra={"sagas": fields})
+
+    def _description(self) -> dict[str, Any]:
+        """Return what the log has of the service at its start, without secrets."""
+        settings, options = self.settings, self.settings.store.options
+        shown = {name: options[name] for name in SHOWN_OPTIONS if options.get(name) is not None}
+        return {
+            "version": importlib.import_module("sagas").__version__,
+            "store": self.store.path,
+            "node": store_name.node_name(options.get("node")),
+            "definitions": [f"{saga.name} (version {saga.version})" for saga in settings.sagas],
+            "listen": f"{settings.host}:{settings.port}",
+            "tokens": settings.tokens is not None,
+            "webhooks": self.webhooks.names(),
+            "rate": settings.rate,
+            "connections": settings.concurrency.connections,
+            "shutdown_timeout": settings.shutdown_timeout,
+            **{name: str(value) for name, value in shown.items()},
+            **{name: options.get(name) is not None for name in ("codec", "blobs", "context")},
+        }
 
     @property
     def is_stopping(self) -> bool:
@@ -171,8 +213,11 @@ class Service:
         await self.quotas.rest()
         if self._peers:
             await self._peers.close()
+        began = time.monotonic()
         await self.store.close(self.settings.shutdown_timeout)
         self.threads.close()
+        self.explanations.close()
+        logger.info("service stopped: its store was closed in %.1f s", time.monotonic() - began)
 
     async def _meet(self) -> None:
         """Exchange events and workers with other services of the same PostgreSQL database."""
@@ -218,7 +263,7 @@ class Service:
             return "the service is stopping"
         if self.unwritten is not None and time.monotonic() < self.unwritten + FAILED_COMMIT:
             return "the store could not be written"
-        if not self.store.holds():
+        if not self.store._holds():
             return "the store cannot be reached"
         return None
 
@@ -255,7 +300,9 @@ class Service:
         if view is None or not any(step.state in views.BEGUN for step in view.steps):
             return view
         return views.with_active_attempts(
-            view, self.store.active_attempts(key) or await self._begun_there(view), self.store.now()
+            view,
+            self.store.active_attempts(key) or await self._begun_there(view),
+            self.store._now(),
         )
 
     async def _begun_there(self, view: SagaView) -> list[ActiveAttempt]:
@@ -277,13 +324,28 @@ class Service:
         self._peer_attempts[view.key] = time.monotonic() + PEER_ANSWER_KEPT, attempts
         return attempts
 
+    def pauses_of(self, principal: Principal) -> list[Pause]:
+        """Return the pauses that this node obeys, and that a principal may see."""
+        try:
+            pauses = self.store._pauses
+        except Closed:
+            return []
+        return [pause for pause in pauses if pause.saga is None or principal.sees(pause.saga)]
+
     async def queues(self, principal: Principal) -> list[Queue]:
-        """Return the queues of all nodes that a principal may see."""
+        """Return the queues of all nodes that a principal may see.
+
+        They count the tasks of all keys, so a principal that is restricted to keys sees none.
+        """
+        if principal.scope.keys is not None:
+            return []
         all_queues = await self.store.workers.queues()
         return [
             queue
             for queue in all_queues
-            if principal.does(f"{queue.saga}/{queue.step}{'/undo' if queue.undo else ''}")
+            if principal.does(
+                f"{queue.saga}/{queue.step}{'/undo' if queue.undo else ''}", self.ended_definitions
+            )
         ]
 
     async def seen(self, principal: Principal) -> list[Seen]:
@@ -298,7 +360,7 @@ class Service:
             steps = (
                 worker.steps
                 if principal.definitions is None
-                else [step for step in worker.steps if principal.does(step)]
+                else [step for step in worker.steps if principal.does(step, self.ended_definitions)]
             )
             latest.pop(worker.name, None)
             if steps:
@@ -349,7 +411,7 @@ class Service:
         self,
         principal: Principal,
         size: int,
-        saga: Saga,
+        saga: Saga[Any],
         key: str,
         input: Any,
         labels: Labels | None = None,
@@ -364,14 +426,49 @@ class Service:
                 may not see it.
             Problem: The token has too many open sagas.
         """
+        return await self._started(
+            principal,
+            size,
+            key,
+            lambda token: self.store._start(token, saga, key, input, labels, deadline, traceparent),
+        )
+
+    async def restart(
+        self, principal: Principal, key: str, new_key: str, by: Requester, note: str | None
+    ) -> tuple[Saga[Any], Run]:
+        """Start an ended saga again, under a new key. Return its definition and the new saga.
+
+        Raises `NoSuchSaga`, `NotRestartable`, and the errors of `start`.
+        """
+        await self.check_sees(principal, key)
+        row, phase, version = await self.look(one_saga.to_restart(key))
+        check_restartable(key, phase)
+        saga = self.saga_named(principal, row.saga, version)
+        run = await self._started(
+            principal,
+            len(row.input),
+            new_key,
+            lambda token: self.store._restart(token, key, new_key, by, note),
+        )
+        return saga, run
+
+    async def _started(
+        self,
+        principal: Principal,
+        size: int,
+        key: str,
+        work: Callable[[str | None], Awaitable[Run]],
+    ) -> Run:
+        """Start a saga within the quota of a token. See `start`.
+
+        `work` starts it, given the name of the token or None.
+        """
         token = None if self.tokens is None else principal.name
         pending = token and await self.quotas.take(principal, size, lambda: self._is_there(key))
         is_new = False
         try:
             async with asyncio.timeout(self.settings.patience):
-                run = await self.store._start(
-                    token, saga, key, input, labels, deadline, traceparent
-                )
+                run = await work(token)
             is_new = run.new
             self.store._replies(key)
             return run
@@ -394,20 +491,33 @@ class Service:
             if pending:
                 self.quotas.done(pending, is_new)
 
+    async def version_of(self, key: str, default: int) -> int:
+        """Return the version of a stored saga; `default` if it was deleted concurrently."""
+        version = await self.look(one_saga.version(key))
+        return default if version is None else version
+
     async def _is_there(self, key: str) -> bool:
         return await self.look(one_saga.find(key)) is not None
 
     # -- names
 
-    def is_page(self, address: str) -> bool:
-        """Return whether an address is one of the dashboard's pages."""
+    def is_page(self, address: str, principal: Principal) -> bool:
+        """Return whether an address is a page of the dashboard that a principal may open."""
         path = address.partition("#")[0].partition("?")[0]
         if not address.isascii() or not address.isprintable() or "\\" in address:
             return False
         name = parted(path.encode())
-        return name is not None and any(page.fullmatch(name) for page in self.pages)
+        return name is not None and any(
+            page.fullmatch(name) and self.may_open(principal, path)
+            for path, page in self.pages.items()
+        )
 
-    def saga_named(self, principal: Principal, name: str, version: int | None) -> Saga:
+    def may_open(self, principal: Principal, path: str, method: str = "GET") -> bool:
+        """Return whether a principal may open a page or send a form, given its route."""
+        permission = self.page_permissions[method, path]
+        return permission is None or principal.has_permission(permission)
+
+    def saga_named(self, principal: Principal, name: str, version: int | None) -> Saga[Any]:
         """Return the definition with a name; without a version, the newest one.
 
         Raises `DefinitionError`, which lists the definitions that the principal may see.
@@ -442,7 +552,15 @@ class Service:
                 result.add(f"{saga.name}/{name}")
                 if step.has_compensation:
                     result.add(f"{saga.name}/{name}/undo")
+            if saga.end_saga is not None:
+                result |= {f"{saga.end_saga.name}/{step.name}" for step in saga.end_saga.steps}
         return result
+
+    @functools.cached_property
+    def ended_definitions(self) -> dict[str, str]:
+        """The definitions with an `on_end` function, by the names of those that call it."""
+        sagas = self.settings.sagas
+        return {saga.end_saga.name: saga.name for saga in sagas if saga.end_saga is not None}
 
     def saw(self, worker: str, steps: list[str]) -> None:
         """Record that a worker polled for tasks."""
@@ -456,7 +574,7 @@ class Service:
         path = scope["path"].replace(SLASH, "%2F")
         waits = path.endswith(("/wait", "/claim", "/events"))
         self.metrics.request(scope["method"], status, seconds, waits)
-        level = logging.ERROR if status >= 500 else logging.INFO
+        level = level_of(scope["method"], path, status)
         if http.isEnabledFor(level):
             fields = {
                 "method": scope["method"],
@@ -464,10 +582,23 @@ class Service:
                 "status": status,
                 "ms": round(seconds * 1000, 1),
                 "from": (scope.get("client") or ["?"])[0],
+                "request_id": scope[REQUEST_ID],
             }
             if "sagas.who" in scope:
                 fields["who"] = scope["sagas.who"]
             http.log(level, "%s %s %d", scope["method"], path, status, extra={"sagas": fields})
+
+
+def level_of(method: str, path: str, status: int) -> int:
+    """Return the level of a finished request in the log.
+
+    Requests that change no saga are many: reads, and claims and heartbeats of workers. They are
+    logged if they fail.
+    """
+    if status >= 500:
+        return logging.ERROR
+    is_read = method in ("GET", "HEAD", "OPTIONS") or path.endswith(FREQUENT)
+    return logging.DEBUG if is_read and 0 < status < 400 else logging.INFO
 
 
 def event_fields(event: Event) -> dict[str, Any]:

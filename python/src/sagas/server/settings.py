@@ -30,8 +30,8 @@ class Quota(NamedTuple):
 class StreamSettings:
     """Limits of event streams: in total, per token, and reserved for the dashboard."""
 
-    most: int = 200
-    most_each: int = 50
+    maximum: int = 200
+    max_each: int = 50
     kept: int = 40
 
 
@@ -91,14 +91,14 @@ class Settings:
     """
 
     path: str
-    sagas: list[Saga]
+    sagas: list[Saga[Any]]
     host: str = "127.0.0.1"
     port: int = 8080
     tokens: pathlib.Path | None = None
     webhooks: WebhookSettings = WebhookSettings()
-    most_body: int = 1 << 20
+    max_body: int = 1 << 20
     streams: StreamSettings = StreamSettings()
-    places: ConcurrencySettings = ConcurrencySettings()
+    concurrency: ConcurrencySettings = ConcurrencySettings()
     trusted_proxies: tuple[Network, ...] = LOOPBACK
     rate: float = 5000.0
     quota: Quota = Quota()

@@ -59,8 +59,8 @@ class Text(Shape):
     blanks.
     """
 
-    most: int | None = None
-    least: int = 0
+    max_length: int | None = None
+    min_length: int = 0
     pattern: str | None = None
     form: str | None = None
     strip: bool = False
@@ -69,19 +69,23 @@ class Text(Shape):
         if not isinstance(value, str):
             raise Invalid(field, "must be a string")
         text = value.strip() if self.strip else value
-        if len(text) < self.least:
-            least = "not be empty" if self.least == 1 else f"have at least {self.least} characters"
+        if len(text) < self.min_length:
+            least = (
+                "not be empty"
+                if self.min_length == 1
+                else f"have at least {self.min_length} characters"
+            )
             raise Invalid(field, f"must {least}")
-        if self.most is not None and len(text) > self.most:
-            raise Invalid(field, f"must have at most {self.most} characters")
+        if self.max_length is not None and len(text) > self.max_length:
+            raise Invalid(field, f"must have at most {self.max_length} characters")
         if self.pattern is not None and not re.fullmatch(self.pattern, text):
             raise Invalid(field, f"must match {self.pattern}")
         return text
 
     def schema(self) -> Schema:
         keywords = {
-            "minLength": self.least or None,
-            "maxLength": self.most,
+            "minLength": self.min_length or None,
+            "maxLength": self.max_length,
             "pattern": None if self.pattern is None else f"^{self.pattern}$",
             "format": self.form,
         }
@@ -105,19 +109,19 @@ class Choice(Shape):
         return {"type": "string", "enum": list(self.some)}
 
 
-def bounds(least: float | None, most: float | None) -> str:
+def bounds(minimum: float | None, maximum: float | None) -> str:
     """Return in words which numbers are accepted; at least one bound is given."""
-    if most is None:
-        return f"at least {least}"
-    return f"at most {most}" if least is None else f"from {least} to {most}"
+    if maximum is None:
+        return f"at least {minimum}"
+    return f"at most {maximum}" if minimum is None else f"from {minimum} to {maximum}"
 
 
 @dataclasses.dataclass(frozen=True)
 class Number(Shape):
     """A number within bounds. `whole`: an integer."""
 
-    least: float | None = None
-    most: float | None = None
+    minimum: float | None = None
+    maximum: float | None = None
     whole: bool = False
 
     def read(self, value: Any, field: str) -> float:
@@ -126,10 +130,10 @@ class Number(Shape):
             raise Invalid(field, "must be a number")
         if self.whole and value != int(value):
             raise Invalid(field, "must be a whole number")
-        if (self.least is not None and value < self.least) or (
-            self.most is not None and value > self.most
+        if (self.minimum is not None and value < self.minimum) or (
+            self.maximum is not None and value > self.maximum
         ):
-            raise Invalid(field, f"must be {bounds(self.least, self.most)}")
+            raise Invalid(field, f"must be {bounds(self.minimum, self.maximum)}")
         return int(value) if self.whole else float(value)
 
     def of_text(self, text: str, field: str) -> float:
@@ -138,7 +142,7 @@ class Number(Shape):
         return self.read(int(text) if self.whole else float(text), field)
 
     def schema(self) -> Schema:
-        keywords = {"minimum": self.least, "maximum": self.most}
+        keywords = {"minimum": self.minimum, "maximum": self.maximum}
         kind = "integer" if self.whole else "number"
         return {"type": kind} | {
             name: value for name, value in keywords.items() if value is not None
@@ -185,18 +189,20 @@ class Several(Shape):
     """A list of values of one shape."""
 
     of: Shape
-    least: int = 0
-    most: int | None = None
+    min_items: int = 0
+    max_items: int | None = None
 
     def read(self, value: Any, field: str) -> list[Any]:
         if not isinstance(value, list):
             raise Invalid(field, "must be a list")
-        if len(value) < self.least or (self.most is not None and len(value) > self.most):
-            raise Invalid(field, f"must have {bounds(self.least, self.most)} entries")
+        if len(value) < self.min_items or (
+            self.max_items is not None and len(value) > self.max_items
+        ):
+            raise Invalid(field, f"must have {bounds(self.min_items, self.max_items)} entries")
         return [self.of.read(item, f"{field}.{index}") for index, item in enumerate(value)]
 
     def schema(self) -> Schema:
-        keywords = {"minItems": self.least or None, "maxItems": self.most}
+        keywords = {"minItems": self.min_items or None, "maxItems": self.max_items}
         result = {"type": "array", "items": self.of.schema()}
         return result | {name: value for name, value in keywords.items() if value is not None}
 

@@ -16,6 +16,7 @@ from sagas.core.results import HistoryEvent
 from sagas.definition.drawing import ALL, Block, Group, Groups
 from sagas.engine.plan import Choice
 from sagas.inspection import wording
+from sagas.inspection.calls import CALL
 from sagas.inspection.picture import StepDisplay, counted, urgency
 from sagas.inspection.timeline import AttemptTimes, Span
 from sagas.inspection.views import Note, StepView
@@ -47,7 +48,7 @@ def folded(rows: Sequence[Any], urgency: Callable[[Any], tuple[int, ...]]) -> Ro
 
 
 UNFOLD = Field(
-    Text(most=8192),
+    Text(max_length=8192),
     "comma-separated declared names of the groups whose parts are drawn; *: all groups",
     default=None,
 )
@@ -159,9 +160,11 @@ class StepTable:
         displays: Sequence[StepDisplay],
         choices: Mapping[str, Choice],
         items: Mapping[str, str],
+        has_costs: bool = True,
     ) -> None:
+        """Make the table. `has_costs`: the costs of the plan were declared."""
         self._unfolding, self._steps, self._displays = unfolding, steps, displays
-        self._choices, self._items = choices, items
+        self._choices, self._items, self._has_costs = choices, items, has_costs
         self.blocks = unfolding.groups.blocks(len(steps), unfolding.names)
         self._name_of = {
             steps[step].name: block.group.name if block.group else steps[step].name
@@ -262,12 +265,12 @@ class StepTable:
             (choice.cost_to_keep if choice.kept else choice.cost_to_drop) or 0 for choice in choices
         )
         text = ", ".join(f"{decision} {count:,}" for decision, count in counts.items())
-        return f"{text}: costs {cost:,}" if cost else text
+        return f"{text}: costs {cost:,}" if cost and self._has_costs else text
 
 
 def error_summary(steps: Sequence[StepView]) -> str:
     """Return the first error of a group's steps, and how many more there are."""
-    listed = [f"{step.name}: {step.raised or step.said}" for step in steps if _is_bad(step)]
+    listed = [f"{step.name}: {step.raised or step.detail}" for step in steps if _is_bad(step)]
     if not listed:
         return ""
     more = f" and {len(listed) - 1:,} more" if len(listed) > 1 else ""
@@ -384,7 +387,7 @@ class EventRow:
     """An event, or equal events of a group.
 
     Attributes:
-        event: The event's name, as in `HistoryEvent`.
+        event: The event's name, as in `HistoryEvent`, or `optional_failure`.
         at: When it happened; for several events, the first time.
         until: For several events, the last time.
         step: The step's name, or the group's title.
@@ -407,19 +410,29 @@ def event_rows(events: Sequence[HistoryEvent], titles: Titles) -> list[EventRow]
     """
     result, joined = list[EventRow](), dict[tuple[str, str], int]()
     for event in events:
-        title = titles.get(event.step) if event.step else None
+        title, name = titles.get(event.step) if event.step else None, _name_of(event)
         if title is None or event.event == "note":
             joined = {}
-            result.append(EventRow(event.event, event.at, event.at, event.step, event.value))
-        elif (title, event.event) not in joined:
-            joined[title, event.event] = len(result)
-            result.append(EventRow(event.event, event.at, event.at, title, _first_error(event)))
+            result.append(EventRow(name, event.at, event.at, event.step, _value_of(event)))
+        elif (title, name) not in joined:
+            joined[title, name] = len(result)
+            result.append(EventRow(name, event.at, event.at, title, _first_error(event)))
         else:
-            at = joined[title, event.event]
+            at = joined[title, name]
             row = result[at]
             until, count = max(row.until, event.at), row.count + 1
             result[at] = dataclasses.replace(row, until=until, count=count)
     return result
+
+
+def _value_of(event: HistoryEvent) -> Any:
+    return wording.call_text(event.value) if event.event == CALL else event.value
+
+
+def _name_of(event: HistoryEvent) -> str:
+    """Return the name of an event, or `optional_failure`."""
+    is_optional = event.event == "fail" and (event.value or {}).get("optional") is True
+    return "optional_failure" if is_optional else event.event
 
 
 def _first_error(event: HistoryEvent) -> Any:

@@ -32,7 +32,7 @@ J = TypeVar("J")
 CURRENT_CLIENT: contextvars.ContextVar[str] = contextvars.ContextVar("maker", default="")
 """The client that the current task works for: a token, or without tokens an address."""
 LONG = 0.01
-"""Average seconds from which a client's work counts as long."""
+"""A client's work of this many seconds, on average, counts as long."""
 WEIGHT = 0.25
 """The weight of the last piece of work in the average."""
 REST = 3.0
@@ -180,8 +180,7 @@ class FairQueue(Generic[J]):
 T = TypeVar("T")
 READERS = ANSWERERS = 2
 LARGE = 1 << 18
-"""Characters of JSON from which it is parsed or serialized in a thread: that takes 10 ms or more.
-"""
+"""JSON of this many characters is parsed or serialized in a thread: that takes 10 ms or more."""
 
 
 Job = tuple[Callable[[], Any], "asyncio.Future[Any]"]

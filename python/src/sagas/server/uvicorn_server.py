@@ -7,6 +7,8 @@ from __future__ import annotations
 
 import asyncio
 import contextlib
+import functools
+import logging
 import resource
 import signal
 import socket
@@ -27,6 +29,7 @@ FOR_REQUESTS = 10.0  # seconds that requests at work have, once it is asked to s
 FOR_CLOSE = 15.0  # seconds that a stop may take in addition to requests and functions
 STARTED = 0.005  # seconds between two looks whether uvicorn has started: it makes no event of it
 SIGNALS = signal.SIGTERM, signal.SIGINT
+logger = logging.getLogger("sagas.server")
 
 
 def protocol(connections: Connections) -> type[asyncio.Protocol]:
@@ -39,7 +42,7 @@ def protocol(connections: Connections) -> type[asyncio.Protocol]:
     return Counted
 
 
-def most_connections(wanted: int) -> int:
+def allowed_connections(wanted: int) -> int:
     """Return how many of the wanted connections the descriptor limit allows.
 
     The limit is raised as far as possible.
@@ -81,19 +84,31 @@ class Serving:
         service: Service,
         connections: Connections,
         overdue: Callable[[], None] | None,
+        hung_up: Callable[[], None] | None,
     ) -> None:
         self._server, self._service, self._connections = server, service, connections
+        self._hung_up = hung_up
         self._overdue, self._deadline = overdue, list[asyncio.TimerHandle]()
 
-    async def run(self, listening: socket.socket, opened: Callable[[], None]) -> None:
-        """Serve until a signal. `opened` is called when the server answers."""
+    async def run(
+        self,
+        listening: socket.socket,
+        opened: Callable[[], None],
+        until: asyncio.Future[None] | None,
+    ) -> None:
+        """Serve until a signal, or until this future is done.
+
+        `opened` is called when the server answers.
+        """
         work = asyncio.ensure_future(self._server.serve(sockets=[listening]))
         try:
             while not self._server.started and not work.done():
                 await asyncio.sleep(STARTED)
             refusal = self._service.store._refusal
-            refusal.add_done_callback(lambda _: self.stop())
-            with self._signals():
+            refusal.add_done_callback(lambda _: self.stop("the database refuses this node"))
+            if until is not None:
+                until.add_done_callback(lambda _: self.stop("its program ends it"))
+            with self._signals() if until is None else contextlib.nullcontext():
                 opened()
                 await work
             if refusal.done():
@@ -110,22 +125,27 @@ class Serving:
         """Handle signals in place of uvicorn's own handlers."""
         loop = asyncio.get_running_loop()
         is_main = threading.current_thread() is threading.main_thread()
-        for number in SIGNALS if is_main else ():
-            loop.add_signal_handler(number, self.stop)
+        handlers: dict[signal.Signals, Callable[[], None]]
+        handlers = {number: functools.partial(self.stop, number.name) for number in SIGNALS}
+        if self._hung_up:
+            handlers[signal.SIGHUP] = self._hung_up
+        for number, handler in handlers.items() if is_main else ():
+            loop.add_signal_handler(number, handler)
         if self._server.should_exit:
-            self.stop()
+            self.stop("a signal during the start")
         try:
             yield
         finally:
-            for number in SIGNALS if is_main else ():
+            for number in handlers if is_main else ():
                 loop.remove_signal_handler(number)
 
-    def stop(self) -> None:
+    def stop(self, reason: str) -> None:
         """Accept no further requests, and end those that wait.
 
         Active requests get some time. A second call aborts them at once.
         """
         is_first = not self._service.stopping.done()
+        logger.info("service stops: %s%s", reason, "" if is_first else ", at once")
         self._server.should_exit = True
         self._service.stop()
         self._connections.stop()
@@ -152,23 +172,31 @@ async def run(
     listening: socket.socket,
     opened: Callable[[], None],
     overdue: Callable[[], None] | None = None,
+    hung_up: Callable[[], None] | None = None,
+    until: asyncio.Future[None] | None = None,
 ) -> None:
     """Serve at a socket until the server is stopped. Raises the errors of `Store`.
 
-    `opened` is called when the server answers. `overdue` is called in a thread if the stop
-    takes too long.
+    Args:
+        settings: The settings of the service.
+        listening: The socket.
+        opened: It is called when the server answers.
+        overdue: It is called in a thread if the stop takes too long (default: none).
+        hung_up: It is called at `SIGHUP` (default: `SIGHUP` ends the process).
+        until: The server stops when this future is done (default: at `SIGTERM` or `SIGINT`).
     """
     connections = Connections(
-        most_connections(settings.places.connections),
+        allowed_connections(settings.concurrency.connections),
         settings.head_time,
         settings.send_time,
-        settings.places,
+        settings.concurrency,
         settings.trusted_proxies,
     )
     app, service = application(settings, connections)
     await service.begin()
     try:
         server = uvicorn.Server(config_of(app, connections))
-        await Serving(server, service, connections, overdue).run(listening, opened)
+        serving = Serving(server, service, connections, overdue, hung_up)
+        await serving.run(listening, opened, until)
     finally:
         await service.end()

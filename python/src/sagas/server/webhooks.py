@@ -26,16 +26,17 @@ import ssl
 import threading
 import time
 import tomllib
+from collections.abc import Callable
 from typing import Any
 from urllib.parse import SplitResult, urlsplit
 
 from sagas.api.claims import Deliveries
 from sagas.base.errors import Closed, SagasError
 from sagas.base.events import Event
-from sagas.core.deliveries import TYPES
+from sagas.core.webhook_rows import TYPES
 from sagas.definition.compiled import Hooks
 from sagas.server import auth
-from sagas.storage.deliveries import Claimed, DeliveryState, Posted
+from sagas.storage.webhook_deliveries import Claimed, DeliveryState, Posted
 
 KEYS = ("name", "url", "secret", "types", "definitions")
 PREFIX = "whsec_"
@@ -333,6 +334,7 @@ POSTING_EVENTS = (
     "step_exhausted",
     "step_unknown",
     "step_cannot_decode",
+    "step_program_error",
 )
 """Events whose commits may contain something to post."""
 logger = logging.getLogger("sagas.webhooks")
@@ -345,9 +347,14 @@ class Webhooks:
     """
 
     def __init__(
-        self, hooks: list[Webhook], deliveries: Deliveries, allow_local: bool = False
+        self,
+        hooks: list[Webhook],
+        deliveries: Deliveries,
+        allow_local: bool = False,
+        on_posted: Callable[[str, DeliveryState], object] = lambda webhook, state: None,
     ) -> None:
         self._hooks, self._deliveries, self._allow_local = hooks, deliveries, allow_local
+        self._on_posted = on_posted
         self._lanes: list[asyncio.Task[None]] = []
         self._awake: list[asyncio.Event] = []
         if hooks:
@@ -360,6 +367,10 @@ class Webhooks:
             for kind in TYPES
         }
         return {kind: names for kind, names in names_by_type.items() if names}
+
+    def names(self) -> list[str]:
+        """Return the names of the webhooks."""
+        return [hook.name for hook in self._hooks]
 
     def begin(self) -> None:
         """Start to post. The store must be open."""
@@ -425,6 +436,7 @@ class Webhooks:
         except Exception as fault:
             error = f"{type(fault).__name__}: {fault}"[:MAX_ERROR]
         posted = outcome(status, error, delivery.attempts)
+        self._on_posted(hook.name, posted.state)
         is_kept = await self._deliveries.settle(delivery.id, delivery.attempts, posted)
         if is_kept and posted.state is DeliveryState.FAILED:
             message = "webhook %s: %s not delivered, attempt %d was the last"

@@ -35,6 +35,7 @@ STARTS = """
 SELECT key, saga, version, at FROM pending_starts i
 WHERE NOT EXISTS (SELECT 1 FROM nodes n WHERE n.node = i.node AND n.lease > now()) ORDER BY id
 """
+NODE_DEFINITIONS = "SELECT DISTINCT unnest(kinds) FROM nodes WHERE lease > now()"
 UNUSED = """
 DELETE FROM definitions
 WHERE NOT EXISTS (SELECT 1 FROM shard_definitions d WHERE d.definition = definitions.definition)
@@ -90,6 +91,9 @@ class Source(Protocol):
     def missing_saga_error(self, key: str) -> Trouble:
         """Return the error for a key that no saga has."""
 
+    def node_definitions(self) -> set[str]:
+        """Return the names of the definitions that the running nodes have stored."""
+
     def starts(self) -> list[Row]:
         """Return the untaken starts of clients: key, saga, version and time of each."""
 
@@ -119,6 +123,12 @@ class Source(Protocol):
 
     def drop_refused(self, before: float) -> int:
         """Delete the starts that were refused before this time, and return their number."""
+
+    def overwrite_deleted(self) -> None:
+        """Overwrite what this connection deletes or replaces from now on, if the store can."""
+
+    def drop_journal(self) -> None:
+        """Drop the journal that still has what was replaced, if the store can."""
 
     def close(self) -> None:
         """Close the connection."""
@@ -233,6 +243,9 @@ class FileSource:
     def missing_saga_error(self, key: str) -> Trouble:
         return Trouble(f"no saga has the key {key}")
 
+    def node_definitions(self) -> set[str]:
+        return set()
+
     def starts(self) -> list[Row]:
         return []
 
@@ -259,6 +272,17 @@ class FileSource:
     def drop_refused(self, before: float) -> int:
         return 0  # a file has no clients
 
+    def overwrite_deleted(self) -> None:
+        self.ask("PRAGMA secure_delete = ON")
+
+    def drop_journal(self) -> None:
+        """Move the WAL into the file and truncate it.
+
+        A reader may delay that. Then the next checkpoint moves the rows, and later commits
+        overwrite the WAL.
+        """
+        self.ask("PRAGMA wal_checkpoint(TRUNCATE)")
+
     def close(self) -> None:
         self.connection.close()
         if self._prune_lock is not None:
@@ -274,7 +298,7 @@ class DatabaseSource:
             from sagas.storage.postgresql import connections
             from sagas.storage.postgresql import schema as schema
         except ImportError as error:
-            raise store_name.missing_client(error) from error
+            raise Trouble(str(store_name.missing_client(error)), CANNOT) from error
 
         self.name = connections.named(url)
         self._translating_errors = functools.partial(connections.translate_errors, self.name)
@@ -349,6 +373,9 @@ class DatabaseSource:
             )
         return Trouble(f"no saga has the key {key}")
 
+    def node_definitions(self) -> set[str]:
+        return {str(kind).partition("/")[0] for (kind,) in self.ask(NODE_DEFINITIONS)}
+
     def starts(self) -> list[Row]:
         return self.ask(STARTS)
 
@@ -386,6 +413,12 @@ class DatabaseSource:
 
     def drop_refused(self, before: float) -> int:
         return self.changed(REFUSED, before)
+
+    def overwrite_deleted(self) -> None:
+        """Do nothing: VACUUM deletes what was replaced."""
+
+    def drop_journal(self) -> None:
+        """Do nothing: the server reuses its WAL by itself."""
 
     def close(self) -> None:
         self.connection.close()

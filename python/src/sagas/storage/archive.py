@@ -14,10 +14,9 @@ from typing import Any
 import tomllib
 
 from sagas.core.history import Projection
-from sagas.core.protocol import HEADER
 from sagas.core.states import saga_phase
-from sagas.definition.capacity import SHARD_CAPACITY
-from sagas.definition.children import parent_of
+from sagas.definition.capacity import HEADER, SHARD_CAPACITY
+from sagas.definition.child_sagas import parent_of
 from sagas.storage import queries
 from sagas.storage.admin import Row, Source
 

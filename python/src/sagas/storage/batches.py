@@ -15,22 +15,24 @@ import time
 from collections.abc import Callable, Iterator, Sequence
 from typing import Any, TypeVar
 
+from sagas.base.pauses import doubling_pauses
+from sagas.core.decisions import request_fields, request_text
 from sagas.definition.serialization import clean
 from sagas.storage.admin import Row, Source
 from sagas.storage.filters import Filter
 from sagas.storage.operator_requests import reason
-from sagas.storage.queries import PHASES, RESOLVABLE, RESOLVE, UNDOES_CHILD, UNDOING_KEYS
+from sagas.storage.queries import PHASES, RESOLVABLE, RESOLVE, NOT_ABORTED, UNDOING_KEYS
 
 T = TypeVar("T")
-MOST = 1000
+MAX_SAGAS = 1000
 """Maximum number of sagas per transaction."""
 LOOK = 0.02, 0.25
 """Seconds between two polls for answers: the first pause, and the longest."""
-ABORTABLE = f"""{PHASES["open"]} AND NOT {UNDOES_CHILD} AND NOT EXISTS (
+ABORTABLE = f"""{PHASES["open"]} AND NOT {NOT_ABORTED} AND NOT EXISTS (
 SELECT 1 FROM operator_commands r
 WHERE r.key = s.key AND r.command = 'abort' AND (r.answer IS NULL OR r.answer = 'true'))"""
-"""The sagas that are open, that undo no child, and that no command has aborted."""
-UNDOING = f"{PHASES['open']} AND {UNDOES_CHILD}"
+"""The sagas that are open, that are aborted by themselves, and that no command has aborted."""
+UNDOING = f"{PHASES['open']} AND {NOT_ABORTED}"
 TO_RESOLVE = f"{RESOLVABLE} AND note IS NULL"
 NOTED = """
 INSERT INTO operator_commands(key, command, value, at, answer) VALUES(?, 'resolve', ?, ?, 'true')
@@ -45,7 +47,8 @@ class BatchResult:
         done: The keys of the sagas for which it is executed.
         refused: Why it was refused, by key.
         waiting: The keys of the sagas without an answer: their program will execute it later.
-        undoing: The keys of the sagas that an abort left out, because each undoes a child.
+        undoing: The keys of the sagas that an abort left out, because each undoes a child or calls
+            `on_end`.
         warnings: What may be misspelled, if the filter selects nothing: labels that no saga
             has.
     """
@@ -64,7 +67,7 @@ def resolve_one(connection: Source, key: str, note: str, by: str | None = None) 
     """
     if not connection.changed(RESOLVE, note, key):
         return False
-    connection.changed(NOTED, key, json.dumps({"by": by, "note": clean(note)}), connection.now())
+    connection.changed(NOTED, key, request_text(request_fields(by, clean(note))), connection.now())
     return True
 
 
@@ -98,7 +101,7 @@ class Batch:
             timeout: Maximum number of seconds to wait for the answers. With None, wait as long
                 as a program has the store open.
         """
-        value, after, requests = json.dumps(command), -1, dict[int, str]()
+        value, after, requests = request_text(command), -1, dict[int, str]()
         for key in self._connection.waiting_starts(self._filter):
             if self._connection.withdraw(key):
                 self._result.done.append(key)
@@ -137,11 +140,11 @@ class Batch:
         """
         answers: list[Any] = [None] * len(values)
         requests_of_batches: list[dict[int, int]] = []
-        for first in range(0, len(values), MOST):
+        for first in range(0, len(values), MAX_SAGAS):
             requests_of_batches.append({})
             with self._connection.transaction():
-                for index, (id, value) in enumerate(values[first : first + MOST], first):
-                    number = self._connection.add_request(id, command, json.dumps(value))
+                for index, (id, value) in enumerate(values[first : first + MAX_SAGAS], first):
+                    number = self._connection.add_request(id, command, request_text(value))
                     if number is None:
                         answers[index] = False
                     else:
@@ -170,15 +173,15 @@ class Batch:
         return self._result
 
     def _count(self, condition: str, *condition_parameters: Any) -> int:
-        matches, parameters = self._filter.where()
+        matches, parameters = self._filter.condition()
         query = f"SELECT count(*) FROM sagas s WHERE {condition} AND {matches}"
         return int(self._connection.ask(query, *condition_parameters, *parameters)[0][0])
 
     def _next_rows(self, condition: str, after: int, *condition_parameters: Any) -> Sequence[Row]:
         """Return the next sagas of the filter. `condition_parameters`: those of the condition."""
-        matches, parameters = self._filter.where()
+        matches, parameters = self._filter.condition()
         query = f"""SELECT id, key FROM sagas s WHERE {condition} AND {matches} AND id > ?
-        ORDER BY id LIMIT {MOST}"""
+        ORDER BY id LIMIT {MAX_SAGAS}"""
         return self._connection.ask(query, *condition_parameters, *parameters, after)
 
     def _await(
@@ -189,7 +192,7 @@ class Batch:
         It stops when no program has the store open, and at the deadline. If a request does not
         exist any more, its answer is False.
         """
-        pause, longest = LOOK
+        pauses = doubling_pauses(*LOOK)
         while requests and not self._stop.is_set():
             marks = ", ".join("?" * len(requests))
             query = f"SELECT id, answer FROM operator_commands WHERE id IN ({marks})"
@@ -201,8 +204,7 @@ class Batch:
             is_late = until is not None and time.monotonic() >= until
             if not requests or is_late or not self._connection.is_driven():
                 break
-            self._stop.wait(pause)
-            pause = min(longest, 2 * pause)
+            self._stop.wait(next(pauses))
         return requests
 
     def _answered(self, key: str, answer: Any) -> None:

@@ -25,7 +25,8 @@ from typing import TYPE_CHECKING, Any, NamedTuple, cast
 
 from sagas.base.errors import SagasError, StoreUnavailable
 from sagas.base.logger import logger
-from sagas.core.batch import Batch, LoadedShard, NewShard, SagaRow, StoredSaga
+from sagas.core.shard.batch import Batch, LoadedShard, NewShard, SagaRow, StoredSaga
+from sagas.definition.serialization import FAILED_HEAD
 from sagas.definition.payloads import (
     ABSENT,
     BLOB_HEAD,
@@ -91,9 +92,9 @@ class Blobs:
         self._path, self.prefix = path, ""
         self.other: Location | None = None
         self.under_way: set[str] = set()
-        self._places = asyncio.Semaphore(AT_ONCE)
+        self._slots = asyncio.Semaphore(AT_ONCE)
         self._marks: Marks | None = None
-        self._own = ""
+        self._own_prefix = ""
         self._is_named, self._renewing = asyncio.Event(), asyncio.Lock()
 
     def mark(self, file: str, secret: bytes) -> Marks:
@@ -107,7 +108,7 @@ class Blobs:
         them, and would delete them.
         """
         self._marks = self.mark(file, secret)
-        self._own = hashlib.sha256(b"blobs" + secret).hexdigest()[:16]
+        self._own_prefix = hashlib.sha256(b"blobs" + secret).hexdigest()[:16]
         try:
             await self._renew()
         except Exception as error:  # a blob store may raise anything, and values are still stored
@@ -126,8 +127,8 @@ class Blobs:
         async with self._renewing:
             self.other = await self._marks.renew()
             if self.other is None:
-                self.prefix = self._own
-            elif self.prefix in ("", self._own):
+                self.prefix = self._own_prefix
+            elif self.prefix in ("", self._own_prefix):
                 self.prefix = secrets.token_hex(8)
         return self.other is None
 
@@ -151,9 +152,10 @@ class Blobs:
     def is_large(self, text: str | None) -> bool:
         """Whether a value goes into the blob store.
 
-        A value that looks like a reference always does.
+        A value that looks like a reference always does. An optional failure never does, so that
+        each program can show it.
         """
-        if text is None:
+        if text is None or text.startswith(FAILED_HEAD):
             return False
         if 4 * len(text) <= self._threshold:
             return text.startswith(BLOB_HEAD)
@@ -190,7 +192,7 @@ class Blobs:
         key = f"{self.prefix}/{id:x}/{secrets.token_hex(16)}"
         self.under_way.add(key)
         data = text.encode("utf-8", "surrogatepass")
-        async with self._places:
+        async with self._slots:
             await self._call(self._store.put, key, data)
         return str(Reference.to(key, self._payloads.decode(text), len(data)))
 
@@ -215,7 +217,7 @@ class Blobs:
         """Fetch a value, with several attempts. Raises `KeyError`, `BlobUnavailable`."""
         for pause in (*PAUSES, None):
             try:
-                async with self._places:
+                async with self._slots:
                     data: bytes = await self._call(self._store.get, key)
                 return data
             except BlobUnavailable:
@@ -493,10 +495,10 @@ class Marks:
                 await asyncio.sleep(MARK_PAUSE)
             noted: str = await _in_thread(self._notes.tokens)
             marks = await self._there()
-            own = set(noted.split())
-            others = [location for token, location in marks.items() if token not in own]
+            own_tokens = set(noted.split())
+            others = [location for token, location in marks.items() if token not in own_tokens]
             others += [location for location in marks.values() if location.id != own_location.id]
-            if not others and await self._replace(noted, [*own], own_location):
+            if not others and await self._replace(noted, [*own_tokens], own_location):
                 return None
         if not others:
             raise StoreUnavailable(

@@ -17,9 +17,9 @@ from collections.abc import Awaitable, Callable, Hashable, Sequence
 from typing import Generic, NamedTuple, Protocol, TypeVar, Union
 
 from sagas.base.errors import SagasError, StoreUnavailable
-from sagas.core.batch import Batch
+from sagas.core.shard.batch import Batch
 from sagas.core.spans import LEASED_WORD
-from sagas.storage.deliveries import Deliveries
+from sagas.storage.webhook_deliveries import Deliveries
 
 OFFER = "attempt, shard, id, step, action, number, task, concurrency, lease, offered_at, cancelled"
 OPEN = "outcome IS NULL"
@@ -54,7 +54,7 @@ REPORT_COUNTS = """(
     AND (outcome IS NULL OR outcome = 'suspended' AND {outcome} <> 'unknown'))"""
 """Whether a report counts: a success under any lease, the other outcomes under the newest lease.
 
-A success replaces a failure that no commit has handled yet, and `unknown` gives way to it.
+A success replaces a failure that no commit has handled yet, and also `unknown`.
 """
 
 
@@ -77,8 +77,8 @@ def earlier(since: float, worker: str, lease: int, until: float | None) -> str:
 class Claim(NamedTuple):
     """A claimed attempt.
 
-    It has the seconds of its lease, why its saga is being undone, if it is, and whether an earlier
-    lease of it had expired.
+    It has the seconds of its lease, why its saga is being undone, if it is, whether an earlier
+    lease of it had expired, and for how many seconds it was offered.
     """
 
     attempt: str
@@ -89,6 +89,7 @@ class Claim(NamedTuple):
     action: str
     cancelled: str | None
     is_takeover: bool
+    waited: float
 
 
 class ClaimRequest(NamedTuple):
@@ -135,7 +136,7 @@ class Row(NamedTuple):
 
 
 class Report(NamedTuple):
-    """The outcome of an attempt, as it was reported."""
+    """The reported outcome of an attempt."""
 
     attempt: str
     outcome: str
@@ -243,7 +244,7 @@ class Batcher(Generic[Item, Answer]):
                 answer.
             group: Returns the group of an item, or None (default: no item has a group).
         """
-        self._ask, self._most, self._dropped, self._group = ask, limit, dropped, group
+        self._ask, self._max_batch, self._dropped, self._group = ask, limit, dropped, group
         self._waiting: deque[tuple[Item, asyncio.Future[Answer]]] = deque()
         self._job: asyncio.Task[None] | None = None
 
@@ -273,7 +274,7 @@ class Batcher(Generic[Item, Answer]):
             if entry[1].done():
                 continue
             item_group = self._group(entry[0])
-            if len(batch) < self._most and (
+            if len(batch) < self._max_batch and (
                 item_group is None or group is None or item_group == group
             ):
                 group = item_group if group is None else group

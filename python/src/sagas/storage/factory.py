@@ -30,7 +30,8 @@ def make(
     `transactions` and `record` are those of `PostgreSQL`. Without `record`, the environment names
     the file.
 
-    Raises `InvalidStore` if something that it needs is not installed, and `DefinitionError`.
+    Raises `ImportError` if something that it needs is not installed, `InvalidStore` and
+    `DefinitionError`.
     """
     check_name(name)
     if not is_url(name):
@@ -54,25 +55,30 @@ def make(
         from sagas.storage.postgresql.storage import PostgreSQL
     except ImportError as error:
         raise missing_client(error) from error
-    compiled_names = {f"{kind.name}/{kind.version}": kind.text for kind in definitions.kinds}
-    compiled_names |= {
-        f"{saga.name}/{saga.version}": saga_module.declared_text(saga)
-        for saga in definitions.sagas.values()
-        if saga.is_shaped
-    }
-    kinds = [f"{name}/{digest_of(text)}" for name, text in compiled_names.items()]
+    kinds = definition_names(definitions)
     return PostgreSQL(
         name,
         node=node,
         lease=lease,
         max_connections=max_connections,
-        sagas=[*compiled_names, *kinds],
+        sagas=[*(kind.rpartition("/")[0] for kind in kinds), *kinds],
         kinds=kinds,
         version=definitions.digest,
         transactions=transactions,
         record=record_path(record),
         encodes=definitions.payloads.codec is not None,
     )
+
+
+def definition_names(definitions: DefinitionRegistry) -> list[str]:
+    """Return the definitions of a program, as saga/version/digest."""
+    texts = {f"{kind.name}/{kind.version}": kind.text for kind in definitions.kinds}
+    texts |= {
+        f"{saga.name}/{saga.version}": saga_module.declared_text(saga)
+        for saga in definitions.sagas.values()
+        if saga.is_shaped
+    }
+    return [f"{name}/{digest_of(text)}" for name, text in texts.items()]
 
 
 def open_worker_session(store: str) -> WorkerSession:

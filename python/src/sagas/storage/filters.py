@@ -7,10 +7,17 @@ from typing import Any
 
 from sagas.definition import labels as labels_module
 from sagas.definition.arguments import BELOW, root_of
-from sagas.definition.children import undoes_child
+from sagas.definition.child_sagas import calls_end, undoes_child
 from sagas.definition.labels import Labels
-from sagas.definition.definition_text import undo_name_of
-from sagas.storage.queries import ERROR, IN_OPEN_LOGS, PHASES, UNDOES_CHILD, UNDOING_KEYS
+from sagas.definition.definition_text import end_name_of, undo_name_of
+from sagas.storage.queries import (
+    ERROR,
+    IN_OPEN_LOGS,
+    NOT_ABORTED,
+    PERSON,
+    PHASES,
+    UNDOING_KEYS,
+)
 from sagas.storage.sqlite.schema import PLANNED
 
 MISSES = "('missed', 'fail', 'undo_missed', 'undo_fail')"
@@ -32,6 +39,8 @@ AMONG_ERRORS = f"""s.id IN (
   SELECT x.id FROM attempts x WHERE x.event IN {MISSES} AND instr({ERROR}, ?) > 0
   UNION SELECT x.id FROM suspensions x WHERE x.number > 0 AND instr(x.detail, ?) > 0)"""
 """For many sagas: all attempts are scanned once."""
+FOR_OPERATOR = f"s.id IN (SELECT x.id FROM suspensions x WHERE x.number > 0 AND {PERSON})"
+"""Whether an attempt of a saga waits for an operator."""
 IN_ORDER = {
     phase: text.replace(IN_OPEN_LOGS, "").replace(f"{PLANNED} AND", f"{PLANNED} IS TRUE AND")
     for phase, text in PHASES.items()
@@ -47,7 +56,8 @@ class Scope:
 
     Attributes:
         definitions: The names of their definitions, or None for all. A saga that undoes a child
-            belongs to the child's definition.
+            belongs to the child's definition, and one that calls `on_end` to that of the saga
+            that has ended.
         keys: Their keys, or prefixes of keys with `*` at the end, or None for all. A child has
             the key of its root.
     """
@@ -65,19 +75,25 @@ class Scope:
     def may_have(self, name: str | None) -> bool:
         """Whether sagas of a definition may be in the scope.
 
-        The definition may be one that undoes children of the scope.
+        The definition may be one that undoes children of the scope, or calls `on_end`.
         """
-        return self.has_definition(name) or name in self._undoing
+        return self.has_definition(name) or name in self._undoing or name in self._ending
 
     def has_saga(self, name: str | None, key: str | None) -> bool:
         """Whether a saga of a definition, and with a key, is in the scope."""
         is_undoing = key is not None and undoes_child(key) and name in self._undoing
-        return (self.has_definition(name) or is_undoing) and self.has_key(key)
+        is_ending = key is not None and calls_end(key) and name in self._ending
+        return (self.has_definition(name) or is_undoing or is_ending) and self.has_key(key)
 
     @property
     def _undoing(self) -> frozenset[str]:
         """The names of the definitions that undo children of the scope's definitions."""
         return frozenset(map(undo_name_of, self.definitions or ()))
+
+    @property
+    def _ending(self) -> frozenset[str]:
+        """The names of the definitions that call `on_end` of the scope's definitions."""
+        return frozenset(map(end_name_of, self.definitions or ()))
 
     def has_key(self, key: str | None) -> bool:
         """Whether a saga's key is in the scope.
@@ -94,16 +110,17 @@ class Scope:
             for pattern in self.keys
         )
 
-    def where(self) -> tuple[str, list[Any]]:
+    def condition(self) -> tuple[str, list[Any]]:
         """Return a condition on rows of `sagas AS s`, and its parameters."""
         conditions, parameters = ["1 = 1"], list[Any]()
         if self.definitions:
-            own, undoing = sorted(self.definitions), sorted(self._undoing)
-            of_own, of_undoing = (", ".join("?" * len(some)) for some in (own, undoing))
+            names, undoing = sorted(self.definitions), sorted(self._undoing | self._ending)
+            of_names, of_undoing = (", ".join("?" * len(some)) for some in (names, undoing))
             conditions.append(
-                f"s.saga IN ({of_own}, {of_undoing}) AND (s.saga IN ({of_own}) OR {UNDOES_CHILD})"
+                f"s.saga IN ({of_names}, {of_undoing}) "
+                f"AND (s.saga IN ({of_names}) OR {NOT_ABORTED})"
             )
-            parameters += [*own, *undoing, *own, UNDOING_KEYS]
+            parameters += [*names, *undoing, *names, UNDOING_KEYS]
         elif self.definitions is not None:
             conditions.append("1 = 0")
         if self.keys is not None:
@@ -144,6 +161,7 @@ class Filter:
         started_after: They started at this time or later, in seconds of wall time.
         started_before: They started before this time.
         error: A part of an error that an attempt raised.
+        is_for_operator: Whether an attempt of them waits for an operator.
     """
 
     phase: str | None = None
@@ -154,13 +172,14 @@ class Filter:
     started_after: float | None = None
     started_before: float | None = None
     error: str | None = None
+    is_for_operator: bool = False
 
     @property
     def saga_parameters(self) -> list[str]:
         """The name of their definition as a list of parameters."""
         return [] if self.saga is None else [self.saga]
 
-    def where(
+    def condition(
         self, of_few: bool = False, in_order: bool = False, each_label: bool = False
     ) -> tuple[str, list[Any]]:
         """Return a condition on rows of `sagas AS s`, and its parameters.
@@ -175,10 +194,12 @@ class Filter:
             each_label: Most sagas have the label, so that the label of each is looked up.
         """
         of_few = of_few or in_order
-        within, parameters = self.scope.where()
+        within, parameters = self.scope.condition()
         conditions = [within]
         if self.phase is not None:
             conditions.append((IN_ORDER if in_order else PHASES)[self.phase])
+        if self.is_for_operator:
+            conditions.append(FOR_OPERATOR)
         if self.saga is not None:
             conditions.append("s.saga = ?")
         parameters += self.saga_parameters
@@ -207,4 +228,4 @@ class Filter:
     def has_times_alone(self) -> bool:
         """Whether only the start times select them."""
         is_of_any = self.phase is None and self.saga is None and self.scope == EVERYTHING
-        return is_of_any and not (self.labels or self.search or self.error)
+        return is_of_any and not (self.labels or self.search or self.error or self.is_for_operator)

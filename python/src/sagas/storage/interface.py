@@ -4,11 +4,12 @@
 store before it. The program that opened the store knows its database only by this interface, and
 asks what it is able to do:
 
-- `shared`: whether other nodes may own shards. Then `peers` has the calls between the nodes.
+- `supports_nodes`: whether other nodes may own shards. Then `peers` has the calls between the
+  nodes, and the database notifies them.
+- `answers_at_once`: whether it is a file, which is read and written without a wait for a server.
 - `inside`: calls functions in transactions; None for a file.
 - `record`: the file that has each commit and each acknowledgement, if there is one.
 - `blobs`: the blob store of large values, if there is one.
-- `find_many`: only a file is read at once. A server has a reply for each `find`.
 - `commit_seconds`: 0 if it never makes sense to hold back a commit.
 
 Commits need only a `CommitWriter`, and a thread with questions needs only a `Reader`. The database
@@ -19,12 +20,13 @@ Others have connections of their own: commands of operators (`admin`), workers (
 and clients (`postgresql.caller_connection`, `postgresql.lookups`).
 
 A database holds keys, inputs, results, outcomes and the event log of each shard. It is the only
-truth. A commit writes a list of `Batch` objects (core/batch.py). A batch is what one shard gained
-at once. Functions are called, and callers are answered, only after the commit of their batch.
+truth. A commit writes a list of `Batch` objects (core/shard/batch.py). A batch is what one shard
+gained at once. Functions are called, and callers are answered, only after the commit of their
+batch.
 
-A batch may open a saga without a lookup of its key (`Batch.guessed`). If the key is taken, the
-batch is not written, and `then` is called with the shard as lost. A database that is `shared` has
-more than one node: each shard has an owner and an epoch, which grows at each `load`. A batch is
+A batch may open a saga without a lookup of its key (`Batch.unchecked_keys`). If the key is taken,
+the batch is not written, and `then` is called with the shard as lost. A database that supports
+nodes may have several: each shard has an owner and an epoch, which grows at each `load`. A batch is
 also lost if its shard or epoch is no longer that of its writer.
 """
 
@@ -35,9 +37,11 @@ from concurrent.futures import Executor
 from typing import TYPE_CHECKING, Any, Optional, Protocol
 
 from sagas.base.errors import InvalidStore
-from sagas.core.batch import (
+from sagas.core.shard.balance import NodeFigures, NodeShare
+from sagas.core.shard.batch import (
     Batch,
     NewShard,
+    NewStart,
     Grant,
     StoredSaga,
     LoadedShard,
@@ -47,13 +51,13 @@ from sagas.core.batch import (
     PendingStart,
     Tail,
 )
-from sagas.core.step_transactions import StepTransactions
-from sagas.core.children import CompletedChild
+from sagas.core.attempt.step_transactions import StepTransactions
+from sagas.core.attempt.child_attempts import CompletedChild
 from sagas.storage.external import ExternalAttempts
 from sagas.storage.record_file import RecordFile
 
 if TYPE_CHECKING:
-    from sagas.core.attempt import Attempt
+    from sagas.core.attempt.model import Attempt
     from sagas.core.outcomes import Outcome
     from sagas.definition.payloads import Payloads
     from sagas.definition.call_options import Bounds, Manner
@@ -140,6 +144,15 @@ class Watcher(Protocol):
     def taken(self, rows: list[ShardRow]) -> None:
         """This node owns these shards from now on."""
 
+    def paused(self) -> None:
+        """The pauses may have changed."""
+
+    def drained(self, is_drained: bool) -> None:
+        """Whether an operator has drained this node, and another node takes its shards."""
+
+    def figures(self) -> NodeFigures:
+        """Return what this node stores about itself with its heartbeat."""
+
     def slots_freed(self) -> None:
         """Some node freed slots of a step (`Database.admit`)."""
 
@@ -159,19 +172,21 @@ class Watcher(Protocol):
 class CommitWriter(Protocol):
     """What commits need of a store's database."""
 
-    shared: bool
-    """Whether other nodes may own shards of it."""
+    supports_nodes: bool
+    """Whether other nodes may own shards of it, and are notified by it."""
+
+    answers_at_once: bool
+    """Whether it is read and written without a wait for a server (`Database.find_many`)."""
 
     @property
     def path(self) -> str:
         """The name for messages: the file, or the URL without its password."""
 
-    @property
-    def commit_seconds(self) -> float:
-        """Seconds that a recent commit took, while this program does other things.
+    commit_seconds: float
+    """Seconds that a recent commit took, while this program does other things.
 
-        It is 0 if it never makes sense to hold back a commit.
-        """
+    It is 0 if it never makes sense to hold back a commit.
+    """
 
     @property
     def commits(self) -> int:
@@ -187,7 +202,7 @@ class CommitWriter(Protocol):
     def finish_commit(self) -> None:
         """Call `then` of a commit that had ended when `commit` returned.
 
-        If the database is not shared, it is called in the loop's next turn after each such
+        If the database answers at once, it is called in the loop's next turn after each such
         `commit`.
         """
 
@@ -298,6 +313,31 @@ class Database(CommitWriter, Protocol):
         `StoreUnavailable`.
         """
 
+    @property
+    def node(self) -> str:
+        """The run of this node. A file has the empty one."""
+
+    @property
+    def lease_seconds(self) -> float:
+        """The seconds of this node's lease. A file has 0."""
+
+    async def shares(self) -> list[NodeShare]:
+        """Return the nodes with a valid lease. A file has none."""
+
+    async def move(self, shard: int, epoch: int, node: str, difference: int | None) -> bool:
+        """Pass a shard of this node to another one, which takes it at once.
+
+        Args:
+            shard: The shard. Nothing of it is in progress.
+            epoch: Its epoch.
+            node: The run of the other node.
+            difference: By how many shards this node must exceed the other one. None: any.
+
+        Returns:
+            False if this node does not own it under that epoch, if the other node does not accept
+            it any more, or if the difference is smaller.
+        """
+
     async def take_up(self, shard: int, epoch: int) -> tuple[str, int] | None:
         """Return a shard's event log and its number of events, for a program that appends to it.
 
@@ -315,6 +355,12 @@ class Database(CommitWriter, Protocol):
 
         With `under_way`, also return those that this program took before and that are not among
         these. The starts of `left` are not taken.
+        """
+
+    async def leave_start(self, start: NewStart) -> bool:
+        """Store a start for another node that has its definition.
+
+        Return False if the node is unknown, or if the key is taken.
         """
 
     async def give_back(self, start: int, reason: str | None) -> None:

@@ -6,16 +6,16 @@ SQLite and PostgreSQL both understand these queries, which have a `?` for each p
 from __future__ import annotations
 
 import json
-from collections.abc import Sequence
+from collections.abc import Iterable, Sequence
 from typing import Any
 
 from sagas.base.errors import NoSuchSaga
-from sagas.core.batch import SagaRow, StoredSaga
-from sagas.core.saga_instance import LARGE_VALUE
+from sagas.core.shard.batch import SagaRow, StoredSaga
+from sagas.core.attempt.instance import LARGE_VALUE
 from sagas.definition import arguments
 from sagas.definition.capacity import SHARD_CAPACITY
-from sagas.definition.children import UNDO
-from sagas.definition.labels import TOKEN
+from sagas.definition.child_sagas import END, UNDO
+from sagas.definition.labels import is_hidden
 from sagas.definition.payloads import ABSENT
 from sagas.storage.sqlite.schema import PLANNED, UNDO_FAILED
 
@@ -57,7 +57,7 @@ reported yet.
 """
 OPEN_SAGAS = (
     f"SELECT s.id, s.key, s.definition_index, {SMALL_INPUT}, s.deadline, s.traceparent, "
-    f"(SELECT {SMALL_SHAPE} FROM shapes p WHERE p.id = s.id) "
+    f"(SELECT {SMALL_SHAPE} FROM shapes p WHERE p.id = s.id), s.at "
     f"FROM sagas s WHERE {OPEN} ORDER BY s.id"
 )
 OPEN_RESULTS = f"""
@@ -66,7 +66,12 @@ ORDER BY s.id, r.step, r.action, r.number
 """
 OPEN_HELD = f"SELECT {HELD} FROM sagas s CROSS JOIN suspensions h WHERE {OPEN} AND h.id = s.id"
 """SQLite evaluates a CROSS JOIN from left to right, so that the open sagas come first."""
-PLACES = f"SELECT DISTINCT definition_index FROM sagas s WHERE {OPEN}"
+DEFINITION_INDEXES = f"SELECT DISTINCT definition_index FROM sagas s WHERE {OPEN}"
+CALLS_END = f"s.key LIKE '%%{arguments.BELOW}{END}%%'"
+"""Whether a saga `s` calls an `on_end` function, as `definition.child_sagas.calls_end`.
+
+Each % is doubled for psycopg, which does not change the meaning.
+"""
 DESCENDANTS = f"""
 WITH RECURSIVE below(shard, id, parent) AS (
   SELECT l.shard, c.id, c.parent FROM shards l CROSS JOIN sagas s CROSS JOIN children c
@@ -79,12 +84,12 @@ COMPLETED = f"""
 FROM below b CROSS JOIN sagas s CROSS JOIN sagas p CROSS JOIN shard_definitions d
 WHERE s.id = b.id AND s.phase = 'ended' AND NOT s.{PLANNED}
   AND p.id = b.parent AND (p.phase IS NULL OR p.phase = 'ended' AND NOT p.{PLANNED})
-  AND substr(s.key, length(p.key)) NOT LIKE '%%{UNDO}%%'
+  AND substr(s.key, length(p.key)) NOT LIKE '%%{UNDO}%%' AND NOT {CALLS_END}
   AND NOT EXISTS (SELECT 1 FROM sagas u
     WHERE u.key = s.key || '{UNDO}' AND u.phase = 'ended' AND NOT u.{PLANNED})
   AND d.shard = s.id / {SHARD_CAPACITY} AND d.place = s.definition_index
 """
-"""Those descendants that completed, undo no child and are not undone.
+"""Those descendants that completed, undo no child, do not call `on_end` and are not undone.
 
 They are `s`, with the parent `p` and the definition `d`. Each % is doubled for psycopg, which does
 not change the meaning.
@@ -137,13 +142,20 @@ PHASES = {
 
 - `completed`: all steps succeeded.
 - `recovered`: a plan ended the saga, because a step failed or the saga was aborted.
-- `undo_failed`: a recovered saga of which a compensation failed permanently.
+- `undo_failed`: a recovered saga with a compensation that failed permanently.
 - `resolved`: an operator has resolved a saga that was stuck or `undo_failed`.
 """
-UNDOES_CHILD, UNDOING_KEYS = "s.key LIKE ?", f"%{arguments.BELOW}%{UNDO}%"
-"""Whether a saga `s` undoes a child, and the parameter for the condition.
+HELD_BADLY = (
+    "((reason = 'unknown' AND until IS NULL) "
+    "OR reason IN ('exhausted', 'cannot_decode', 'program_error', 'no_definition'))"
+)
+"""Rows of attempts that need an operator, or another program. Approvals are not among them."""
+PERSON = f"(reason = 'approval' OR {HELD_BADLY})"
+NOT_ABORTED, UNDOING_KEYS = f"(s.key LIKE ? OR {CALLS_END})", f"%{arguments.BELOW}%{UNDO}%"
+"""Whether a saga `s` undoes a child or calls `on_end`, and the parameter for the condition.
 
-`definition.children.undoes_child` is the same condition on a key.
+Another saga started it, and it is not aborted. `definition.child_sagas.undoes_child` and
+`calls_end` are the same conditions on a key.
 """
 DAMAGED = f"""FROM shards l CROSS JOIN sagas s
 LEFT JOIN shard_definitions d ON d.shard = l.shard AND d.place = s.definition_index
@@ -153,6 +165,48 @@ AND s.id >= l.shard * {SHARD_CAPACITY} AND s.id < (l.shard + 1) * {SHARD_CAPACIT
 
 Their definitions may be missing.
 """
+TAKEOVERS = "(SELECT '' AS node, 0.0 AS at, 0 AS id, -1 AS shard)"
+"""The takeovers of shards by nodes, as a table. A file has none. `for_postgresql` replaces it."""
+WITHOUT_NODE, WITHOUT_NODE_SINCE, LAST_NODES = (
+    "(l.shard <> l.shard)",
+    "(s.at + 0)",
+    "(l.name || '')",
+)
+"""Whether no node has had a shard `l` for `GRACE`, since when, and the names of the last ones.
+
+A program has each shard of a file, so nothing is without a node there. `for_postgresql` replaces
+them.
+"""
+MAX_NODES = 3
+"""How many of the last nodes of a shard are named."""
+GRACE = 30.0
+"""Seconds for which a shard without a node is not listed: a takeover takes a lease."""
+IN_POSTGRESQL = {
+    TAKEOVERS: """(SELECT regexp_replace(t.node, '/[0-9a-f]+$', '') AS node,
+  extract(epoch FROM t.at)::float8 AS at, t.id, t.shard FROM takeovers t)""",
+    WITHOUT_NODE: f"""(NOT EXISTS (SELECT 1 FROM nodes n
+  WHERE n.node = l.owner AND n.lease > now() - make_interval(secs => {GRACE}))
+AND NOT EXISTS (SELECT 1 FROM takeovers t
+  WHERE t.shard = l.shard AND t.at > now() - make_interval(secs => {GRACE})))""",
+    WITHOUT_NODE_SINCE: """extract(epoch FROM greatest(
+  (SELECT n.lease FROM nodes n WHERE n.node = l.owner),
+  (SELECT max(t.at) FROM takeovers t WHERE t.shard = l.shard)))::float8""",
+    LAST_NODES: f"""(SELECT string_agg(x.name, ', ' ORDER BY x.id DESC) FROM (
+  SELECT regexp_replace(t.node, '/[0-9a-f]+$', '') AS name, max(t.id) AS id FROM takeovers t
+  WHERE t.shard = l.shard GROUP BY 1 ORDER BY 2 DESC LIMIT {MAX_NODES}) x)""",
+}
+NO_NODE = f"""FROM shards l CROSS JOIN sagas s
+LEFT JOIN shard_definitions d ON d.shard = l.shard AND d.place = s.definition_index
+WHERE {WITHOUT_NODE} AND l.closed = 0 AND l.audit IS NULL AND s.phase IS NULL
+AND s.id >= l.shard * {SHARD_CAPACITY} AND s.id < (l.shard + 1) * {SHARD_CAPACITY}"""
+"""The open sagas `s` of shards that no node has."""
+NO_NODE_DETAIL = f"""('saga ' || s.saga || ' (version ' || coalesce((SELECT CASE
+  WHEN substr(x.text, 1, 10) = '# version ' THEN substr(x.text, 11, instr(x.text, '\n') - 11)
+  ELSE '1' END FROM definitions x WHERE x.definition = d.definition), 'unknown')
+  || '): no node has its shard; it was on ' || coalesce({LAST_NODES}, 'an unknown node'))"""
+"""What is missing, and which nodes had it, the last one first."""
+NO_NODE_OF = f"SELECT {NO_NODE_DETAIL} {NO_NODE} AND s.id = ?"
+"""The detail of one open saga, if no node executes it."""
 LAST_COMMIT = "SELECT max(committed_at) FROM event_log e WHERE e.shard = l.shard"
 DAMAGED_SINCE = f"coalesce(({LAST_COMMIT}), s.at)"
 SORTED_AT = "+(s.at)"
@@ -164,6 +218,9 @@ PostgreSQL knows the number of rows.
 UNUSED = """(phase IS NOT NULL AND EXISTS (SELECT 1 FROM suspensions x
 WHERE x.id = s.id AND x.number = 0 AND x.reason = 'early_result'))"""
 """Whether a saga `s` ended without using an accepted report on one of its steps."""
+END_DUE = """EXISTS (SELECT 1 FROM suspensions x
+WHERE x.id = s.id AND x.step = -1 AND x.reason = 'end_call')"""
+"""Whether the `on_end` call of a saga `s` is due."""
 RESOLVABLE = f"(phase = 'stuck' OR ({UNDO_FAILED}) OR {UNUSED})"
 """The sagas `s` that an operator resolves, including those that are resolved."""
 RESOLVE = f"UPDATE sagas AS s SET note = ? WHERE key = ? AND {RESOLVABLE} AND note IS NULL"
@@ -171,6 +228,14 @@ RESOLVE = f"UPDATE sagas AS s SET note = ? WHERE key = ? AND {RESOLVABLE} AND no
 LABELS = """CAST((SELECT json_group_object(b.name, b.value) FROM labels b WHERE b.id = s.id)
 AS TEXT)"""
 """The labels of a saga `s`, as a JSON object or null. `labels_of` parses it."""
+LABELS_OF = "SELECT name, value FROM labels WHERE id = ?"
+"""The labels of a saga, in rows. `visible_labels` drops the hidden ones."""
+HEAD_LENGTH = 40
+"""How many characters the line of a definition may have that contains its version."""
+HEAD = f"""(SELECT substr(v.text, 1, {HEAD_LENGTH}) FROM shard_definitions w
+JOIN definitions v ON v.definition = w.definition
+WHERE w.shard = s.id / {SHARD_CAPACITY} AND w.place = s.definition_index)"""
+"""The beginning of the definition of a saga `s`, or null if a damaged shard has lost it."""
 PHASE = f"""CASE WHEN phase IS NULL THEN 'open' WHEN note IS NOT NULL THEN 'resolved'
 WHEN {PLANNED} THEN 'recovered' WHEN phase = 'ended' THEN 'completed' ELSE phase END"""
 OF_SHARD = f"""JOIN shard_definitions d ON d.shard = s.id / {SHARD_CAPACITY}
@@ -210,6 +275,22 @@ FITS = f"""EXISTS (SELECT 1 FROM nodes n, unnest(n.kinds) k
 OTHERS = f"""ARRAY(SELECT DISTINCT n.name FROM nodes n, unnest(n.kinds) k
   WHERE n.lease > now() AND starts_with(k, {OF_START}) AND NOT {FITS} ORDER BY n.name)"""
 """The nodes that have the saga of a start in that version, but only with another definition."""
+NODES_WITH = """
+SELECT 1 FROM nodes n, unnest(n.kinds) k WHERE n.lease > now() AND starts_with(k, ?) LIMIT 1
+"""
+"""Whether a node has a definition, by PostgreSQL's tables. See `start_of_kind`."""
+NODE_FIGURES = f"""
+SELECT (SELECT count(*) FROM nodes n WHERE n.lease > now()), (SELECT count(*) FROM shards l
+  WHERE l.closed = 0
+  AND NOT EXISTS (SELECT 1 FROM nodes n WHERE n.node = l.owner AND n.lease > now())
+  AND EXISTS (SELECT 1 FROM sagas s WHERE s.phase IS NULL
+    AND s.id >= l.shard * {SHARD_CAPACITY} AND s.id < (l.shard + 1) * {SHARD_CAPACITY})),
+  (SELECT count(*) FROM nodes n WHERE n.lease > now()
+    AND EXISTS (SELECT 1 FROM drains d WHERE d.name = n.name))
+"""
+"""The number of nodes, of shards with open sagas that no node has, and of drained nodes, by
+PostgreSQL's tables.
+"""
 REQUESTS = """
 SELECT r.id, r.key, r.command, r.value, s.id FROM operator_commands r LEFT JOIN sagas s USING (key)
 WHERE r.answer IS NULL AND r.id > ? ORDER BY r.id LIMIT ?
@@ -231,14 +312,25 @@ PostgreSQL does not parse JSON with a NUL or half of a surrogate pair. Such a te
 def for_postgresql(query: str, mark: str = "%s") -> str:
     """Return a query for psycopg and PostgreSQL, with a mark for each parameter."""
     query = query.replace(IN_OPEN_LOGS, "").replace("json_group_object", "json_object_agg")
+    for text, replacement in IN_POSTGRESQL.items():
+        query = query.replace(text, replacement)
     query = query.replace(SORTED_AT, "s.at").replace("instr(", "strpos(")
     return query.replace("?", mark).replace(ERROR, ERROR_IN_POSTGRESQL)  # it contains ?, too
 
 
 def labels_of(text: str | None) -> dict[str, str]:
-    """Return the labels of `LABELS`, sorted by name, without the label of the start's token."""
-    labels: dict[str, str] = json.loads(text or "{}")
-    return {name: labels[name] for name in sorted(labels) if name != TOKEN}
+    """Return the labels of `LABELS`, sorted by name, without the hidden ones."""
+    return visible_labels(sorted(json.loads(text or "{}").items()))
+
+
+def visible_labels(rows: Iterable[Sequence[Any]]) -> dict[str, str]:
+    """Return the labels of rows with name and value, without the hidden ones."""
+    return {str(name): str(value) for name, value in rows if not is_hidden(name)}
+
+
+def start_of_kind(saga: str, version: int) -> str:
+    """Return how the definitions of a saga and version begin in `nodes.kinds`."""
+    return f"{saga}/{version}/"
 
 
 def named(query: str, *names: str) -> str:
@@ -289,7 +381,7 @@ def known(rows: Sequence[tuple[Any, ...]], key: str) -> StoredSaga:
     for row in sorted(rows, key=lambda row: row[:4]):
         parts[row[0]].append(row[1:])
     if not parts[0]:
-        raise NoSuchSaga(f"saga {key!r} was deleted meanwhile")
+        raise NoSuchSaga(f"saga {key!r} was deleted while it was read")
     ((*_, text, _),) = parts[0]
     chunks = [(at, chunk) for _, _, _, _, chunk, at in parts[2]]
     shape = parts[3][0][4] if parts[3] else None

@@ -2,7 +2,7 @@
 
 Each line is one event. An acknowledgement is recorded before the program sends it, and after all
 replies that the program has received. `sagas store URL record` merges records with what the
-database has. `core.fleet_record` defines the lines.
+database has. `core.shard.fleet_record` defines the lines.
 """
 
 from __future__ import annotations
@@ -17,7 +17,7 @@ from sagas.base.logger import logger
 
 VARIABLE = "SAGAS_RECORD"
 """The environment variable that names the file for stores without the option."""
-MOST = 32
+MAX_WAITING = 32
 """Maximum number of texts that wait to be written. Each has one line or two."""
 BEYOND = 999_999_999
 """More events than a shard ever has.
@@ -46,7 +46,7 @@ class Session:
         fields: What each line has after its first word.
         sent_line: A `sent` line, to be formatted with its numbers.
         heard_line: A `heard` line, to be formatted with its number.
-        told_lines: A `told` line for each edge, to be formatted with its number.
+        acknowledgement_lines: A `told` line for each edge, to be formatted with its number.
         combined_lines: A `sent`, a `heard` and a `told` line for each edge, to be formatted
             together.
         digest: The digest of the whole event log, by the last reply.
@@ -61,7 +61,7 @@ class Session:
         "fields",
         "sent_line",
         "heard_line",
-        "told_lines",
+        "acknowledgement_lines",
         "combined_lines",
         "digest",
         "acknowledged",
@@ -74,9 +74,12 @@ class Session:
         self.fields = f" {run} {shard} {self.epoch} {self.timeline} ".encode()
         escaped = self.fields.replace(b"%", b"%%")
         self.sent_line, self.heard_line = b"sent%b%%d %%d\n" % escaped, b"heard%b%%d\n" % escaped
-        self.told_lines = {edge: b"told%b%%d %b\n" % (escaped, edge.encode()) for edge in EDGES}
+        self.acknowledgement_lines = {
+            edge: b"told%b%%d %b\n" % (escaped, edge.encode()) for edge in EDGES
+        }
         self.combined_lines = {
-            edge: self.sent_line + self.heard_line + self.told_lines[edge] for edge in EDGES
+            edge: self.sent_line + self.heard_line + self.acknowledgement_lines[edge]
+            for edge in EDGES
         }
         self.digest = digest
         self.acknowledged = dict.fromkeys(EDGES, -1)
@@ -242,7 +245,7 @@ class RecordFile:
         shard, epoch, timeline = term
         known = self.sessions.get(shard)
         if known is not None and known.timeline == timeline and known.epoch >= epoch:
-            self.told((self._of(term), events), "read")
+            self.acknowledge((self._of(term), events), "read")
         else:
             self.took(term, events, text)
 
@@ -328,12 +331,12 @@ class RecordFile:
 
     def _put(self, line: bytes) -> None:
         self._waiting.append(line)
-        if len(self._waiting) > MOST:
+        if len(self._waiting) > MAX_WAITING:
             self._write()
 
     # -- acknowledgements
 
-    def told(self, rest: Rest, edge: str) -> None:
+    def acknowledge(self, rest: Rest, edge: str) -> None:
         """Note an acknowledgement that is about to be sent, and that rests on some events.
 
         It is recorded if it rests on more events than the last one at the same edge. It is written
@@ -346,7 +349,7 @@ class RecordFile:
                 session.acknowledged[edge] = events
                 if self._heard is not None or self.commit is not None:
                     self._settle()
-                self._waiting.append(session.told_lines[edge] % events)
+                self._waiting.append(session.acknowledgement_lines[edge] % events)
             return
         session.max_acknowledged = session.acknowledged[edge] = events
         heard = self._heard
@@ -356,7 +359,7 @@ class RecordFile:
         else:
             if heard is not None or self.commit is not None:
                 self._settle()
-            line = session.told_lines[edge] % events
+            line = session.acknowledgement_lines[edge] % events
         if self._waiting:
             self._waiting.append(line)
             line = b"".join(self._waiting)

@@ -17,7 +17,7 @@ name, saga, version, input, labels, cron, every, timezone, catch_up, next_at, la
 """
 ALL = f"SELECT {COLUMNS} FROM schedules ORDER BY name"
 DUE = f"SELECT {COLUMNS} FROM schedules WHERE paused = 0 ORDER BY next_at, name"
-ONE = f"SELECT {COLUMNS} FROM schedules WHERE name = ?"
+BY_NAME = f"SELECT {COLUMNS} FROM schedules WHERE name = ?"
 SAME = "saga version input labels cron every timezone catch_up".split()
 PUT = f"""
 INSERT INTO schedules(name, {", ".join(SAME)}, next_at, paused)
@@ -148,7 +148,7 @@ class Schedules:
         missed, now = None, self._connection.now() if now is None else now
         with self._connection.transaction():
             for (_,) in self._connection.ask(LOCK, name):
-                schedule = of_row(self._connection.ask(ONE, name)[0])
+                schedule = of_row(self._connection.ask(BY_NAME, name)[0])
                 missed = None if schedule.paused else missed_before_pause(schedule, now)
             text = "UPDATE schedules SET paused = 1, error = coalesce(?, error) WHERE name = ?"
             self._changed(name, text, missed, name)
@@ -156,7 +156,7 @@ class Schedules:
 
     def resume(self, name: str, now: float) -> None:
         """Start its sagas again, from the next time on. Raises `NoSuchSchedule`."""
-        for row in self._connection.ask(ONE, name):
+        for row in self._connection.ask(BY_NAME, name):
             next_at = of_row(row).timing.next_after(now)
             text = "UPDATE schedules SET paused = 0, next_at = ? WHERE name = ? AND paused = 1"
             self._connection.changed(text, next_at, name)

@@ -2,7 +2,9 @@
 
 from __future__ import annotations
 
+import os
 import re
+import socket
 
 from sagas.base.errors import InvalidStore
 
@@ -19,6 +21,21 @@ NO_FILE = re.compile(
 def is_url(name: str) -> bool:
     """Whether a name is that of a PostgreSQL database, and not of a file."""
     return name.startswith(SCHEMES)
+
+
+def supports_nodes(name: str) -> bool:
+    """Whether several programs, the nodes, can open a store of this name at the same time."""
+    return is_url(name)
+
+
+def node_name(name: str | None) -> str:
+    """Return the name of a node: the given one, or one of this machine and process."""
+    return name or f"{socket.gethostname()}-{os.getpid()}"
+
+
+def shown_name(name: str) -> str:
+    """Return a name for messages: the path of a file, but never a URL, which has a password."""
+    return "PostgreSQL" if is_url(name) else name
 
 
 def check_name(name: str) -> None:
@@ -43,18 +60,19 @@ def check_name(name: str) -> None:
     if match:
         form = f"{match['scheme']}://" if match["scheme"] else "a list of words"
         if match["url"] or is_url(text):
-            form = "a URL behind a space" if is_url(text) else "a misspelled URL"
+            form = "a URL after a space" if is_url(text) else "a misspelled URL"
         raise InvalidStore(f"{form}: a store is an SQLite file, or {FORM}")
 
 
-def missing_client(error: ImportError) -> InvalidStore:
+def missing_client(error: ImportError) -> ImportError:
     """Return the error for a missing PostgreSQL client, with what to install."""
     if error.name is None:  # psycopg is installed, but does not find libpq
-        return InvalidStore(
+        return ImportError(
             f"PostgreSQL: {str(error).splitlines()[0]} psycopg needs libpq: apt-get install "
             "libpq5, or pip install 'psycopg[binary]'"
         )
-    return InvalidStore(
-        f"PostgreSQL needs {error.name}: pip install psycopg psycopg_pool (the extra "
-        "`postgresql`), or apt-get install python3-psycopg python3-psycopg-pool"
+    return ImportError(
+        f"PostgreSQL needs {error.name}. Run pip install 'sagas[postgresql]', or apt-get install "
+        "python3-psycopg python3-psycopg-pool",
+        name=error.name,
     )

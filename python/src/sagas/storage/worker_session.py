@@ -9,7 +9,7 @@ from collections.abc import Callable
 from typing import Any, Protocol
 
 from sagas.base.errors import WrongStore
-from sagas.core.external_work import AttemptTexts, Order, Position, saga_id
+from sagas.core.attempt.external_work import AttemptTexts, Order, Position, saga_id
 from sagas.core.outcomes import Outcome
 from sagas.definition.payloads import PLAIN
 from sagas.definition.call_options import Function
@@ -59,7 +59,7 @@ def fetched(
     if not rows:
         raise WrongStore(
             f"{store_name}: it has no shard {order.log}. The message of saga {order.key!r} came "
-            "from another store, or too late: the saga was deleted meanwhile. If no saga was "
+            "from another store, or too late: the saga has been deleted. If no saga was "
             "deleted, give the worker and the program the same store"
         )
     shard, attempt, outcome = rows[0]

@@ -8,15 +8,16 @@ from __future__ import annotations
 from collections.abc import Callable, Iterable, Mapping
 from typing import Any, TypeVar, Union
 
+from sagas.base.errors import Retry
 from sagas.core import outcomes
-from sagas.core.attempt import Attempt
+from sagas.core.attempt.model import Attempt
 from sagas.core.outcomes import Outcome
 from sagas.core.states import OutcomeKind
-from sagas.definition import arguments, children, serialization
+from sagas.definition import arguments, child_sagas, end_calls, serialization
 from sagas.definition.arguments import shown
 from sagas.definition.layout import Layout
-from sagas.definition.saga import Saga
-from sagas.definition.step import Selection, Step, patterns, step_named
+from sagas.definition.parts import SagaParts, patterns, step_named
+from sagas.definition.step import Selection, Step
 
 Attempts = Union[int, Iterable[int], Exception, type[Exception]]
 """The attempts: the first N, those of a list, or all of them with an exception."""
@@ -39,14 +40,16 @@ def for_step(attempt: Attempt, by_step: Mapping[str, V]) -> V | None:
     return by_step.get(attempt.name, by_step.get(attempt.declared_name))
 
 
-def part_of(saga: Saga, child: str | None, argument: Mapping[Any, Any] | None) -> Any:
+def part_of(saga: SagaParts, child: str | None, argument: Mapping[Any, Any] | None) -> Any:
     """Return the entries of an argument for a saga's own steps, or for a child.
 
-    A test names a step of a child as `stay/room`, or by the step `room` itself.
+    A test names a step of a child as `stay/room`, or by the step `room` itself, and the call after
+    the end as `on_end`.
 
     Args:
         saga: The saga.
-        child: The name of the step that starts the child, or None for the saga's own steps.
+        child: The name of the step that starts the child, `child_sagas.END` for the call after the
+            end, or None for the saga's own steps.
         argument: The argument of the test, by step. It is returned unchanged if it is not a dict.
     """
     if not isinstance(argument, Mapping):
@@ -59,14 +62,20 @@ def part_of(saga: Saga, child: str | None, argument: Mapping[Any, Any] | None) -
     return entries
 
 
-def _heads(saga: Saga, step: object) -> tuple[list[str], object]:
+def _heads(saga: SagaParts, step: object) -> tuple[list[str], object]:
     """Return the steps that start a step's child, and the step in the child.
 
     The list is empty for a step of the saga itself.
     """
+    has_call = saga.end_saga is not None and step_named(saga, end_calls.STEP) is None
+    if has_call and step == end_calls.STEP:
+        return [child_sagas.END], step
+    if saga.starts_for is not None and isinstance(step, str):
+        if step_named(saga, step.partition("/")[0]) is None:  # a step of the child of each item
+            return [saga.steps[0].name], step
     if isinstance(step, str) and "/" in step:
         head, _, rest = step.partition("/")
-        names = [starter.name for starter, _ in children.children_of(saga)]
+        names = [starter.name for starter, _ in child_sagas.children_of(saga)]
         if head not in names and step_named(saga, step):
             return [], step
         if head not in names:
@@ -76,14 +85,14 @@ def _heads(saga: Saga, step: object) -> tuple[list[str], object]:
     if isinstance(step, Step) and step.saga is not saga:
         heads = [
             starter.name
-            for starter, child in children.children_of(saga)
-            if step.saga is child or step.saga in children.descendants(child)
+            for starter, child in child_sagas.children_of(saga)
+            if step.saga is child or step.saga in child_sagas.descendants(child)
         ]
         return heads, step
     return [], step
 
 
-def name_of(saga: Saga, step: object) -> str:
+def name_of(saga: SagaParts, step: object) -> str:
     """Return the name of a step in an argument of a test.
 
     Raises:
@@ -99,7 +108,7 @@ def name_of(saga: Saga, step: object) -> str:
     return name
 
 
-def check_items(saga: Saga, layout: Layout, names: Iterable[str]) -> None:
+def check_items(saga: SagaParts, layout: Layout, names: Iterable[str]) -> None:
     """Check that the input has the items that a test names.
 
     The name of a declared step means all of its items, which may be none.
@@ -119,14 +128,16 @@ def check_items(saga: Saga, layout: Layout, names: Iterable[str]) -> None:
         )
 
 
-def _step(saga: Saga, name: str) -> Step[Any]:
+def _step(saga: SagaParts, name: str) -> Step[Any]:
     """Return the declared step of a name."""
     step = step_named(saga, name)
     assert step
     return step
 
 
-def answers_of(saga: Saga, answers: Answers | None, argument: str = "answers") -> dict[str, Any]:
+def answers_of(
+    saga: SagaParts, answers: Answers | None, argument: str = "answers"
+) -> dict[str, Any]:
     """Return the answers by the names of the steps.
 
     Args:
@@ -142,7 +153,7 @@ def answers_of(saga: Saga, answers: Answers | None, argument: str = "answers") -
     return {name_of(saga, step): answer for step, answer in (answers or {}).items()}
 
 
-def early_of(saga: Saga, early: Answers | None) -> dict[str, Outcome]:
+def early_of(saga: SagaParts, early: Answers | None) -> dict[str, Outcome]:
     """Return the outcomes that are reported before the steps start, by step.
 
     An exception means a failure.
@@ -164,7 +175,7 @@ def early_of(saga: Saga, early: Answers | None) -> dict[str, Outcome]:
     return reports
 
 
-def script(saga: Saga, argument: str, attempts: Script | None) -> dict[str, Rule]:
+def script(saga: SagaParts, argument: str, attempts: Script | None) -> dict[str, Rule]:
     """Return the rules of an argument, by the names of the steps.
 
     Args:
@@ -183,7 +194,7 @@ def script(saga: Saga, argument: str, attempts: Script | None) -> dict[str, Rule
     }
 
 
-def _rule(saga: Saga, argument: str, name: str, attempts: Any) -> Rule:
+def _rule(saga: SagaParts, argument: str, name: str, attempts: Any) -> Rule:
     """Return the function that returns the exception for an attempt, or None."""
     if argument.endswith("_undo"):
         _check_compensation(saga, argument, name)
@@ -202,11 +213,11 @@ def _rule(saga: Saga, argument: str, name: str, attempts: Any) -> Rule:
     checked = [attempts + 1] if is_number else chosen  # the number may be very large
     if not all(arguments.is_count(attempt) and attempt > 0 for attempt in checked):
         raise ValueError(f"{entry}: attempts are numbered from 1. It must be {FORMS}")
-    error = RuntimeError(SCRIPTED)
+    error = Retry(SCRIPTED)
     return lambda attempt: error if attempt in chosen else None
 
 
-def _check_compensation(saga: Saga, argument: str, name: str) -> None:
+def _check_compensation(saga: SagaParts, argument: str, name: str) -> None:
     step = _step(saga, name)
     if not step.has_compensation:
         raise ValueError(

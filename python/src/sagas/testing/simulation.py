@@ -18,29 +18,46 @@ from collections.abc import Mapping, Sequence
 from typing import Any
 
 from sagas.base import program
-from sagas.base.errors import CannotDecode, EngineError, Fail, NotSerializable
-from sagas.core import children, outcomes, protocol, reports
-from sagas.core.attempt_machine import AttemptMachine, Decision, Do
+from sagas.base.errors import (
+    CannotDecode,
+    EngineError,
+    Fail,
+    InvalidError,
+    NotSerializable,
+    ProgramError,
+)
+from sagas.core import outcomes, protocol, reports
+from sagas.core.attempt import child_attempts
+from sagas.core.attempt.directives import Decision, Do
+from sagas.core.attempt.machine import AttemptMachine
 from sagas.core.effects import Abort, Effects
 from sagas.core.states import (
     AFTER_FAILURE,
     Action,
     OutcomeKind,
     SagaPhase,
+    StepState,
     Suspension,
     saga_phase,
     step_state,
 )
-from sagas.core.history import EFFECT_STATES, fan_of
-from sagas.core.attempt import Attempt, RUNNING, SUSPENDED, SuspensionRow
-from sagas.core.saga_instance import SagaInstance
-from sagas.core.outcomes import Outcome, SUCCEEDED
-from sagas.core.shard import MAX_CLAIMS, ShardDefinitions, ShardDriver, ShardIdentity
-from sagas.definition import serialization, tokens, undo_sagas
-from sagas.definition.children import undoes_child
+from sagas.core.history import EFFECT_STATES, fan_of, live_json_result
+from sagas.core.attempt.model import Attempt, RUNNING, SUSPENDED, SuspensionRow, undoes_failure
+from sagas.core.attempt.instance import SagaInstance
+from sagas.core.outcomes import Outcome, PERMANENT, SUCCEEDED, is_optional_failure
+from sagas.core.shard.driver import MAX_CLAIMS, ShardDefinitions, ShardDriver, ShardIdentity
+from sagas.definition import (
+    child_sagas,
+    end_calls,
+    serialization,
+    tokens,
+    undo_sagas,
+    validation,
+)
+from sagas.definition.child_sagas import undoes_child
 from sagas.definition.compiled import CompiledDefinition
+from sagas.definition.parts import SagaParts
 from sagas.definition.payloads import Payloads
-from sagas.definition.saga import Saga
 from sagas.definition.shape import Shape, write_definition
 from sagas.definition.start_options import StartOptions, deadline_at
 from sagas.definition.task_data import Context
@@ -111,6 +128,7 @@ class Scenario:
         early: The outcomes that are reported before the steps start, by step.
         children: The scenarios of the children, by step.
         concurrency: Maximum concurrent calls of functions; None for no limit.
+        end: The scenario of the call after the end, or None.
     """
 
     rules: Mapping[tuple[str, str], Mapping[str, Rule]]
@@ -121,6 +139,7 @@ class Scenario:
     early: Mapping[str, Outcome] = dataclasses.field(default_factory=dict)
     children: Mapping[str, Scenario] = dataclasses.field(default_factory=dict)
     concurrency: int | None = None
+    end: Scenario | None = None
 
     def undoing(self) -> Scenario:
         """Return the scenario of the saga that undoes this one by compensations."""
@@ -128,8 +147,12 @@ class Scenario:
         rules |= {(outcome, "undo"): {} for outcome, _ in self.rules}
         below = {step: scenario.undoing() for step, scenario in self.children.items()}
         return dataclasses.replace(
-            self, rules=rules, abort=None, deadline=None, early={}, children=below
+            self, rules=rules, abort=None, deadline=None, early={}, children=below, end=None
         )
+
+    def child(self, step: str) -> Scenario:
+        """Return the scenario of the child of a step, which may be that of an item."""
+        return self.children.get(step) or self.children[step.rpartition("-")[0]]
 
     def rule(self, outcome: str, attempt: Attempt, count: int) -> Exception | None:
         """Return the exception with which an attempt is to end, or None.
@@ -296,9 +319,9 @@ class Simulation:
             self._put(self._clock(), Due.CALL, attempt)
         elif decision.do in (Do.REPORT, Do.REPORT_AGAIN):
             assert attempt.outcome
-            if attempt.outcome.called:
+            if attempt.outcome.called and not undoes_failure(attempt):
                 self._note(attempt, attempt.outcome)
-            self._driver.report(attempt)
+            self._driver.reports[attempt] = None
         elif decision.do is Do.ASK:
             assert decision.option_calls
             attempt.rare.returned |= decision.option_calls.answers()
@@ -316,9 +339,12 @@ class Simulation:
     def _suspend(self, attempt: Attempt, row: SuspensionRow) -> None:
         if row.reason is Suspension.CANNOT_DECODE:
             raise CannotDecode(row.error)
+        if row.reason is Suspension.PROGRAM_ERROR:
+            assert attempt.outcome and attempt.outcome.error
+            raise attempt.outcome.error
         if row.reason in AFTER_FAILURE and attempt.outcome:
             self._note(attempt, attempt.outcome)
-        attempt.has_row, attempt.pending_row = True, row
+        attempt.expect_row(row)
         self._commit(self._driver.suspended(attempt, row, self._clock()))
 
     def _stored(self, attempt: Attempt) -> None:
@@ -345,7 +371,7 @@ class Simulation:
             return outcomes.raised(error, attempt.manner)
         if self._saga.aborted and not attempt.undo:
             return outcomes.failure("its child saga was not started: the saga was aborted")
-        scenario = self._scenario.children[attempt.declared.name]
+        scenario = self._scenario.child(attempt.declared.name)
         scenario = dataclasses.replace(scenario, deadline=self._saga.options.deadline)
         return await self._children.run(attempt, scenario)
 
@@ -365,7 +391,7 @@ class Simulation:
     async def _call(self, attempt: Attempt) -> Outcome:
         task, manner = attempt.task(), attempt.manner
         if manner.transaction:
-            task.enter_by(self._connection)
+            task._enter_by(self._connection)
         outcome = await invocation.call(manner, task, None)
         if outcome is None:
             raise asyncio.CancelledError
@@ -410,6 +436,9 @@ class Simulation:
 
     @staticmethod
     def _waits(attempt: Attempt) -> str:
+        if attempt.reason is Suspension.UNKNOWN and attempt.outcome:
+            times = f"{attempt.count} calls" if attempt.count > 1 else "1 call"
+            return f"has an unknown outcome after {times}, the last one: {attempt.outcome.value}"
         if attempt.reason is Suspension.EXHAUSTED:
             return "has used up its attempts, and waits for an answer (on_exhausted='ask')"
         return "waits for an answer"
@@ -424,7 +453,10 @@ class Simulation:
             remedy = "If an outcome stays unknown, set max_unknown"
             raise RuntimeError(f"the saga makes more than {MAX_CALLS:,} calls. {remedy}")
         value: Any = outcome.value
-        if outcome.kind is not OutcomeKind.UNKNOWN:
+        kind = PERMANENT if is_optional_failure(outcome) else outcome.kind
+        if kind is not outcome.kind:
+            value = outcomes.error_text(outcome)
+        elif kind is not OutcomeKind.UNKNOWN:
             reported = json.loads(value)
             value = reported["error"] if outcome.kind in FAILURES else reported
         self._calls.append(
@@ -434,7 +466,7 @@ class Simulation:
                 attempt.attempt,
                 attempt.token(),
                 self._spent(),
-                str(outcome.kind),
+                str(kind),
                 value,
                 attempt.extras.control.progress
                 if attempt.extras and attempt.extras.control
@@ -445,12 +477,15 @@ class Simulation:
     def _trial(self, engine: Engine) -> Trial:
         reply = json.loads(engine.ask([protocol.show_line(0)])[0])
         names, answer = self._kind.names, self._saga.answer or {}
-        committed = [
-            n for n, state in enumerate(reply["states"]) if step_state(state) in EFFECT_STATES
+        failed = serialization.optional_failures(self._saga.results | self._saga.dropped_failures)
+        states = [
+            StepState.FAILED if step in failed else step_state(text)
+            for step, text in enumerate(reply["states"])
         ]
+        committed = [step for step, state in enumerate(states) if state in EFFECT_STATES]
         return Trial(
             phase=saga_phase(reply["phase"], answer.get("kind") == "plan", None).value,
-            states={name: step_state(text).value for name, text in zip(names, reply["states"])},
+            states={name: state.value for name, state in zip(names, states)},
             results={
                 names[step]: serialization.fitting(
                     self._kind.payloads.decode(self._saga.results[step]),
@@ -458,7 +493,7 @@ class Simulation:
                 )
                 for step in committed
             },
-            cost=answer.get("cost"),
+            cost=None if self._kind.pivot else answer.get("cost"),
             blocking_steps=[names[step] for step in answer.get("chain", ())],
             aborted=reply["aborted"],
             calls=self._calls,
@@ -466,6 +501,7 @@ class Simulation:
             saga=self._kind.name,
             key=self._saga.key,
             fan=fan_of(self._kind, self._saga.options.shape),
+            optional_failures=[names[step] for step in sorted(failed)],
         )
 
     def _spent(self) -> float:
@@ -484,12 +520,12 @@ class Family:
         self._members: dict[str, tuple[Simulation, CompiledDefinition, str]] = {}
         self.trials: dict[str, Trial] = {}
 
-    async def play(self, saga: Saga, key: str, input: Any, scenario: Scenario) -> Trial:
+    async def play(self, saga: SagaParts, key: str, input: Any, scenario: Scenario) -> Trial:
         """Run a saga to its end, and return its result.
 
         Raises:
             KeyError: The scenario names an item that the input does not have.
-            InvalidInput: The first steps cannot read the input.
+            InvalidInput: The input does not have a type that the saga or its functions name.
             NotSerializable: The input is not JSON.
         """
         text, values = serialization.write_value(input, "input"), None
@@ -497,7 +533,7 @@ class Family:
             shape = Shape(saga, text)
             definition, values = write_definition(shape), self._payloads.encode(shape.values.text())
         else:
-            definition = saga.toml()
+            definition = validation.checked_text(saga)
         kind = CompiledDefinition(definition, saga, self._context, self._payloads)
         if error := kind.input_error(text):
             raise error
@@ -508,14 +544,28 @@ class Family:
         simulation = Simulation(key, text, kind, scenario, self._clock, self, name, values)
         self._members[key] = simulation, kind, tokens.saga_token(name, 0)
         with Engine(kind.text) as engine:
-            return await simulation.play(engine)
+            trial = await simulation.play(engine)
+        if saga.end_saga is not None and scenario.end is not None:
+            plain = kind.payloads.decode(text)
+            await self._call_end(saga.end_saga, simulation.saga, plain, scenario.end)
+        return trial
+
+    async def _call_end(
+        self, end_saga: SagaParts, ended: SagaInstance, text: str, scenario: Scenario
+    ) -> None:
+        """Call the `on_end` function of a saga. `text` is its input as JSON."""
+        shape = ended.options.shape
+        values = None if shape is None else self._payloads.decode(shape)
+        input = end_calls.input_of(text, live_json_result(ended), ended.kind.text, values)
+        key = child_sagas.end_key(ended.key)
+        self.trials[key] = await self.play(end_saga, key, input, scenario)
 
     async def run(self, attempt: Attempt, scenario: Scenario) -> Outcome:
         """Run the child of an attempt to its end, and return the outcome of the attempt."""
         child = attempt.declared.child
         assert child
         is_undoing = attempt.undo or attempt.instance.kind.undoes is not None
-        saga = undo_sagas.undo_saga(child) if is_undoing else child
+        saga = self._undo_saga(attempt, child) if is_undoing else child
         if saga is None:
             return Outcome(SUCCEEDED, "null")
         if attempt.undo:
@@ -526,9 +576,15 @@ class Family:
             scenario = dataclasses.replace(scenario, deadline=min(deadlines, default=None))
         try:
             child_input = self._input(attempt)
+        except (CannotDecode, ProgramError, Fail) as error:
+            return outcomes.raised(error, attempt.manner)
+        except InvalidError as error:
+            return outcomes.failure(f"{type(error).__name__}: {error}", final=True)
         except Exception as error:  # of the step's function
             return outcomes.raised(error, attempt.manner)
-        key = children.key_of(attempt)
+        if child_attempts.has_no_items(saga, child_input):
+            return Outcome(SUCCEEDED, "[]")
+        key = child_attempts.key_of(attempt)
         try:
             trial = self.trials[key] = await self.play(saga, key, child_input, scenario)
         except NotSerializable as error:
@@ -536,19 +592,28 @@ class Family:
         simulation, kind, _ = self._members[key]
         if trial.phase == SagaPhase.STUCK:  # as if an operator had resolved it
             trial = dataclasses.replace(trial, phase=SagaPhase.RESOLVED.value)
-        outcome = children.child_outcome(trial, kind, simulation.saga.results)
+        outcome = child_attempts.child_outcome(trial, kind, simulation.saga.results)
         assert outcome
         return Outcome(SUCCEEDED, "null") if attempt.undo and outcome.kind is SUCCEEDED else outcome
 
+    def _undo_saga(self, attempt: Attempt, child: SagaParts) -> SagaParts | None:
+        """Return the saga that undoes the child of an attempt; None if nothing is to be undone."""
+        if child.starts_for is None:
+            return undo_sagas.undo_saga(child)
+        key = child_attempts.undone_key(attempt)
+        assert key
+        text = undo_sagas.undo_text_of_child(child, self._members[key][1].text)
+        return None if text is None else undo_sagas.undo_saga_of_text(child, text)
+
     def _input(self, attempt: Attempt) -> Any:
-        key = children.undone_key(attempt)
+        key = child_attempts.undone_key(attempt)
         if key is None:
-            return children.child_input(attempt)()
+            return child_attempts.child_input(attempt)()
         simulation, kind, token = self._members[key]
         saga_instance = simulation.saga
-        undone = children.undone_steps(self.trials[key].states, ())
+        undone = child_attempts.undone_steps(self.trials[key].states, ())
         text, results = saga_instance.text, saga_instance.results
-        return children.undo_input(key, token, kind, text, results, undone)
+        return child_attempts.undo_input(key, token, kind, text, results, undone)
 
 
 def _named(scenario: Scenario) -> set[str]:

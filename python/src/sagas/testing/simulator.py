@@ -15,12 +15,13 @@ import asyncio
 import dataclasses
 from typing import Any, NamedTuple
 
-from sagas.definition import arguments, children, payloads, waits
+from sagas.definition import arguments, child_sagas, payloads, waits
 from sagas.definition.task_data import Context
+from sagas.definition.parts import SagaParts
 from sagas.definition.payloads import Codec
 from sagas.definition.saga import Saga
 from sagas.definition.step import Selection
-from sagas.definition.start_options import Deadline, deadline_at
+from sagas.definition.start_options import Deadline, I, NO_INPUT, deadline_at
 from sagas.runtime.lifespan import Lifespan
 from sagas.testing.simulation import Family, Scenario
 from sagas.testing.scripts import Answers, Script, answers_of, early_of, name_of, part_of, script
@@ -28,8 +29,8 @@ from sagas.testing.trial import Clock, Trial
 
 
 def run(
-    saga: Saga,
-    input: Any = None,
+    saga: Saga[I],
+    input: I = NO_INPUT,
     *,
     key: str = "test",
     fail: Script | None = None,
@@ -51,7 +52,8 @@ def run(
     The program `sagas` decides, and the steps' own functions are called. Waits, backoffs and
     approvals take no time: the clock advances to them. Child sagas run, too, one after another.
     Name a step by the step itself or by its name. Name a step of a child as `stay/room`, with the
-    step that starts the child.
+    step that starts the child. After the end, the function of `Saga.on_end` is called: name its
+    call `on_end`. `Trial.end_call` has its result.
 
     Args:
         saga: The definition.
@@ -86,7 +88,7 @@ def run(
         KeyError: A step that is named does not exist, or does not exist for this input.
         TypeError: A script or the answers do not have one of these forms.
         ValueError: A script is impossible, for example if a compensation does not exist.
-        InvalidInput: The first steps cannot read the input.
+        InvalidInput: The input does not have a type that the saga or its functions name.
         NotSerializable: The input is not JSON.
         ResultNotSerializable: A result is not JSON.
         CannotDecode: A stored value does not fit the type of a hint.
@@ -98,7 +100,7 @@ def run(
         refund 40
         >>> trial.phase, trial.states, trial.cost
         ('recovered', {'charge': 'undone', 'send': 'failed'}, 4)
-        >>> sagas.testing.run(order, {"amount": 40}, fail={charge: 1}).states
+        >>> sagas.testing.run(order, {"amount": 40}, fail={charge: sagas.Fail}).states
         {'charge': 'failed', 'send': 'waiting'}
     """
     try:
@@ -130,8 +132,8 @@ def run(
 
 
 async def run_async(
-    saga: Saga,
-    input: Any = None,
+    saga: Saga[I],
+    input: I = NO_INPUT,
     *,
     key: str = "test",
     fail: Script | None = None,
@@ -181,7 +183,7 @@ class ScriptArguments(NamedTuple):
     early: Answers | None
     abort: str | Selection[Any] | None
 
-    def part(self, saga: Saga, child: str | None) -> ScriptArguments:
+    def part(self, saga: SagaParts, child: str | None) -> ScriptArguments:
         """Return the entries for a saga's own steps, or for those of a child."""
         fail, fail_undo, unknown, unknown_undo, answers, early = (
             part_of(saga, child, argument) for argument in self[:6]
@@ -191,19 +193,23 @@ class ScriptArguments(NamedTuple):
         return ScriptArguments(fail, fail_undo, unknown, unknown_undo, answers, early, abort)
 
 
-def _scenario(saga: Saga, script_arguments: ScriptArguments, connection: Any) -> Scenario:
+def _scenario(saga: SagaParts, script_arguments: ScriptArguments, connection: Any) -> Scenario:
     """Return the scenario of a saga, with those of its children."""
-    own = script_arguments.part(saga, None)
+    own_arguments = script_arguments.part(saga, None)
     rules = {
-        ("failed", "run"): script(saga, "fail", own.fail),
-        ("failed", "undo"): script(saga, "fail_undo", own.fail_undo),
-        ("unknown", "run"): script(saga, "unknown", own.unknown),
-        ("unknown", "undo"): script(saga, "unknown_undo", own.unknown_undo),
+        ("failed", "run"): script(saga, "fail", own_arguments.fail),
+        ("failed", "undo"): script(saga, "fail_undo", own_arguments.fail_undo),
+        ("unknown", "run"): script(saga, "unknown", own_arguments.unknown),
+        ("unknown", "undo"): script(saga, "unknown_undo", own_arguments.unknown_undo),
     }
-    stop = name_of(saga, own.abort) if own.abort else None
+    stop = name_of(saga, own_arguments.abort) if own_arguments.abort else None
     below = {
         step.name: _scenario(child, script_arguments.part(saga, step.name), connection)
-        for step, child in children.children_of(saga)
+        for step, child in child_sagas.children_of(saga)
     }
-    answers, early = answers_of(saga, own.answers), early_of(saga, own.early)
-    return Scenario(rules, answers, stop, connection, None, early, below)
+    answers, early = answers_of(saga, own_arguments.answers), early_of(saga, own_arguments.early)
+    end = None
+    if saga.end_saga is not None:
+        end_arguments = script_arguments.part(saga, child_sagas.END)
+        end = _scenario(saga.end_saga, end_arguments, connection)
+    return Scenario(rules, answers, stop, connection, None, early, below, end=end)

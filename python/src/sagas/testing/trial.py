@@ -7,9 +7,10 @@ import datetime
 from typing import Any
 
 from sagas.core.outcomes import FAILED, PERMANENT, SUCCEEDED
-from sagas.core.results import EndQueries
+from sagas.definition.child_sagas import end_key
+from sagas.definition.saga_result import EndQueries
 from sagas.definition.task_data import Progress
-from sagas.definition.task import FIXED, Fan
+from sagas.definition.step_location import FIXED, Fan
 
 
 class Clock:
@@ -73,15 +74,17 @@ class Trial(EndQueries):
         phase: How it ended, as of `SagaResult`.
         states: The state of each step.
         results: The results of the committed steps.
-        cost: The cost of the last plan; None if there was none.
+        cost: The cost of the last plan; None if there was none, or if the saga has a pivot.
         blocking_steps: If it is stuck, the steps that show why no plan was feasible.
         aborted: Whether it was aborted.
         calls: The calls, in order.
         seconds: How long it would have taken.
         saga: The saga's name.
         key: The saga's key.
-        children: The results of its descendants, and of the sagas that undid them, by key.
+        children: The results of its descendants, of the sagas that undid them, and of those that
+            called `on_end`, by key.
         fan: The steps of each declared step.
+        optional_failures: The failed steps without which the saga continued, as of `SagaResult`.
     """
 
     phase: str
@@ -96,18 +99,26 @@ class Trial(EndQueries):
     key: str = "test"
     children: dict[str, Trial] = dataclasses.field(default_factory=dict)
     fan: Fan = dataclasses.field(default=FIXED, repr=False, compare=False)
+    optional_failures: list[str] = dataclasses.field(default_factory=list)
 
     @property
     def errors(self) -> dict[str, str]:
-        """The last errors of the failed and undo_failed steps, by step."""
-        errors = {
-            call.step: str(call.value) for call in self.calls if call.outcome in (FAILED, PERMANENT)
-        }
+        """The last errors of steps, by step, as of `SagaResult`."""
+        last = {call.step: call for call in self.calls if call.outcome in (FAILED, PERMANENT)}
         return {
-            step: text
-            for step, text in errors.items()
+            step: str(call.value)
+            for step, call in last.items()
             if self.states[step] in ("failed", "undo_failed")
+            or (self.states[step] == "waiting" and call.outcome == PERMANENT)
         }
+
+    @property
+    def end_call(self) -> Trial | None:
+        """The call of the saga's `on_end` function, or None if it has none.
+
+        That of a child is in `children`, with the key `KEY/::end`.
+        """
+        return self.children.get(end_key(self.key))
 
     @property
     def undone(self) -> list[Call]:

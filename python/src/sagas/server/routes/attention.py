@@ -64,12 +64,12 @@ def pages(
     | filters.MORE
     | {
         "kind": Field(Choice(KINDS), "only entries of this kind", default=None),
-        "step": Field(Text(most=32), "only entries of this step", default=None),
+        "step": Field(Text(max_length=32), "only entries of this step", default=None),
         "order": Field(
             Choice(("oldest", "newest")), "which entries of each kind come first", default="oldest"
         ),
         "after": Field(
-            Text(most=90, pattern=rf"({KIND})\.{filters.POSITION}\.-?[0-9]{{1,4}}"),
+            Text(max_length=90, pattern=rf"({KIND})\.{filters.POSITION}\.-?[0-9]{{1,4}}"),
             "`next` of the previous page",
             default=None,
         ),
@@ -81,8 +81,9 @@ async def listed(call: Call) -> Response:
     """List what needs an operator.
 
     These are stuck sagas, permanently failed compensations, unused reports, attempts with an
-    unknown outcome, exhausted attempts, stored values that cannot be read, sagas of damaged
-    shards, and approvals: one kind after the other.
+    unknown outcome, exhausted attempts, errors of the program, stored values that cannot be read,
+    `on_end` calls that no program could start, sagas of damaged shards, and approvals: one kind
+    after the other.
     """
     query = call.query
     kind, after = parse_cursor(query["after"])
@@ -92,12 +93,14 @@ async def listed(call: Call) -> Response:
     matching = await call.service.look(
         pages(left, sagas, query["step"], after, query["order"] == "newest", limit)
     )
+    details = await call.service.shown_fields.of(matching)
     _, counts = await call.service.figures.of(call.principal.scope)
     last = matching[-1] if len(matching) == limit else None
     more = last and cursor_of(last)
 
     def answer() -> Response:
-        entries = [json_views.entry(entry) for entry in matching]
+        pairs = zip(matching, details)
+        entries = [json_views.entry(entry, detail.shown) for entry, detail in pairs]
         return parted({"counts": counts, "entries": entries, "next": more}, "entries")
 
     return await call.service.threads.answers.do(answer)

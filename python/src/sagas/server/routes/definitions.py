@@ -6,38 +6,47 @@ import dataclasses
 import functools
 import time
 from typing import Any
+from urllib.parse import quote
 
 from starlette.responses import Response
 
+from sagas.api.explanation import reads_input
+from sagas.base.errors import InvalidInput
 from sagas.definition.drawing import Block, Groups
+from sagas.definition.pivot import pivot_of
 from sagas.definition.saga import Saga
 from sagas.inspection import definitions, picture
 from sagas.inspection.definitions import AtStep
+from sagas.inspection.failure_cases import Moment
 from sagas.inspection.picture import Box, StepDisplay
 from sagas.inspection.lists import COUNTED
 from sagas.inspection.question import Question
-from sagas.server import answers, declared_steps
-from sagas.server.access import viewer_of
+from sagas.server import answers, declared_steps, explanations
 from sagas.server.auth import Permission
-from sagas.server.dashboard import login_redirect, show_page
+from sagas.server.dashboard import show_page
 from sagas.server.declared_steps import COMPUTED, DeclaredStep
 from sagas.server.json_bodies import Json
 from sagas.server.operations import Answer, Call, Routes
+from sagas.server.routes import trends
+from sagas.server.shapes import Choice, Field, Text
 from sagas.server.table_rows import UNFOLD, Unfolding, folded
 
 routes = Routes("definitions", "/v1")
 KINDS = {"approval": "approval", "wait": "wait", "child": "child"}
 
 
-def definition_json(saga: Saga, counts: dict[str, int]) -> dict[str, Any]:
+def definition_json(saga: Saga[Any], counts: dict[str, int]) -> dict[str, Any]:
     """Return a definition with its steps."""
-    steps = [step_of(step) for step in declared_steps.of(saga)]
+    has_pivot = pivot_of(saga) is not None
+    steps = [step_of(step, has_pivot) for step in declared_steps.of(saga)]
     return {"name": saga.name, "version": saga.version, "steps": steps, "sagas": counts}
 
 
-def step_of(declared: DeclaredStep) -> dict[str, Any]:
-    """Return a step with its costs."""
+def step_of(declared: DeclaredStep, has_pivot: bool) -> dict[str, Any]:
+    """Return a step with its costs. `has_pivot`: its saga has one, which determines them."""
     step, costs = declared.step, declared.costs
+    if has_pivot:
+        costs = dict.fromkeys(costs, COMPUTED)
     kind = KINDS.get(step.kind) or ("worker" if step.run.external else "function")
     return {
         "name": declared.name,
@@ -47,6 +56,8 @@ def step_of(declared: DeclaredStep) -> dict[str, Any]:
         "computed": [name for name, cost in costs.items() if cost == COMPUTED],
         "for_each": declared.for_each,
         "conditional": declared.conditional,
+        "optional": step.is_optional,
+        "pivot": step.is_pivot,
         "tries": step.run.tries,
         "undo_tries": step.undo.tries,
     }
@@ -79,12 +90,10 @@ async def listed(call: Call) -> Response:
 page_routes = Routes("pages", is_page=True)
 
 
-@page_routes.get("/ui/definitions")
+@page_routes.get("/ui/definitions", permission=Permission.BROWSE)
 async def definitions_page(call: Call) -> Response:
     """Show all definitions with counts of their sagas."""
-    if answer := login_redirect(call.request):
-        return answer
-    service, principal = call.service, viewer_of(call.request)
+    service, principal = call.service, call.principal
     since = service.hub.now
     counts, _ = await service.figures.of(principal.scope)
     no_counts = dict.fromkeys(COUNTED, 0)
@@ -101,16 +110,25 @@ async def definitions_page(call: Call) -> Response:
     )
 
 
-@page_routes.get("/ui/definitions/{name}", query={"unfold": UNFOLD})
+FAILS = Field(Text(max_length=64), "the step whose failure is drawn", default=None)
+MOMENT = Field(
+    Choice((Moment.LATE.value, Moment.EARLY.value)),
+    "how far the other steps are when it fails",
+    default=Moment.LATE.value,
+)
+
+
+DEFINITION = {"unfold": UNFOLD, "fails": FAILS, "when": MOMENT, "range": trends.RANGE}
+
+
+@page_routes.get("/ui/definitions/{name}", permission=Permission.BROWSE, query=DEFINITION)
 async def definition_page(call: Call) -> Response:
     """Show a definition: its steps with their attempts, durations, and the costs of recoveries.
 
     If only another service has it, or none any more, only its sagas are shown.
     """
     request, name = call.request, call.path["name"]
-    if answer := login_redirect(request):
-        return answer
-    service, principal = call.service, viewer_of(request)
+    service, principal = call.service, call.principal
     versions = [
         saga for saga in service.settings.sagas if saga.name == name and principal.sees(name)
     ]
@@ -135,12 +153,15 @@ async def definition_page(call: Call) -> Response:
     more |= {"most": max((cost for _, _, cost in costs), default=0)}
     if versions:
         more |= await step_values(call, max(versions, key=lambda saga: saga.version), at)
+    more |= await trends.page_values(
+        call, principal, name, lambda value: f"/ui/definitions/{quote(name)}?range={value}"
+    )
     return show_page(
         request, "definition.html", here="definitions", live="/ui/events", since=since, **more
     )
 
 
-async def step_values(call: Call, saga: Saga, at: dict[str, AtStep]) -> dict[str, Any]:
+async def step_values(call: Call, saga: Saga[Any], at: dict[str, AtStep]) -> dict[str, Any]:
     """Return the template values of the steps."""
     declared = declared_steps.of(saga)
     groups = Groups([step.origin for step in declared])
@@ -149,10 +170,30 @@ async def step_values(call: Call, saga: Saga, at: dict[str, AtStep]) -> dict[str
     picture = functools.partial(drawn, saga, declared, steps)
     return {
         "saga": saga,
+        "pivot": pivot_of(saga),
         "unfolding": unfolding,
         "rows": folded(steps, lambda row: (-row.at.person, -row.at.failed, -row.at.open)),
         "picture": await call.service.threads.pages.do(picture),
+        "failures": await failure_values(call, saga),
     }
+
+
+async def failure_values(call: Call, saga: Saga[Any]) -> dict[str, Any]:
+    """Return the template values of the failures of the steps."""
+    service = call.service
+    values: dict[str, Any] = {"needs_input": True, "table": None, "picture": None}
+    if reads_input(saga):
+        return values
+    try:
+        text = await service.threads.pages.do(saga.toml)
+    except InvalidInput:  # an included saga has a type for its input
+        return values
+    step, moment = call.query["fails"], call.query["when"]
+    if step is not None:
+        picture = functools.partial(explanations.drawn, text, step, moment)
+        values |= {"step": step, "when": moment}
+        values["picture"] = await service.threads.pages.do(picture)
+    return values | {"needs_input": False, "table": await service.explanations.table(text)}
 
 
 @dataclasses.dataclass(frozen=True, slots=True)
@@ -180,7 +221,7 @@ class Row:
 
 def rows_of(
     call: Call,
-    saga: Saga,
+    saga: Saga[Any],
     declared: list[DeclaredStep],
     at: dict[str, AtStep],
     unfolding: Unfolding,
@@ -213,13 +254,13 @@ def total(tallies: list[AtStep]) -> AtStep:
     return AtStep(*map(sum, zip(*map(dataclasses.astuple, tallies))))
 
 
-def durations_of(call: Call, saga: Saga, step: str) -> tuple[Any, Any]:
+def durations_of(call: Call, saga: Saga[Any], step: str) -> tuple[Any, Any]:
     """Return the durations of a step's action and of its compensation."""
     durations = call.service.metrics.durations
     return durations.of((saga.name, step, False)), durations.of((saga.name, step, True))
 
 
-def drawn(saga: Saga, declared: list[DeclaredStep], rows: list[Row]) -> str:
+def drawn(saga: Saga[Any], declared: list[DeclaredStep], rows: list[Row]) -> str:
     """Draw the steps with the counts of their attempts."""
     boxes = []
     for row in rows:

@@ -8,19 +8,19 @@ from urllib.parse import urlencode
 
 from starlette.responses import RedirectResponse, Response
 
-from sagas.inspection import deliveries
-from sagas.inspection.deliveries import Delivery
+from sagas.inspection import delivery_questions
+from sagas.inspection.delivery_questions import Delivery
 from sagas.server import answers
-from sagas.server.access import service_of, viewer_of
+from sagas.server.access import service_of
 from sagas.server.auth import Permission, Principal
-from sagas.server.dashboard import login_redirect, session_and_form, show_page
+from sagas.server.dashboard import session_and_form, show_page
 from sagas.server.json_bodies import Json, times
 from sagas.server.operations import Answer, Call, Routes
 from sagas.server.problems import Problem
 from sagas.server.routes.filters import LIMIT
 from sagas.server.service import Service
 from sagas.server.shapes import Choice, Field, Record, Text
-from sagas.storage.deliveries import DeliveryState
+from sagas.storage.webhook_deliveries import DeliveryState
 
 logger = logging.getLogger("sagas.server")
 routes = Routes("operators", "/v1")
@@ -53,7 +53,7 @@ async def post_again(service: Service, principal: Principal, id: str) -> Deliver
     """Post a delivery again. Raises `Problem`."""
     check_all(principal)
     done = await service.store.deliveries.redeliver(id)
-    delivery = await service.look(deliveries.delivery(id)) if done else None
+    delivery = await service.look(delivery_questions.delivery(id)) if done else None
     if delivery is None:
         raise Problem("NoSuchDelivery", f"no delivery has the id {id[:64]!r}")
     logger.info("%s has the delivery %s posted again", principal.name, delivery.id)
@@ -71,7 +71,7 @@ async def post_again(service: Service, principal: Principal, id: str) -> Deliver
             "only deliveries in this state",
             default=None,
         ),
-        "webhook": Field(Text(most=64), "only deliveries to this webhook", default=None),
+        "webhook": Field(Text(max_length=64), "only deliveries to this webhook", default=None),
         "limit": LIMIT,
     },
     answers={200: Answer("The latest deliveries, newest first.", answers.DELIVERIES)},
@@ -84,7 +84,7 @@ async def listed(call: Call) -> Response:
     check_all(call.principal)
     query = call.query
     listed_deliveries = await call.service.look(
-        deliveries.listed(query["state"], query["webhook"], query["limit"])
+        delivery_questions.listed(query["state"], query["webhook"], query["limit"])
     )
     return Json({"deliveries": [delivery_json(delivery) for delivery in listed_deliveries]})
 
@@ -113,7 +113,7 @@ LISTED = 100
 STATES = tuple(state.value for state in DeliveryState)
 FILTERED = {
     "state": Field(Choice(STATES), default=None),
-    "webhook": Field(Text(most=64), default=None),
+    "webhook": Field(Text(max_length=64), default=None),
 }
 LOOKS = {"pending": "open", "delivered": "completed", "failed": "stuck"}
 """The badge of a state: that of a phase with a similar meaning."""
@@ -125,20 +125,20 @@ def page_url(**parameters: Any) -> str:
     return f"/ui/webhooks?{urlencode(query)}" if query else "/ui/webhooks"
 
 
-@page_routes.get("/ui/webhooks", query=FILTERED)
+@page_routes.get("/ui/webhooks", permission=Permission.OPERATE, query=FILTERED)
 async def deliveries_page(call: Call) -> Response:
     """Show the latest deliveries, newest first."""
-    if answer := login_redirect(call.request):
-        return answer
-    check_all(viewer_of(call.request))
+    check_all(call.principal)
     state, webhook = call.query["state"], call.query["webhook"]
-    listed_deliveries = await call.service.look(deliveries.listed(state, webhook, LISTED + 1))
+    listed_deliveries = await call.service.look(
+        delivery_questions.listed(state, webhook, LISTED + 1)
+    )
     return show_page(
         call.request,
         "webhooks.html",
         here="webhooks",
         deliveries=listed_deliveries[:LISTED],
-        most=LISTED,
+        limit=LISTED,
         more=len(listed_deliveries) > LISTED,
         states=(None, *STATES),
         looks=LOOKS,
@@ -149,7 +149,7 @@ async def deliveries_page(call: Call) -> Response:
     )
 
 
-@page_routes.post("/ui/webhooks/{id}/redeliver")
+@page_routes.post("/ui/webhooks/{id}/redeliver", permission=Permission.OPERATE)
 async def redeliver_from_page(call: Call) -> Response:
     """Post a delivery again, and redirect to the list."""
     session, form = await session_and_form(call.request)

@@ -7,7 +7,7 @@ from collections.abc import Iterable, Mapping
 from decimal import Decimal
 from typing import Any
 
-from sagas.definition.labels import checked
+from sagas.definition.labels import Labels, checked
 from sagas.inspection.pages import Position
 from sagas.server.access import check_definition
 from sagas.server.auth import Principal
@@ -26,7 +26,7 @@ from sagas.storage.filters import Filter
 
 LIMIT = Field(Number(1, 1000, whole=True), "maximum number of entries", default=100)
 POSITION = r"-?[0-9]+(\.[0-9]+)?-[0-9]+"
-CURSOR = Text(most=64, pattern=POSITION)
+CURSOR = Text(max_length=64, pattern=POSITION)
 """A position in the list: when a saga started, and its id, such as 1795934845.949-1048577."""
 
 
@@ -54,20 +54,24 @@ class Moment(Shape):
         return {"oneOf": [{"type": "string", "format": "date-time"}, {"type": "number"}]}
 
 
-LABEL = Text(most=400, pattern="[^=]+=.*")
+LABEL = Text(max_length=400, pattern="[^=]+=.*")
 MORE = {
     "label": Field(
-        Several(LABEL, most=16), "only sagas with this label, such as `customer=7`", default=None
+        Several(LABEL, max_items=16),
+        "only sagas with this label, such as `customer=7`",
+        default=None,
     )
 }
 """Parameters of a query. A body has `labels` as an object."""
 LABELS = {"labels": Field(Mapped(Text()), "only sagas with these labels", default=None)}
 SAGAS: dict[str, Field] = {
-    "definition": Field(Text(most=64), "only sagas of this definition", default=None),
-    "search": Field(Text(most=512), "only sagas whose key contains this", default=None),
+    "definition": Field(Text(max_length=64), "only sagas of this definition", default=None),
+    "search": Field(Text(max_length=512), "only sagas whose key contains this", default=None),
     "started_after": Field(Moment(), "only sagas started at this time or later", default=None),
     "started_before": Field(Moment(), "only sagas started before this time", default=None),
-    "error": Field(Text(most=512), "only sagas with an error that contains this", default=None),
+    "error": Field(
+        Text(max_length=512), "only sagas with an error that contains this", default=None
+    ),
 }
 
 
@@ -81,6 +85,19 @@ def of(principal: Principal, parameters: Mapping[str, Any], phase: str | None = 
     return Filter(
         phase=phase, saga=parameters["definition"], labels=labels, scope=principal.scope, **fields
     )
+
+
+def label_filter(text: str | None) -> Labels:
+    """Return the label that a field of a page selects, given as `name=value`.
+
+    Raises `ValueError`, `InvalidLabel`.
+    """
+    if not text:
+        return checked(None)
+    name, sign, value = text.partition("=")
+    if not sign:
+        raise ValueError("a label must be NAME=VALUE, for example customer=7")
+    return checked({name: value})
 
 
 def labels_of(texts: Iterable[str]) -> dict[str, str]:

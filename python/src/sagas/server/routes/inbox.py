@@ -13,18 +13,23 @@ from urllib.parse import urlencode
 from starlette.requests import Request
 from starlette.responses import Response
 
+from sagas.base.errors import SagasError
+from sagas.core.decisions import CHOICES, Decision, Requester, Way, new_bulk
 from sagas.inspection import attention_pages
-from sagas.inspection.attention_pages import KINDS, Entry, Group
+from sagas.inspection.attention_pages import APPROVAL, KINDS, Entry, Group
 from sagas.inspection.question import Question
 from sagas.runtime.leased_tasks import Queue
-from sagas.server import json_bodies
-from sagas.server.access import service_of, viewer_of
-from sagas.server.dashboard import login_redirect, session_and_fields, show_page
+from sagas.server import buttons, json_bodies
+from sagas.server.auth import Permission, Principal
+from sagas.server.dashboard import session_and_fields, show_page
+from sagas.server.decision_log import log_decision
+from sagas.server.figures import Phases
 from sagas.server.operations import Call, Routes
-from sagas.server.routes import operators
+from sagas.server.problems import Problem
+from sagas.server.routes import approvals, filters, operators, trends
 from sagas.server.routes.operators import Target
 from sagas.server.shapes import Choice, Field, Number, Text
-from sagas.storage.filters import Filter
+from sagas.storage.filters import NOTHING, Filter
 
 routes = Routes("pages", is_page=True)
 TITLES = {
@@ -34,6 +39,10 @@ TITLES = {
     "unknown": "Unknown",
     "exhausted": "Exhausted",
     "cannot_decode": "Unreadable",
+    "program_error": "Program errors",
+    "on_end": "On end",
+    "no_definition": "No definition",
+    "no_node": "No node",
     "damaged": "Damaged",
     "approval": "Approvals",
 }
@@ -45,19 +54,15 @@ EXPLANATIONS = {
     "unknown": "The outcome of the step is unknown. Check the external system, then report it.",
     "exhausted": "The attempts of the step are used up. Fix the cause, then retry it.",
     "cannot_decode": "No program can read a stored value. Open the store with a program that can.",
+    "program_error": "A function has a bug. Open the store with a program without it, or retry "
+    "them.",
+    "on_end": "They have ended, and no program could start the call of their on_end function. Open "
+    "the store with a program that has it.",
+    "no_definition": "The node that has them does not have all of their functions. Start a node "
+    "with their definition: it takes them over.",
+    "no_node": "No node has their shard. Start a node with their definition.",
     "damaged": "The stored data of their shard is damaged. Repair the shard, or delete it.",
     "approval": "The step waits for a decision.",
-}
-REPORTS = {"done": "They are done…", "failed": "They had no effect…", "abort": "Abort…"}
-VERBS: dict[str, dict[str, str]] = {
-    "stuck": {"resolve": "Resolve…"},
-    "undo_failed": {"resolve": "Resolve…"},
-    "unused_report": {"compensate": "Compensate…", "resolve": "Resolve…"},
-    "unknown": REPORTS,
-    "exhausted": {"retry": "Retry…", **REPORTS},
-    "cannot_decode": REPORTS,
-    "damaged": {},
-    "approval": {"done": "Approve…", "failed": "Refuse…", "abort": "Abort…"},
 }
 WHOLE = ("resolve", "abort")
 """Actions on whole sagas, not on steps."""
@@ -78,14 +83,15 @@ class Confirmation:
     def of(self, targets: list[Target], verb: str) -> dict[str, str]:
         """Return the texts for these targets."""
         is_one = len(targets) == 1
-        are = "is" if is_one or is_undo(targets) else "are"
-        title = self.title.format(many(targets, verb), are=are)
+        title = self.title.format(many(targets, verb))
         return {"title": title, "button": self.button[not is_one], "text": self.text}
 
 
 CONFIRMATIONS = {
     "resolve": Confirmation(
-        "Mark {} as resolved?", ("Mark as resolved",) * 2, "No step runs because of this."
+        "Resolve {}?",
+        ("Resolve it", "Resolve them"),
+        "It records that they were repaired by hand. No step runs because of this.",
     ),
     "compensate": Confirmation(
         "Compensate {}?",
@@ -99,16 +105,16 @@ CONFIRMATIONS = {
         "Each is called at once, with the same idempotency key.",
     ),
     "done": Confirmation(
-        "Report that {} {are} done?",
-        ("It is done", "They are done"),
-        "The sagas continue with it. Report this only of effects that exist: sagas cannot "
-        "check it.",
+        "Complete {}?",
+        ("Complete it", "Complete them"),
+        "It reports that they are done, and the sagas continue. Report this only of effects that "
+        "exist: sagas cannot check it.",
     ),
     "failed": Confirmation(
-        "Report that {} had no effect?",
-        ("It had no effect", "They had no effect"),
-        f"{FAILS} Report this only if there was no effect: no compensation undoes an effect "
-        "that you deny.",
+        "Fail {}?",
+        ("Fail it", "Fail them"),
+        f"It reports that they had no effect. {FAILS} Report this only if it is true: no "
+        "compensation undoes an effect that you deny.",
     ),
     "abort": Confirmation(
         "Abort {}?",
@@ -120,19 +126,19 @@ CONFIRMATIONS = {
 OF_APPROVALS = {
     "done": Confirmation(
         "Approve {}?",
-        ("Approve", "Approve them"),
+        ("Approve it", "Approve them"),
         "The sagas continue. Steps that need these get the result.",
     ),
     "failed": Confirmation(
-        "Refuse {}?", ("Refuse", "Refuse them"), f"{FAILS} This cannot be undone."
+        "Refuse {}?", ("Refuse it", "Refuse them"), f"{FAILS} This cannot be undone."
     ),
 }
 OF_COMPENSATIONS = {
     "failed": Confirmation(
-        "Report that {} had no effect?",
-        ("It had no effect", "They had no effect"),
-        "Each compensation fails permanently, and the effect of its step stays until an operator "
-        "repairs it. This cannot be undone.",
+        "Fail {}?",
+        ("Fail it", "Fail them"),
+        "It reports that they had no effect. Each compensation fails permanently, and the effect "
+        "of its step stays until an operator repairs it. This cannot be undone.",
     ),
 }
 
@@ -186,10 +192,23 @@ def wait_of(entry: Entry) -> str:
 
 @dataclasses.dataclass(frozen=True, slots=True)
 class Selection:
-    """Entries of one kind. `waits`: the identifiers of what they wait for, as a form has them."""
+    """Entries of one kind.
+
+    Attributes:
+        waits: The identifiers of what they wait for, as a form has them.
+        left: How many entries were selected in addition, and are left out.
+    """
 
     entries: list[Entry]
     waits: str
+    left: int = 0
+
+    @classmethod
+    def of(cls, entries: list[Entry]) -> Selection:
+        """Return a new selection. Of approvals, it has at most as many as one action changes."""
+        is_listed = bool(entries) and entries[0].kind == APPROVAL
+        chosen = entries[: operators.MAX_TARGETS] if is_listed else entries
+        return cls(chosen, " ".join(map(wait_of, chosen)), len(entries) - len(chosen))
 
     def targets(self, verb: str) -> list[Target]:
         """Return the targets of an action: steps, or each saga once."""
@@ -203,14 +222,16 @@ class Selection:
 
 
 def selected(entries: list[Entry], fields: Fields) -> Selection:
-    """Return the selected entries: whole groups, and single ones."""
+    """Return the selected entries: all of them, whole groups, and single ones."""
+    if ("all", "1") in fields:
+        return Selection.of(entries)
     groups = {value for name, value in fields if name == "group"}
     ids = {value for name, value in fields if name == "one"}
     chosen = []
     for group in attention_pages.groups(entries):
         is_chosen = id_of(group) in groups
         chosen += [entry for entry in group.entries if is_chosen or id_of_entry(entry) in ids]
-    return Selection(chosen, " ".join(map(wait_of, chosen)))
+    return Selection.of(chosen)
 
 
 def seen(entries: list[Entry], waits: str) -> Selection:
@@ -223,54 +244,91 @@ def seen(entries: list[Entry], waits: str) -> Selection:
 
 
 SHOWN, MEMBERS, LISTED = 12, 5, 50
-"""Groups on a page, sagas of each, and sagas on a page of one group."""
+"""Groups on a page, sagas of each, and sagas on a page of one group or of approvals."""
 MAX_GROUPED = 2000
 """Maximum number of entries that are grouped."""
 MAX_FIELDS = 1000
+AGES = {"1h": 3600.0, "4h": 14_400.0, "1d": 86_400.0, "7d": 604_800.0}
+"""Choices of how long entries have waited at least, in seconds."""
+AGE_TEXTS = {"1h": "an hour", "4h": "4 hours", "1d": "a day", "7d": "a week"}
 KIND = Field(Choice(KINDS), default=None)
 QUERY = {
     "kind": KIND,
-    "definition": Field(Text(most=64), default=None),
-    "search": Field(Text(most=512), default=None),
-    "order": Field(Choice(("oldest", "newest")), default="oldest"),
-    "group": Field(Text(most=16, pattern="[0-9a-f]+"), default=None),
+    "definition": Field(Text(max_length=64), default=None),
+    "search": Field(Text(max_length=512), default=None),
+    "step": Field(Text(max_length=128), default=None),
+    "label": Field(Text(max_length=400), default=None),
+    "age": Field(Choice((*AGES,)), default=None),
+    "order": Field(Text(max_length=140, pattern=approvals.ORDER), default="oldest"),
+    "group": Field(Text(max_length=16, pattern="[0-9a-f]+"), default=None),
     "page": Field(Number(1, 10_000, whole=True), default=1),
+    "range": trends.RANGE,
 }
+FILTERED = ("definition", "search", "step", "label", "age")
+"""The parameters that select entries of a kind."""
+KEPT = ("kind", *FILTERED, "order", "group", "range")
+"""The parameters that links keep."""
 
 
 @dataclasses.dataclass(frozen=True, slots=True)
 class Wanted:
-    """What a page or a form is about."""
+    """The entries that a page or a form is about.
 
-    kind: str
-    of: Filter
-    newest: bool
+    Attributes:
+        sagas: The filter of sagas, within the scope of the user.
+        step: Only entries of this step.
+        order: `oldest`, `newest`, or a shown field of approvals.
+        since_before: Only entries that wait since before this time.
+    """
 
-    def question(self) -> Question[list[Entry]]:
-        """Return the question for its entries."""
-        return attention_pages.entries(self.kind, self.of, newest=self.newest, limit=MAX_GROUPED)
+    sagas: Filter
+    step: str | None
+    order: str
+    since_before: float | None
+
+    def entries(self, kind: str) -> Question[list[Entry]]:
+        """Return the question for its entries of a kind."""
+        options: dict[str, Any] = {"newest": self.order == "newest", "limit": MAX_GROUPED}
+        options["since_before"] = self.since_before
+        return attention_pages.entries(kind, self.sagas, self.step, **options)
+
+    def counts(self) -> Question[dict[str, int]]:
+        """Count its entries of each kind."""
+        counts = dict[str, int]()
+        for kind in KINDS:
+            counts[kind] = yield from attention_pages.count(
+                kind, self.sagas, self.step, since_before=self.since_before
+            )
+        return counts
 
 
-def filter_of(request: Request, fields: dict[str, Any]) -> Filter:
-    """Return the filter of the requested sagas that the user may see."""
-    return Filter(
-        saga=fields.get("definition") or None,
-        search=fields.get("search") or None,
-        scope=viewer_of(request).scope,
+def wanted_of(principal: Principal, fields: dict[str, Any]) -> Wanted:
+    """Return what the fields of a form or of an address select. Raises `ValueError`,
+    `InvalidLabel`.
+    """
+    age = AGES.get(fields.get("age") or "")
+    return Wanted(
+        Filter(
+            saga=fields.get("definition") or None,
+            search=fields.get("search") or None,
+            labels=filters.label_filter(fields.get("label")),
+            scope=principal.scope,
+        ),
+        fields.get("step") or None,
+        fields.get("order") or "oldest",
+        None if age is None else time.time() - age,
     )
 
 
-def wanted_of(request: Request, fields: dict[str, Any], kind: str) -> Wanted:
-    """Return the requested kind, filter and order."""
-    return Wanted(kind, filter_of(request, fields), fields.get("order") == "newest")
+def kinds_of(principal: Principal) -> tuple[str, ...]:
+    """Return the kinds of entries that a user sees: who may not browse sagas sees approvals."""
+    return KINDS if principal.has_permission(Permission.BROWSE) else (APPROVAL,)
 
 
-def counts_of(sagas: Filter) -> Question[dict[str, int]]:
-    """Count the entries of each kind that a filter selects."""
-    counts = dict[str, int]()
-    for kind in KINDS:
-        counts[kind] = yield from attention_pages.count(kind, sagas)
-    return counts
+def check_kind(principal: Principal, kind: str) -> None:
+    """Raise `Problem` if a user may not see entries of a kind."""
+    if kind not in kinds_of(principal):
+        raise Problem("Forbidden", f"{principal.name} may only see approvals in the inbox")
 
 
 def work_of(queues: list[Queue]) -> dict[str, Any]:
@@ -292,138 +350,182 @@ def address(parameters: dict[str, Any], **change: Any) -> str:
 
 
 def listed(entries: list[Entry], group: str | None, page: int) -> dict[str, Any]:
-    """Return the template values for entries: groups, or the entries of one group."""
+    """Return the template values for entries: groups, or the entries of one group.
+
+    Approvals are entries of a table, and not groups.
+    """
     groups = attention_pages.groups(entries)
     chosen = (
         next((candidate for candidate in groups if id_of(candidate) == group), None)
         if group
         else None
     )
-    size = LISTED if chosen else SHOWN
-    shown: list[Any] = [*groups] if chosen is None else [*chosen.entries]
+    is_table = bool(entries) and entries[0].kind == APPROVAL
+    size = LISTED if chosen or is_table else SHOWN
+    shown: list[Any] = [*groups] if not is_table else [*entries]
+    if chosen is not None:
+        shown = [*chosen.entries]
     return {
         "group": chosen,
+        "groups": groups[:SHOWN],
         "page": page,
+        "all": len(shown),
         "more": len(shown) > page * size,
         "shown": shown[(page - 1) * size : page * size],
     }
 
 
-@routes.get("/ui", query=QUERY)
+def totals_of(counts: Phases) -> dict[str, int]:
+    """Return the numbers of sagas of all definitions, by phase."""
+    names = ("open", "completed", "recovered", "resolved")
+    return {name: sum(phases[name] for phases in counts.values()) for name in names}
+
+
+@routes.get("/ui", permission=Permission.LOG_IN, query=QUERY)
 async def inbox(call: Call) -> Response:
     """Show what needs an operator: the requested kind, or the first kind that has entries."""
-    request, query = call.request, dict(call.query)
-    if answer := login_redirect(request):
-        return answer
-    service, principal = call.service, viewer_of(request)
-    since = service.hub.now
+    service, principal, query = call.service, call.principal, dict(call.query)
+    since, kinds, fault = service.hub.now, kinds_of(principal), None
+    check_kind(principal, query["kind"] or APPROVAL)
+    try:
+        wanted = wanted_of(principal, query)
+    except (ValueError, SagasError) as error:
+        wanted, fault = Wanted(Filter(scope=NOTHING), None, "oldest", None), f"{error}."
     counts, needed = await service.figures.of(principal.scope)
-    is_filtered = bool(query["definition"] or query["search"])
+    is_filtered = any(query[name] for name in FILTERED)
     if is_filtered:
-        needed = await service.look(counts_of(filter_of(request, query)))
-    kind = query["kind"] or next((kind for kind in KINDS if needed[kind]), KINDS[0])
-    entries = await service.look(wanted_of(request, query, kind).question())
-    parameters = {name: query[name] for name in ("kind", "definition", "search", "order", "group")}
+        needed = await service.look(wanted.counts())
+    kind = query["kind"] or next((kind for kind in kinds if needed[kind]), kinds[0])
+    entries = await service.look(wanted.entries(kind))
+    parameters = {name: query[name] for name in KEPT}
 
     def url(**change: Any) -> str:
         return address(parameters, **change)
 
-    total = {
-        phase: sum(phases[phase] for phases in counts.values())
-        for phase in ("open", "completed", "recovered", "resolved")
-    }
     values: dict[str, Any] = {
         "counts": needed,
-        "asked_all": sum(needed.values()),
-        "totals": total,
+        "asked_all": sum(needed[kind] for kind in kinds),
+        "totals": totals_of(counts),
         "query": query,
+        "fault": fault,
     }
+    values |= {"is_filtered": is_filtered, "table": None}
+    if kind == APPROVAL:
+        entries = await approvals.ordered(service, entries, wanted.order)
     work = functools.partial(listed, entries, query["group"], query["page"])
-    values |= {"is_filtered": is_filtered, **await service.threads.pages.do(work)}
+    values |= await service.threads.pages.do(work)
+    if kind == APPROVAL:
+        values["table"] = await approvals.table_of(service, values["shown"])
     values |= work_of(await service.queues(principal)) | {
         "again": service.figures.lag(principal.scope)
     }
+    may_act = service.may_open(principal, "/ui/inbox", "POST")
     values |= {
         "kind": kind,
-        "titles": TITLES,
+        "titles": {kind: TITLES[kind] for kind in TITLES if kind in kinds},
         "explanation": EXPLANATIONS[kind],
-        "verbs": VERBS[kind],
+        "verbs": buttons.of(kind, principal) if may_act else {},
         "url": url,
+        "ages": AGE_TEXTS,
     }
     values |= {"id_of": id_of, "id_of_entry": id_of_entry, "names": counts}
-    values |= {
-        "cut": needed[kind] if len(entries) >= MAX_GROUPED else None,
-        "grouped": MAX_GROUPED,
-    }
-    values |= {"members": MEMBERS}
-    return show_page(request, "inbox.html", here="inbox", live="/ui/events", since=since, **values)
+    values |= {"cut": needed[kind] if len(entries) >= MAX_GROUPED else None}
+    values |= {"grouped": MAX_GROUPED, "members": MEMBERS, "kept": (*FILTERED, "order", "range")}
+    if principal.has_permission(Permission.BROWSE):
+        values |= await trends.page_values(
+            call, principal, query["definition"], lambda name: url(range=name)
+        )
+    return show_page(
+        call.request, "inbox.html", here="inbox", live="/ui/events", since=since, **values
+    )
 
 
-@routes.post("/ui/inbox")
+@routes.post("/ui/inbox", permission=Permission.APPROVE)
 async def act(call: Call) -> Response:
     """Ask for confirmation with the count. Then act on each confirmed entry that still waits, and
     show the results.
     """
-    request = call.request
-    session, fields = await session_and_fields(request, MAX_FIELDS)
+    session, fields = await session_and_fields(call.request, MAX_FIELDS)
     form = dict(fields)
-    kind, verb = form.get("kind", ""), form.get("verb", "")
-    if verb not in VERBS.get(kind, {}):
-        return show_page(
-            request,
-            "fault.html",
-            422,
-            title="No action selected",
-            back="/ui",
-            text="Select sagas in the inbox, then select an action.",
-        )
-    entries = await call.service.look(wanted_of(request, form, kind).question())
-    waits = form.get("waits")
+    kind, verb, waits = form.get("kind", ""), form.get("verb", ""), form.get("waits")
+    if (decision := buttons.DECISIONS.get(verb)) not in CHOICES.get(kind, ()) or decision is None:
+        text = "Select sagas in the inbox, then select an action."
+        return not_acted(call.request, "No action selected", text, "/ui")
+    check_decision(call.principal, kind, decision)
+    try:
+        wanted = wanted_of(call.principal, form)
+    except (ValueError, SagasError) as error:
+        return not_acted(call.request, "No action selected", f"{error}.", "/ui")
+    entries = await call.service.look(wanted.entries(kind))
+    if kind == APPROVAL:
+        entries = await approvals.ordered(call.service, entries, wanted.order)
     choose = functools.partial(selected, entries, fields)
     if waits is not None:
         choose = functools.partial(seen, entries, waits)
     selection = await call.service.threads.pages.do(choose)
     if not selection.entries:
-        return show_page(
-            request,
-            "fault.html",
-            422,
-            title="Nothing is selected",
-            back=f"/ui?kind={kind}",
-            text="Nothing was selected, or all of it has changed since. Select groups or sagas.",
-        )
+        text = "Nothing was selected, or all of it has changed since. Select groups or sagas."
+        return not_acted(call.request, "Nothing is selected", text, back_of(form))
     if waits is None:
-        return confirmation_page(request, form, selection)
+        return await confirmation_page(call, form, selection)
     if fault := fault_of(form):
-        return confirmation_page(request, form, selection, fault)
-    options = {"by": session.principal.name, "note": form.get("note", "").strip()[:2000] or None}
+        return await confirmation_page(call, form, selection, fault)
+    user = Requester(session.principal.name, Way.DASHBOARD, new_bulk())
+    options = {"by": user, "note": form.get("note", "").strip()[:2000] or None}
     result = json_bodies.read_text(form.get("result") or "null")
-    error = form.get("failed", "").strip()[:2000]
-    work = operators.action_of(service_of(request), verb, options, result, error)
+    error_text = form.get("failed", "").strip()[:2000]
+    work = operators.action_of(call.service, verb, options, result, error_text)
     targets = selection.targets(verb)
     done, refused = await operators.act_on_each(
         call.service, targets[: operators.MAX_TARGETS], work
     )
+    log_decision(user, verb, done, len(refused))
     values: dict[str, Any] = {
         "done": done,
         "refused": len(refused),
         "shown": refused[:LISTED],
         "left": len(targets) - operators.MAX_TARGETS,
         "changed": len(waits.split()) - len(selection.entries),
+        "back": back_of(form),
     }
-    return show_page(request, "inbox_done.html", here="inbox", kind=kind, **values)
+    return show_page(call.request, "inbox_done.html", here="inbox", kind=kind, **values)
 
 
-def confirmation_page(
-    request: Request, form: dict[str, str], selection: Selection, fault: str | None = None
+def back_of(form: dict[str, str]) -> str:
+    """Return the address of the inbox with the filter of a form."""
+    return address({name: form.get(name) for name in ("kind", *FILTERED, "order")})
+
+
+def check_decision(principal: Principal, kind: str, decision: Decision) -> None:
+    """Raise `Problem` if a user may not make a decision on entries of a kind."""
+    check_kind(principal, kind)
+    if not principal.may_decide(decision, kind):
+        why = f"{principal.name} has no right to {decision.value} what is {TITLES[kind].lower()}"
+        raise Problem("Forbidden", why)
+
+
+def not_acted(request: Request, title: str, text: str, back: str) -> Response:
+    """Return a page that says why nothing was done."""
+    return show_page(request, "fault.html", 422, title=title, back=back, text=text)
+
+
+async def confirmation_page(
+    call: Call, form: dict[str, str], selection: Selection, fault: str | None = None
 ) -> Response:
-    """Return the confirmation page, with the selection and the form's values."""
+    """Return the confirmation page, with the selection and the form's values.
+
+    It lists each approval with what its saga shows, because each is a decision.
+    """
     kind, verb = form["kind"], form["verb"]
     targets = selection.targets(verb)
     values: dict[str, Any] = {"form": form, "targets": targets, "verb": verb, "kind": kind}
     values |= confirmation_of(kind, verb, targets).of(targets, verb)
-    values |= {"waits": selection.waits, "fault": fault}
-    return show_page(request, "inbox_confirm.html", 422 if fault else 200, here="inbox", **values)
+    values |= {"waits": selection.waits, "fault": fault, "left": selection.left}
+    values |= {"kept": (*FILTERED, "order"), "table": None, "back": back_of(form)}
+    if kind == APPROVAL:
+        values["table"] = await approvals.table_of(call.service, selection.entries)
+    status = 422 if fault else 200
+    return show_page(call.request, "inbox_confirm.html", status, here="inbox", **values)
 
 
 def fault_of(form: dict[str, str]) -> str | None:

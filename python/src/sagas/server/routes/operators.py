@@ -9,12 +9,15 @@ from typing import Any
 from starlette.responses import Response
 
 from sagas.base.errors import SagasError, StepNotWaiting
-from sagas.definition.children import key_of
+from sagas.core.decisions import Decision, Requester, Way, new_bulk
+from sagas.definition.child_sagas import key_of
 from sagas.inspection import attention_pages, lists, names as names_module
 from sagas.inspection.attention_pages import KINDS
 from sagas.inspection.question import Question
 from sagas.server import answers, json_views, problems
-from sagas.server.auth import Permission
+from sagas.server.access import over_http
+from sagas.server.auth import DECISIONS, Permission
+from sagas.server.decision_log import log_decision
 from sagas.server.json_bodies import Json
 from sagas.server.metrics import TYPE
 from sagas.server.operations import Answer, Call, Handler, Routes
@@ -27,10 +30,11 @@ from sagas.storage.filters import Filter
 
 routes = Routes("operators")
 NEEDED_NOTE = Field(
-    Text(most=2000, least=1, strip=True),
+    Text(max_length=2000, min_length=1, strip=True),
     "what was done; stored with the name of the token and the time",
 )
 COMPENSATE = Record("CompensateRequest", {"note": NOTE})
+ERASE = Record("EraseRequest", {}, "An empty object.")
 RESOLVE = Record("ResolveRequest", {"note": NEEDED_NOTE}, example={"note": "bought one by hand"})
 
 
@@ -87,7 +91,7 @@ async def metrics(call: Call) -> Response:
 @routes.post(
     "/v1/sagas/{key}/resolve",
     "resolveSaga",
-    permission=Permission.OPERATE,
+    permission=DECISIONS[Decision.RESOLVE],
     body=RESOLVE,
     answers={200: Answer("The saga is resolved.", answers.RESOLVED)},
     problems=("NoSuchSaga", "StepNotWaiting"),
@@ -98,15 +102,37 @@ async def resolve(call: Call) -> Response:
     The saga is stuck, a compensation failed permanently, or a report was not used.
     """
     await call.service.check_sees(call.principal, call.key)
-    await call.service.store.resolve(call.key, call.body["note"], by=call.principal.name)
+    await call.service.store.resolve(call.key, call.body["note"], by=over_http(call.principal))
+    log_decision(call.principal.name, Decision.RESOLVE)
     call.service.figures.forget()
     return Json({"key": call.key, "resolved": True})
 
 
 @routes.post(
+    "/v1/sagas/{key}/erase",
+    "eraseSaga",
+    permission=DECISIONS[Decision.ERASE],
+    body=ERASE,
+    answers={200: Answer("The data of the saga is erased.", answers.ERASED)},
+    problems=("NoSuchSaga", "NotErasable"),
+)
+async def erase(call: Call) -> Response:
+    """Erase the data of an ended saga.
+
+    Its input, results, errors and labels are erased, also of all sagas below it. Its key stays
+    used, and its events and its plan stay. This cannot be undone, and may be repeated.
+    """
+    await call.service.check_sees(call.principal, call.key)
+    is_new = await call.service.store.erase(call.key, by=over_http(call.principal))
+    log_decision(call.principal.name, Decision.ERASE)
+    call.service.figures.forget()
+    return Json({"key": call.key, "erased": True, "new": is_new})
+
+
+@routes.post(
     "/v1/sagas/{key}/steps/{step}/compensate",
     "compensateStep",
-    permission=Permission.OPERATE,
+    permission=DECISIONS[Decision.COMPENSATE],
     body=COMPENSATE,
     answers={200: Answer("Another saga compensates the step.", answers.COMPENSATED)},
     problems=("NoSuchSaga", "StepNotWaiting"),
@@ -118,8 +144,9 @@ async def compensate(call: Call) -> Response:
     """
     service, step = call.service, call.path["step"]
     await service.check_sees(call.principal, call.key)
-    options = {"by": call.principal.name, "note": call.body["note"]}
+    options = {"by": over_http(call.principal), "note": call.body["note"]}
     await service.in_time(service.store.compensate(call.key, step, **options))
+    log_decision(call.principal.name, Decision.COMPENSATE)
     service.figures.forget()
     return Json({"key": call.key, "step": step, "undo": key_of(call.key, step, undo=True)})
 
@@ -127,7 +154,7 @@ async def compensate(call: Call) -> Response:
 @routes.get(
     "/v1/queues",
     "listQueues",
-    permission=Permission.WORK,
+    permission=Permission.QUEUES,
     answers={200: Answer("The queues of all nodes, by step.", answers.QUEUES)},
 )
 async def queues(call: Call) -> Response:
@@ -159,7 +186,7 @@ STEPS = Record(
         **filters.SAGAS,
         **filters.LABELS,
         "kind": Field(Choice(tuple(KINDS[3:])), "only attempts of this kind"),
-        "step": Field(Text(most=32), "only this step; for a step with items, all of them"),
+        "step": Field(Text(max_length=32), "only this step; for a step with items, all of them"),
         "undo": UNDO,
     },
 )
@@ -226,7 +253,7 @@ async def count_and_act(
 ) -> Response:
     """Count the targets. If it is not a dry run and the count is unchanged, act on each.
 
-    `undoing`: how many are excluded because they undo children.
+    `undoing`: how many are excluded because they undo children or call `on_end`.
     """
     body, (total, targets) = call.body, await call.service.look(question)
     warnings = [] if total else await warnings_of(call, sagas)
@@ -242,6 +269,8 @@ async def count_and_act(
                 "count",
             )
         done, refused = await act_on_each(call.service, targets[: body["limit"]], action)
+        verb = call.request.url.path.rpartition("/")[2]
+        log_decision(call.principal.name, verb, done, len(refused))
     fields = {
         "count": total,
         "dry_run": body["dry_run"],
@@ -306,7 +335,8 @@ def declare_bulk(name: str, body: Record, verb: str, description: str) -> Handle
         if selection["labels"] is not None and not selection["labels"]:
             why = "an empty object selects every saga. Leave out the field to do so"
             raise Problem("InvalidRequest", f"filter.labels: {why}", "filter.labels")
-        options = {"by": call.principal.name, "note": sent["note"]}
+        user = Requester(call.principal.name, Way.HTTP, new_bulk())
+        options = {"by": user, "note": sent["note"]}
         action = action_of(call.service, verb, options, sent.get("result"), sent.get("error"))
         if "kind" not in selection:
             sagas = filters.of(call.principal, selection, "open")
@@ -337,7 +367,7 @@ abort_many = declare_bulk(
     bulk_body("AbortMany", SAGAS, {"note": NOTE}),
     "abort",
     "Abort the open sagas of a filter.\n\nSagas with an earlier abort request, and sagas "
-    f"that undo children, are excluded. {DRY_RUN_FIRST}",
+    f"that undo children or call `on_end`, are excluded. {DRY_RUN_FIRST}",
 )
 resolve_many = declare_bulk(
     "resolve",

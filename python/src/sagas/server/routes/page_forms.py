@@ -2,6 +2,7 @@
 
 from __future__ import annotations
 
+import argparse
 import contextlib
 import functools
 import json
@@ -11,22 +12,35 @@ from typing import Any
 from starlette.requests import Request
 from starlette.responses import RedirectResponse, Response
 
+from sagas.base import options
 from sagas.base.errors import DefinitionError, NoSuchSaga, SagasError
-from sagas.definition import children
-from sagas.inspection import wording
+from sagas.core.decisions import Decision
+from sagas.definition import child_sagas
+from sagas.definition.labels import checked
+from sagas.inspection import views, wording
 from sagas.inspection.views import SagaView, Waits
 from sagas.server import json_bodies, problems
-from sagas.server.access import check_definition, service_of, viewer_of
-from sagas.server.auth import Principal
-from sagas.server.dashboard import address_of, login_redirect, session_and_form, show_page
+from sagas.server.access import (
+    check_definition,
+    check_key,
+    check_permission,
+    on_page,
+    service_of,
+    viewer_of,
+)
+from sagas.server.auth import DECISIONS, Permission, Principal
+from sagas.server.dashboard import address_of, session_and_form, show_page
+from sagas.server.decision_log import log_decision
 from sagas.server.operations import Call, Routes
+from sagas.server.problems import Problem
 from sagas.server.routes import saga_pages
-from sagas.server.routes.sagas import kept_of
+from sagas.server.routes.sagas import MAX_DEADLINE, check_reports, kept_of
 from sagas.server.shapes import Choice, Field, Flag, Text
 
 
 routes = Routes("pages", is_page=True)
 OUTCOME = Choice(("done", "failed", "retry"))
+OUTCOME_DECISIONS = {"done": Decision.COMPLETE, "failed": Decision.FAIL, "retry": Decision.RETRY}
 UNDO = {"undo": Field(Flag(), default=False)}
 ABORT = {
     "title": "Abort this saga?",
@@ -48,8 +62,8 @@ NO_CHILD = (
     "undo, enter null as the key."
 )
 RESOLVE = {
-    "title": "Mark this saga as resolved?",
-    "verb": "Mark as resolved",
+    "title": "Resolve this saga?",
+    "verb": "Resolve it",
     "note_title": "What was done about it (a note)",
     "note_needed": True,
     "text": (
@@ -67,19 +81,43 @@ COMPENSATE: dict[str, Any] = {
 }
 
 
+ERASE: dict[str, Any] = {
+    "title": "Erase the data of this saga?",
+    "verb": "Erase it",
+    "danger": True,
+    "text": (
+        "Its input, results, errors, labels and notes are erased, also of all sagas below it. Its "
+        "key stays used, and its events and its plan stay. Backups and archives still have the "
+        "data. This cannot be undone. It is recorded with your name and the time."
+    ),
+}
+RESTART: dict[str, Any] = {
+    "title": "Restart this saga?",
+    "verb": "Restart it",
+    "asks_key": True,
+    "note_title": "Why (a note)",
+    "text": (
+        "A new saga starts, with the same definition, input and labels. It repeats every effect, "
+        "with new idempotency keys. First repair what this saga has left."
+    ),
+}
+
+
 def confirmation_page(
     request: Request, key: str, question: dict[str, Any], status: int = 200, **more: Any
 ) -> Response:
     """Return the confirmation page for an action on a saga."""
-    crumbs = [("/ui/sagas", "Sagas"), (address_of(key), key)]
-    values = {"here": "sagas", "crumbs": crumbs, **question, **more}
+    crumbs, here = [("/ui/sagas", "Sagas"), (address_of(key), key)], "sagas"
+    if not viewer_of(request).has_permission(Permission.BROWSE):
+        crumbs, here = [("/ui", "Inbox")], "inbox"
+    values = {"here": here, "crumbs": crumbs, **question, **more}
     return show_page(request, "confirm.html", status, **values)
 
 
 async def seen(call: Call) -> SagaView | None:
     """Return the stored view of a saga, or None if the user may not see it."""
     with contextlib.suppress(NoSuchSaga):
-        return await kept_of(call.service, viewer_of(call.request), call.key)
+        return await kept_of(call.service, call.principal, call.key)
     return None
 
 
@@ -108,26 +146,27 @@ def step_question(step: str, outcome: str, undo: bool, approval: bool) -> dict[s
         return approval_question(step, outcome)
     if outcome == "done":
         return {
-            "title": f"Report that {attempt} is done?",
-            "verb": "It is done",
+            "title": f"Complete {attempt}?",
+            "verb": "Complete it",
             "note_title": "A note",
             "asks_result": not undo,
             "text": (
-                "The saga continues with it. Report this only if its effect exists: sagas cannot "
-                "check it."
+                "It reports that the step is done, and the saga continues. Report this only if its "
+                "effect exists: sagas cannot check it."
             ),
         }
     failed_text = (
-        "The step fails permanently, and the saga follows a plan of least cost. Report this "
-        "only if it had no effect: no compensation undoes an effect that you deny."
+        "It reports that the step had no effect. The step fails permanently, and the saga follows "
+        "a plan of least cost. Report this only if it is true: no compensation undoes an effect "
+        "that you deny."
     )
     undo_failed_text = (
         f"The compensation fails permanently, and the effect of {step} stays until an "
         "operator repairs it. This cannot be undone."
     )
     return {
-        "title": f"Report that {attempt} had no effect?",
-        "verb": "It had no effect",
+        "title": f"Fail {attempt}?",
+        "verb": "Fail it",
         "danger": True,
         "note_title": "A note",
         "asks_why": True,
@@ -140,14 +179,14 @@ def approval_question(step: str, outcome: str) -> dict[str, Any]:
     if outcome == "done":
         return {
             "title": f"Approve step {step}?",
-            "verb": "Approve",
+            "verb": "Approve it",
             "note_title": "A note",
             "asks_result": True,
             "text": "The saga continues. Steps that need this one get its result.",
         }
     return {
         "title": f"Refuse step {step}?",
-        "verb": "Refuse",
+        "verb": "Refuse it",
         "danger": True,
         "note_title": "A note",
         "asks_why": True,
@@ -158,10 +197,8 @@ def approval_question(step: str, outcome: str) -> dict[str, Any]:
     }
 
 
-@routes.get("/ui/sagas/{key}/abort")
+@routes.get("/ui/sagas/{key}/abort", permission=DECISIONS[Decision.ABORT])
 async def abort_page(call: Call) -> Response:
-    if answer := login_redirect(call.request):
-        return answer
     effect = await effect_of(call, abort=True)
     return confirmation_page(call.request, call.key, ABORT, effect=effect)
 
@@ -169,7 +206,7 @@ async def abort_page(call: Call) -> Response:
 async def effect_of(call: Call, **event: Any) -> str | None:
     """Describe what an abort, or the end of a step, would do now."""
     with contextlib.suppress(NoSuchSaga):
-        await call.service.check_sees(viewer_of(call.request), call.key)
+        await call.service.check_sees(call.principal, call.key)
         view = await call.service.saga(call.key)
         if view is not None:
             compute = functools.partial(saga_pages.effect, view, **event)
@@ -177,29 +214,30 @@ async def effect_of(call: Call, **event: Any) -> str | None:
     return None
 
 
-@routes.post("/ui/sagas/{key}/abort")
+@routes.post("/ui/sagas/{key}/abort", permission=DECISIONS[Decision.ABORT])
 async def abort(call: Call) -> Response:
     request, key = call.request, call.key
     session, form = await session_and_form(request)
     try:
         service = service_of(request)
         await service.check_sees(session.principal, key)
-        await service.in_time(
-            service.store.abort(key, by=session.principal.name, note=form.get("note") or None)
+        done = await service.in_time(
+            service.store.abort(key, by=on_page(session.principal), note=form.get("note") or None)
         )
     except SagasError as error:
         return confirmation_page(
             request, key, ABORT, 409, fault=str(problems.of(error)), note=form.get("note")
         )
+    log_decision(session.principal.name, Decision.ABORT, int(done), int(not done))
     return back(request, key)
 
 
-@routes.get("/ui/sagas/{key}/resolve")
+@routes.get("/ui/sagas/{key}/resolve", permission=DECISIONS[Decision.RESOLVE])
 async def resolve_page(call: Call) -> Response:
-    return login_redirect(call.request) or confirmation_page(call.request, call.key, RESOLVE)
+    return confirmation_page(call.request, call.key, RESOLVE)
 
 
-@routes.post("/ui/sagas/{key}/resolve")
+@routes.post("/ui/sagas/{key}/resolve", permission=DECISIONS[Decision.RESOLVE])
 async def resolve(call: Call) -> Response:
     request, key = call.request, call.key
     session, form = await session_and_form(request)
@@ -208,22 +246,81 @@ async def resolve(call: Call) -> Response:
         return confirmation_page(request, key, RESOLVE, 422, fault="Describe what was done.")
     try:
         await service_of(request).check_sees(session.principal, key)
-        await service_of(request).store.resolve(key, note, by=session.principal.name)
+        await service_of(request).store.resolve(key, note, by=on_page(session.principal))
     except SagasError as error:
         return confirmation_page(
             request, key, RESOLVE, 409, fault=str(problems.of(error)), note=note
         )
+    log_decision(session.principal.name, Decision.RESOLVE)
     return back(request, key)
 
 
-@routes.get("/ui/sagas/{key}/steps/{step}/compensate")
-async def compensate_page(call: Call) -> Response:
-    return login_redirect(call.request) or confirmation_page(
-        call.request, call.key, compensation_question(call)
+@routes.get("/ui/sagas/{key}/restart", permission=DECISIONS[Decision.RESTART])
+async def restart_page(call: Call) -> Response:
+    view = await seen(call)
+    view = view and views.seen_by(view, call.principal.scope)
+    more: dict[str, Any] = {"new_key": proposed_key(view)} if view else {}
+    if view and view.restarts:
+        keys = ", ".join(link.key for link in view.restarts)
+        more["effect"] = f"Start one more saga, in addition to {keys}"
+    return confirmation_page(call.request, call.key, RESTART, **more)
+
+
+def proposed_key(view: SagaView) -> str:
+    """Return a key for the restart of a saga: operators at the same time get the same one."""
+    return f"{view.key}-{len(view.restarts) + 2}"
+
+
+@routes.post("/ui/sagas/{key}/restart", permission=DECISIONS[Decision.RESTART])
+async def restart(call: Call) -> Response:
+    """Restart the saga, and redirect to the new one."""
+    request, service = call.request, call.service
+    session, form = await session_and_form(request)
+    new_key, note = form.get("key", "").strip(), form.get("note", "").strip()[:2000] or None
+    ask_again = functools.partial(
+        confirmation_page, request, call.key, RESTART, new_key=new_key, note=note
     )
+    if not 0 < len(new_key) <= 512 or new_key in (".", ".."):
+        return ask_again(422, fault="Enter a key of 1 to 512 characters.")
+    try:
+        check_key(session.principal, new_key)
+        await service.restart(
+            session.principal, call.key, new_key, on_page(session.principal), note
+        )
+    except (SagasError, Problem) as error:
+        shown = error if isinstance(error, Problem) else problems.of(error)
+        return ask_again(409, fault=str(shown))
+    log_decision(session.principal.name, Decision.RESTART)
+    return back(request, new_key)
 
 
-@routes.post("/ui/sagas/{key}/steps/{step}/compensate")
+@routes.get("/ui/sagas/{key}/erase", permission=DECISIONS[Decision.ERASE])
+async def erase_page(call: Call) -> Response:
+    """Ask for confirmation before the data of a saga is erased, because this cannot be undone."""
+    return confirmation_page(call.request, call.key, ERASE)
+
+
+@routes.post("/ui/sagas/{key}/erase", permission=DECISIONS[Decision.ERASE])
+async def erase(call: Call) -> Response:
+    """Erase the data of the saga."""
+    request, service = call.request, call.service
+    session, _ = await session_and_form(request)
+    try:
+        await service.check_sees(session.principal, call.key)
+        await service.store.erase(call.key, by=on_page(session.principal))
+    except SagasError as error:
+        return confirmation_page(request, call.key, ERASE, 409, fault=str(problems.of(error)))
+    log_decision(session.principal.name, Decision.ERASE)
+    service.figures.forget()
+    return back(request, call.key)
+
+
+@routes.get("/ui/sagas/{key}/steps/{step}/compensate", permission=DECISIONS[Decision.COMPENSATE])
+async def compensate_page(call: Call) -> Response:
+    return confirmation_page(call.request, call.key, compensation_question(call))
+
+
+@routes.post("/ui/sagas/{key}/steps/{step}/compensate", permission=DECISIONS[Decision.COMPENSATE])
 async def compensate(call: Call) -> Response:
     request, key, question = call.request, call.key, compensation_question(call)
     session, form = await session_and_form(request)
@@ -233,12 +330,13 @@ async def compensate(call: Call) -> Response:
         await service.check_sees(session.principal, key)
         step = call.path["step"]
         await service.in_time(
-            service.store.compensate(key, step, by=session.principal.name, note=note)
+            service.store.compensate(key, step, by=on_page(session.principal), note=note)
         )
     except SagasError as error:
         return confirmation_page(
             request, key, question, 409, fault=str(problems.of(error)), note=note
         )
+    log_decision(session.principal.name, Decision.COMPENSATE)
     return back(request, key)
 
 
@@ -247,9 +345,26 @@ def compensation_question(call: Call) -> dict[str, Any]:
     return COMPENSATE | {"title": f"Compensate step {call.path['step']}?"}
 
 
-@routes.get("/ui/sagas/{key}/steps/{step}/{outcome}", parts={"outcome": OUTCOME}, query=UNDO)
+@routes.get(
+    "/ui/sagas/{key}/steps/{step}/{outcome}",
+    permission=Permission.APPROVE,
+    parts={"outcome": OUTCOME},
+    query=UNDO,
+)
 async def step_page(call: Call) -> Response:
-    return login_redirect(call.request) or await step_confirmation(call, await seen(call))
+    await check_outcome(call)
+    return await step_confirmation(call, await seen(call))
+
+
+async def check_outcome(call: Call) -> None:
+    """Raise `Problem` if the principal may not report this outcome of the step.
+
+    The rules are those of the routes of the API.
+    """
+    if call.path["outcome"] == "retry":
+        check_permission(call.principal, DECISIONS[Decision.RETRY])
+    if not call.principal.has_permission(Permission.OPERATE):
+        await check_reports(call, call.key, call.path["step"], call.query["undo"])
 
 
 async def step_confirmation(
@@ -264,7 +379,7 @@ async def step_confirmation(
     approval = view is not None and await is_approval(call, view, name, undo)
     question = step_question(name, outcome, undo, approval)
     if view is not None:
-        question["given"] = [("Input", view.input), ("Results in effect", view.results)]
+        question["given"] = await shown_of(call, view)
         question["waits"] = wait_name_of(view, name, undo)
         if outcome == "done" and not undo and (child := child_of(view, name)):
             question["result"], question["text"] = (
@@ -276,10 +391,24 @@ async def step_confirmation(
     return confirmation_page(call.request, call.key, question, status, **more)
 
 
+async def shown_of(call: Call, view: SagaView) -> list[tuple[str, Any]]:
+    """Return what the page of a step's end shows of the saga, each with its title.
+
+    Users who may not see the saga see only the fields that the approval shows.
+    """
+    shown = await call.service.shown_fields.of_step(view, call.path["step"])
+    parts: list[tuple[str, Any]] = [("Shown fields", shown)] if shown else []
+    if call.principal.has_permission(Permission.BROWSE):
+        parts += [("Input", view.input), ("Results in effect", view.results)]
+    return parts
+
+
 def child_of(view: SagaView, step: str) -> str | None:
     """Return the key of the last child that a step of a saga started."""
-    keys = [child.key for child in view.children if children.is_of_step(child.key, view.key, step)]
-    return None if children.undoes_child(view.key) else next(reversed(keys), None)
+    keys = [
+        child.key for child in view.children if child_sagas.is_of_step(child.key, view.key, step)
+    ]
+    return None if child_sagas.undoes_child(view.key) else next(reversed(keys), None)
 
 
 def child_result(key: str) -> str:
@@ -302,9 +431,15 @@ def result_of(form: dict[str, str]) -> Any:
     return json_bodies.read_text(text or "null")
 
 
-@routes.post("/ui/sagas/{key}/steps/{step}/{outcome}", parts={"outcome": OUTCOME}, query=UNDO)
+@routes.post(
+    "/ui/sagas/{key}/steps/{step}/{outcome}",
+    permission=Permission.APPROVE,
+    parts={"outcome": OUTCOME},
+    query=UNDO,
+)
 async def report_step(call: Call) -> Response:
     session, form = await session_and_form(call.request)
+    await check_outcome(call)
     view = await seen(call)
     ask_again = functools.partial(
         step_confirmation,
@@ -344,7 +479,7 @@ async def report(call: Call, principal: Principal, form: dict[str, str], result:
     service, step, outcome = call.service, call.path["step"], call.path["outcome"]
     await service.check_sees(principal, call.key)
     note = form.get("note") or None
-    options: dict[str, Any] = {"undo": call.query["undo"], "by": principal.name, "note": note}
+    options: dict[str, Any] = {"undo": call.query["undo"], "by": on_page(principal), "note": note}
     if outcome == "retry":
         work = service.store.retry(call.key, step, **options)
     elif outcome == "done":
@@ -352,12 +487,14 @@ async def report(call: Call, principal: Principal, form: dict[str, str], result:
     else:
         work = service.store.fail(call.key, step, form["failed"].strip()[:2000], **options)
     await service.in_time(work)
+    log_decision(principal.name, OUTCOME_DECISIONS[outcome])
 
 
 def back(request: Request, key: str) -> Response:
-    """Redirect to the saga, and drop the cached figures."""
+    """Redirect to the saga, or to the inbox if the user may not see it. Drop the cached figures."""
     service_of(request).figures.forget()
-    return RedirectResponse(address_of(key), 303)
+    may_see = viewer_of(request).has_permission(Permission.BROWSE)
+    return RedirectResponse(address_of(key) if may_see else "/ui", 303)
 
 
 # -- what a step waits for
@@ -368,6 +505,8 @@ REASONS = {
     "exhausted": "its attempts are used up again",
     "approval": "it waits for a decision now",
     "cannot_decode": "its stored value cannot be read",
+    "program_error": "its program has the error again",
+    "no_definition": "its node does not have its definition",
 }
 
 
@@ -399,7 +538,7 @@ def wait_description_of(view: SagaView, step: str, undo: bool, now: float) -> st
     if held is None or (held.why in ("unknown", "retry") and held.until is not None):
         return "it is being called again, or will be soon"
     if held.why == "external":
-        return f"the worker {held.said} claimed it {wording.ago(now - held.since)}"
+        return f"the worker {held.detail} claimed it {wording.ago(now - held.since)}"
     return REASONS.get(held.why, "it waits for something else")
 
 
@@ -420,14 +559,43 @@ def start_form_page(
     )
 
 
-@routes.get("/ui/start", query={"definition": Field(Text(most=64), default="")})
+@routes.get(
+    "/ui/start",
+    permission=Permission.START,
+    query={"definition": Field(Text(max_length=64), default="")},
+)
 async def start_page(call: Call) -> Response:
-    return login_redirect(call.request) or start_form_page(
-        call.request, {"definition": call.query["definition"]}
+    return start_form_page(call.request, {"definition": call.query["definition"]})
+
+
+def labels_in(text: str) -> dict[str, str] | None:
+    """Return the labels of a form, one on each line. Raises `ValueError`."""
+    lines = [line.strip() for line in text.splitlines() if line.strip()]
+    if any("=" not in line for line in lines):
+        raise ValueError("a label must be NAME=VALUE, for example customer=7, each on its own line")
+    labels = {name.strip(): value.strip() for name, _, value in (a.partition("=") for a in lines)}
+    if len(labels) < len(lines):
+        raise ValueError("a label occurs twice: give each name once")
+    return labels or None
+
+
+def deadline_in(text: str) -> float | None:
+    """Return the seconds until a saga is aborted; None for those of its definition.
+
+    Raises `ValueError`.
+    """
+    if not text.strip():
+        return None
+    with contextlib.suppress(argparse.ArgumentTypeError):
+        if (seconds := options.age(text.strip())) <= MAX_DEADLINE:
+            return seconds
+    raise ValueError(
+        "the deadline must be an integer and a unit s, m, h, d or w, for example 30m, and at most "
+        "100 years"
     )
 
 
-@routes.post("/ui/start")
+@routes.post("/ui/start", permission=Permission.START)
 async def start(call: Call) -> Response:
     """Start the saga, and redirect to it. It may exist already with the same input."""
     request = call.request
@@ -450,12 +618,15 @@ async def start(call: Call) -> Response:
             f"The input is not valid JSON: {error}. Write a text in quotation marks.",
             422,
         )
+    try:
+        labels, deadline = labels_in(form.get("labels", "")), deadline_in(form.get("deadline", ""))
+    except ValueError as error:
+        return start_form_page(request, form, f"{error}.", 422)
     definition = form.get("definition", "")
     check_definition(session.principal, definition)
     try:
         saga = service.saga_named(session.principal, definition, None)
-        await service.start(session.principal, size, saga, key, input)
+        await service.start(session.principal, size, saga, key, input, checked(labels), deadline)
     except SagasError as error:
         return start_form_page(request, form, str(problems.of(error)), 409)
-    service.figures.forget()
-    return RedirectResponse(address_of(key), 303)
+    return back(request, key)

@@ -4,6 +4,7 @@ from __future__ import annotations
 
 import datetime
 import logging
+import re
 import time
 from typing import Any
 from urllib.parse import urlencode
@@ -12,22 +13,24 @@ from starlette.requests import Request
 from starlette.responses import RedirectResponse, Response
 
 from sagas.base.errors import SagasError
-from sagas.definition.labels import checked
-from sagas.inspection import lists, pages as pages_module, wording
+from sagas.core.results import Summary
+from sagas.inspection import lists, page_waits, pages as pages_module, wording
 from sagas.inspection.lists import COUNTED
+from sagas.inspection.page_waits import PageWait
+from sagas.inspection.question import Question
 from sagas.server import renderer
 from sagas.server.access import (
+    SESSION,
     address,
     begin_session,
     cookie_of,
     current_session,
     service_of,
-    session_of,
-    viewer_of,
 )
-from sagas.server.auth import Permission, Principal
-from sagas.server.dashboard import form_of, login_redirect, page, session_and_form, show_page
+from sagas.server.auth import Permission, Principal, roles_with
+from sagas.server.dashboard import form_of, page, session_and_form, show_page
 from sagas.server.event_stream import Listener
+from sagas.server.figures import Phases
 from sagas.server.operations import Call, Routes
 from sagas.server.problems import Problem
 from sagas.server.routes import filters
@@ -35,11 +38,15 @@ from sagas.server.routes.filters import CURSOR
 from sagas.server.routes.sagas import stream
 from sagas.server.shapes import Field, Text
 from sagas.server.table_rows import FEW, folded
-from sagas.storage.filters import NOTHING, Filter
+from sagas.storage.filters import NOTHING, Filter, Scope
 
 routes = Routes("pages", is_page=True)
 logger = logging.getLogger("sagas.server")
 LISTED, MAX_CLAIMED = 50, 100
+FOR_OPERATOR = "operator"
+"""The tab of open sagas that wait for an operator."""
+TABS = ("open", FOR_OPERATOR, "stuck", "completed", "recovered", "undo_failed", "resolved")
+DAY = re.compile(r"\d{4}-\d\d-\d\d")
 RECENTLY = 300.0  # seconds since a worker asked; one that is at a long task asks for none
 
 
@@ -84,27 +91,28 @@ async def login_page(call: Call) -> Response:
 
 @routes.post("/ui/login")
 async def login(call: Call) -> Response:
-    """Start a session with an operator's token."""
+    """Start a session with the token of a person."""
     request = call.request
     service, form = service_of(request), await form_of(request)
     if service.tokens is None:
         return RedirectResponse("/ui", 303)
     principal = service.tokens.find(form.get("token", "").strip())
     wanted = form.get("next", "/ui")
-    if principal is None or not principal.has_permission(Permission.OPERATE):
+    if principal is None or not principal.has_permission(Permission.LOG_IN):
         fault = (
-            "This token does not have the role operator."
+            f"This token does not have the role {' or '.join(roles_with(Permission.LOG_IN))}."
             if service.refusals.take(address(request))
             else "Too many invalid tokens from this address. Try again later."
         )
         return page(request, "login.html", None, 403, next=wanted, fault=fault)
-    response = RedirectResponse(wanted if service.is_page(wanted) else "/ui", 303)
+    target = wanted if service.is_page(wanted, principal) else "/ui"
+    response = RedirectResponse(target, 303)
     begin_session(request, response, principal)
     logger.info("%s has logged in", principal.name)
     return response
 
 
-@routes.post("/ui/logout")
+@routes.post("/ui/logout", permission=Permission.LOG_IN)
 async def logout(call: Call) -> Response:
     request = call.request
     await session_and_form(request)
@@ -115,35 +123,35 @@ async def logout(call: Call) -> Response:
     return response
 
 
-TEXT = Field(Text(most=512), default=None)
+TEXT = Field(Text(max_length=512), default=None)
 FILTERED = ("phase", "search", "definition", "label", "error", "since", "until")
 LIST = {name: TEXT for name in FILTERED} | {
     name: Field(CURSOR, default=None) for name in ("before", "after")
 }
 
 
-@routes.get("/ui/sagas", query=LIST)
+@routes.get("/ui/sagas", permission=Permission.BROWSE, query=LIST)
 async def listed(call: Call) -> Response:
     """Show a page of the list, newest first."""
     request = call.request
-    if answer := login_redirect(request):
-        return answer
-    service, principal = service_of(request), viewer_of(request)
+    service, principal = call.service, call.principal
     since, before, after = service.hub.now, call.query["before"], call.query["after"]
     parameters = {name: call.query[name] for name in FILTERED}
-    parameters["phase"] = parameters["phase"] if parameters["phase"] in wording.PHASES else None
-    phase, fault = parameters["phase"], None
+    if parameters["phase"] not in (*wording.PHASES, FOR_OPERATOR):
+        parameters["phase"] = None
+    fault = None
     counts, needing = await service.figures.of(principal.scope)
     bounds: dict[str, Any] = {"limit": LISTED + 1}
     bounds |= {"before": filters.position_of(before), "after": filters.position_of(after)}
     try:
         selected = filter_of(parameters, principal)
     except (ValueError, SagasError) as error:
-        fault, selected = f"{error}.", Filter(phase, scope=NOTHING)
+        fault, selected = f"{error}.", Filter(scope=NOTHING)
     sagas = await service.look(pages_module.page(of=selected, **bounds))
     more, sagas = len(sagas) > LISTED, sagas[:LISTED]
     if after is not None:
         sagas.reverse()
+    waits, for_operator = await service.look(waits_of(sagas, principal.scope))
     cursors = [
         filters.cursor_of(pages_module.position_of(summary)) for summary in sagas[:1] + sagas[-1:]
     ]
@@ -158,25 +166,18 @@ async def listed(call: Call) -> Response:
         }
         return f"/ui/sagas?{urlencode(query)}" if query else "/ui/sagas"
 
-    total = {name: sum(selected[name] for selected in counts.values()) for name in COUNTED}
-    shown_of = {**total, "undo_failed": needing["undo_failed"]}
-    tabs = [
-        (None, "All", sum(total.values())),
-        *(
-            (name, wording.PHASES[name], shown_of[name])
-            for name in ("open", "stuck", "completed", "recovered", "undo_failed", "resolved")
-        ),
-    ]
     is_first = before is None and after is None
     return show_page(
         request,
         "list.html",
         here="sagas",
-        tabs=tabs,
-        given=parameters,
+        tabs=tabs_of(counts, needing, for_operator),
+        parameters=parameters,
+        moments={name: moment_text(parameters[name], name) for name in ("since", "until")},
         fault=fault,
         counts=counts,
         sagas=sagas,
+        waits=waits,
         newer=newer,
         older=older,
         url=url,
@@ -185,36 +186,66 @@ async def listed(call: Call) -> Response:
     )
 
 
+def tabs_of(
+    counts: Phases, needing: dict[str, int], for_operator: int
+) -> list[tuple[str | None, str, int]]:
+    """Return the tabs of the list: the phase, the title and the number of each."""
+    total = {name: sum(phases[name] for phases in counts.values()) for name in COUNTED}
+    shown = {**total, FOR_OPERATOR: for_operator, "undo_failed": needing["undo_failed"]}
+    titles = {**wording.PHASES, FOR_OPERATOR: "For an operator"}
+    return [
+        (None, "All", sum(total.values())),
+        *((name, titles[name], shown[name]) for name in TABS),
+    ]
+
+
+def waits_of(sagas: list[Summary], scope: Scope) -> Question[tuple[dict[int, list[PageWait]], int]]:
+    """Return what these sagas wait for, and how many of a scope wait for an operator."""
+    return (yield from page_waits.page_waits(sagas)), (yield from page_waits.for_operator(scope))
+
+
+def moment_text(text: str | None, name: str) -> str:
+    """Return a time for its field. A day without a time begins or ends there."""
+    if text and DAY.fullmatch(text):
+        return f"{text}T{'00:00' if name == 'since' else '23:59'}"
+    return text or ""
+
+
+def moment_of(parameters: dict[str, Any], name: str) -> float | None:
+    """Return a time in seconds. The last minute belongs to the range. Raises `ValueError`."""
+    text = moment_text(parameters[name], name)
+    if not text:
+        return None
+    try:
+        moment = datetime.datetime.fromisoformat(text).replace(tzinfo=datetime.timezone.utc)
+    except ValueError:
+        raise ValueError(
+            f"{name} must be a time, for example 2027-01-31T12:00 or 2027-01-31"
+        ) from None
+    return moment.timestamp() + (60 if name == "until" else 0)
+
+
 def filter_of(parameters: dict[str, Any], principal: Principal) -> Filter:
     """Return the filter of the list. Raises `ValueError`, `InvalidLabel`."""
-    label = (parameters["label"] or "").partition("=")
-    if parameters["label"] and not label[1]:
-        raise ValueError("a label must be NAME=VALUE, for example customer=7")
-    days: list[float | None] = []
-    for name, more in (("since", 0), ("until", 1)):
-        day = parameters[name] and datetime.datetime.fromisoformat(
-            f"{parameters[name]}T00:00:00+00:00"
-        )
-        days.append(day.timestamp() + more * 86400 if day else None)
+    is_for_operator = parameters["phase"] == FOR_OPERATOR
     return Filter(
-        phase=parameters["phase"],
+        phase="open" if is_for_operator else parameters["phase"],
         saga=parameters["definition"],
-        labels=checked({label[0]: label[2]} if label[1] else None),
+        labels=filters.label_filter(parameters["label"]),
         search=parameters["search"],
         scope=principal.scope,
-        started_after=days[0],
-        started_before=days[1],
+        started_after=moment_of(parameters, "since"),
+        started_before=moment_of(parameters, "until"),
         error=parameters["error"],
+        is_for_operator=is_for_operator,
     )
 
 
-@routes.get("/ui/workers")
+@routes.get("/ui/workers", permission=Permission.BROWSE)
 async def workers(call: Call) -> Response:
     """Show the tasks that wait for workers, and the workers."""
     request = call.request
-    if answer := login_redirect(request):
-        return answer
-    service, principal = service_of(request), viewer_of(request)
+    service, principal = call.service, call.principal
     since = service.hub.now
     claimed = await service.look(
         lists.waits(MAX_CLAIMED, person=False, why="external", scope=principal.scope)
@@ -228,6 +259,7 @@ async def workers(call: Call) -> Response:
             (queue, [worker.name for worker in capable if now - worker.at < RECENTLY], capable[:1])
         )
     known = service.task_names()
+    known |= {f"{name}/undo" for name in known}  # a worker may ask for what no step has to undo
     unknown_steps = {
         worker.name: [step for step in worker.steps if step not in known] for worker in seen
     }
@@ -241,19 +273,22 @@ async def workers(call: Call) -> Response:
         workers=seen,
         strange=unknown_steps,
         claimed=claimed,
-        most_claimed=MAX_CLAIMED,
+        max_claimed=MAX_CLAIMED,
         few=FEW,
         now=now,
     )
 
 
 @routes.get(
-    "/ui/events", streams=True, query={"key": TEXT, "since": Field(Text(most=40), default=None)}
+    "/ui/events",
+    permission=Permission.LOG_IN,
+    streams=True,
+    query={"key": TEXT, "since": Field(Text(max_length=40), default=None)},
 )
 async def events(call: Call) -> Response:
     """Stream the events that update a page, from the moment `since` at which it was requested."""
     request, key, since = call.request, call.query["key"], call.query["since"]
-    session = session_of(request)
+    session = request.scope[SESSION]
     if session is None:
         raise Problem("NoSession", "log in first")
     principal = session.principal

@@ -12,8 +12,11 @@ from urllib.parse import quote
 from starlette.requests import Request
 from starlette.responses import PlainTextResponse, Response
 
-from sagas.base.errors import DefinitionError, NoSuchSaga
-from sagas.definition import children, tracing
+from sagas.api.store import Run
+from sagas.base.errors import DefinitionError, KeyConflict, NoSuchSaga
+from sagas.core.decisions import Decision
+from sagas.definition import child_sagas, tracing
+from sagas.definition.saga import Saga
 from sagas.engine.plan import certificate_text
 from sagas.inspection import (
     pages,
@@ -30,12 +33,14 @@ from sagas.server.access import (
     check_key,
     client_key,
     is_unchanged,
+    over_http,
     service_of,
     wait_for,
     waiting,
 )
 from sagas.server.answers import TIMELINE
-from sagas.server.auth import Permission, Principal
+from sagas.server.auth import DECISIONS, Permission, Principal
+from sagas.server.decision_log import log_decision
 from sagas.server.event_stream import Listener, Stream
 from sagas.server.json_bodies import Json, parted, tagged
 from sagas.server.limits import RequestKind
@@ -60,24 +65,34 @@ routes = Routes("sagas", "/v1")
 LONGEST = 60.0  # seconds that a wait may take
 FEW = 16
 """Maximum number of steps of a saga whose answer is serialized at once, if no value is large."""
-KEY = Text(most=512, least=1)
-LABELS = Mapped(Text(most=256))
+KEY = Text(max_length=512, min_length=1)
+LABELS = Mapped(Text(max_length=256))
 VERSION = Nullable(Number(1, 1_000_000_000, whole=True))
-DEADLINE = Nullable(Number(0.0, 100 * 365.25 * 86_400))
+MAX_DEADLINE = 100 * 365.25 * 86_400
+"""Maximum seconds of a deadline: a hundred years."""
+DEADLINE = Nullable(Number(0.0, MAX_DEADLINE))
 TRACE = {"traceparent": Field(Text(), "the W3C trace context of its start", default=None)}
 NOTE = Field(
-    Nullable(Text(most=2000)),
+    Nullable(Text(max_length=2000)),
     "the reason; stored with the name of the token and the time",
     default=None,
 )
 UNDO = Field(Flag(), "whether the report is about the compensation", default=False)
 EARLY = Field(Flag(), "if the step has not started, store the report until it begins", default=True)
-ERROR = Field(Text(most=4000), "the reason", example="too expensive")
+ERROR = Field(Text(max_length=4000), "the reason", example="too expensive")
 REPORT = {"undo": UNDO, "early": EARLY, "note": NOTE}
+RESTART = Record(
+    "RestartRequest",
+    {
+        "key": Field(KEY, "the key of the new saga, as in `startSaga`"),
+        "note": NOTE,
+    },
+    example={"key": "order-1-2", "note": "back in stock"},
+)
 START = Record(
     "StartRequest",
     {
-        "definition": Field(Text(most=64), "the name of the definition"),
+        "definition": Field(Text(max_length=64), "the name of the definition"),
         "key": Field(
             KEY,
             "the key of the saga: repeating a start with the same key and input returns the same "
@@ -85,7 +100,12 @@ START = Record(
         ),
         "input": Field(Anything(), "the input for its steps", default=None),
         "labels": Field(LABELS, "texts by name, for filters of lists", default=None),
-        "version": Field(VERSION, "the version; default: the newest", default=None),
+        "version": Field(
+            VERSION,
+            "the version. If the key has a saga of another version, the response is 409. Default: "
+            "the newest for a new saga, and any for an existing one",
+            default=None,
+        ),
         "deadline": Field(
             DEADLINE,
             "seconds until it is aborted; default: that of its definition. 0 aborts it at once",
@@ -108,7 +128,7 @@ SUPPOSE = Record(
     "WhatIfRequest",
     {
         "abort": Field(Flag(), "abort the saga", default=False),
-        "fail": Field(Nullable(Text(most=32)), "let this step fail", default=None),
+        "fail": Field(Nullable(Text(max_length=32)), "let this step fail", default=None),
     },
     "Exactly one of both.",
     {"abort": True},
@@ -182,28 +202,89 @@ def there(view: SagaView | None, key: str) -> SagaView:
         "NotSerializable",
         "TooLarge",
         "QuotaExceeded",
+        "StartsPaused",
         "OwnerUnavailable",
     ),
 )
 async def start(call: Call) -> Response:
     """Start a saga.
 
-    The saga is stored before the response is sent. Repeat the request until it is answered.
+    The saga is stored before the response is sent. Repeat the request until it is answered. The
+    response has the version of the stored saga.
     """
     key, name = call.body["key"], call.body["definition"]
-    if key in (".", ".."):
-        raise Problem(
-            "InvalidKey", f"the key {key!r} cannot be used in a URL: use another key", "key"
-        )
     check_definition(call.principal, name)
-    check_key(call.principal, key)
+    check_new_key(call.principal, key)
     saga = call.service.saga_named(call.principal, name, call.body["version"])
     arguments = [call.body[field] for field in ("input", "labels", "deadline")]
     arguments.append(trace_of(call.request))
     size: int = call.request.scope[SIZE]
     run = await call.service.start(call.principal, size, saga, key, *arguments)
-    fields = {"key": key, "definition": saga.name, "version": saga.version, "new": run.new}
-    return Json(fields, 201 if run.new else 200, {"Location": f"/v1/sagas/{quote(key, safe='')}"})
+    version = saga.version if run.new else await call.service.version_of(key, saga.version)
+    if call.body["version"] not in (None, version):
+        raise KeyConflict(
+            f"the key {key!r} belongs to a saga of version {version}, not {call.body['version']}. "
+            "Use another key, or leave out the version"
+        )
+    return started(saga, run, version)
+
+
+@routes.post(
+    "/sagas/{key}/restart",
+    "restartSaga",
+    permission=DECISIONS[Decision.RESTART],
+    body=RESTART,
+    answers={
+        201: Answer(
+            "The new saga was started.",
+            answers.STARTED,
+            headers={"Location": "the path of the new saga"},
+        ),
+        200: Answer("The saga was already restarted under this key.", answers.STARTED),
+    },
+    problems=(
+        "NoSuchSaga",
+        "NoSuchDefinition",
+        "NotRestartable",
+        "KeyConflict",
+        "InvalidKey",
+        "InvalidInput",
+        "TooLarge",
+        "QuotaExceeded",
+        "StartsPaused",
+        "OwnerUnavailable",
+    ),
+)
+async def restart(call: Call) -> Response:
+    """Start an ended saga again, under a new key.
+
+    The new saga has the input and labels of the old one, and its definition as the service has it
+    today, in the same version. The old saga is stuck, recovered or resolved, and stays unchanged.
+    The two refer to one another. Repeat the request until it is answered.
+    """
+    new_key = call.body["key"]
+    check_new_key(call.principal, new_key)
+    saga, run = await call.service.restart(
+        call.principal, call.key, new_key, over_http(call.principal), call.body["note"]
+    )
+    log_decision(call.principal.name, Decision.RESTART)
+    return started(saga, run, saga.version)
+
+
+def check_new_key(principal: Principal, key: str) -> None:
+    """Raise `Problem` if the token may not start a saga with this key, or no URL can have it."""
+    if key in (".", ".."):
+        raise Problem(
+            "InvalidKey", f"the key {key!r} cannot be used in a URL: use another key", "key"
+        )
+    check_key(principal, key)
+
+
+def started(saga: Saga[Any], run: Run, version: int) -> Response:
+    """Return the response to a start."""
+    fields = {"key": run.key, "definition": saga.name, "version": version, "new": run.new}
+    location = f"/v1/sagas/{quote(run.key, safe='')}"
+    return Json(fields, 201 if run.new else 200, {"Location": location})
 
 
 @routes.get(
@@ -272,7 +353,7 @@ async def wait(call: Call) -> Response:
     """
     await call.service.check_sees(call.principal, call.key)
     with waiting(call.request, call.principal, RequestKind.WAIT):
-        ending = asyncio.ensure_future(call.service.store.over(call.key))
+        ending = asyncio.ensure_future(call.service.store._over(call.key))
         if await wait_for(call.request, call.principal, ending, call.query["seconds"]):
             ending.result()  # raises if the saga does not exist
     if call.request.scope[GONE].done():
@@ -283,7 +364,7 @@ async def wait(call: Call) -> Response:
 @routes.post(
     "/sagas/{key}/abort",
     "abortSaga",
-    permission=Permission.START,
+    permission=DECISIONS[Decision.ABORT],
     body=WHY,
     answers={200: Answer("Whether it was aborted now.", answers.ABORTED)},
     problems=("NoSuchSaga", "NotAbortable", "OwnerUnavailable"),
@@ -292,11 +373,14 @@ async def abort(call: Call) -> Response:
     """Abort a saga.
 
     No further step starts, and the saga is undone by a least-cost plan. A saga that undoes a
-    child cannot be aborted.
+    child, or calls `on_end`, cannot be aborted.
     """
     service, note = call.service, call.body["note"]
     await service.check_sees(call.principal, call.key)
-    done = await service.in_time(service.store.abort(call.key, by=call.principal.name, note=note))
+    done = await service.in_time(
+        service.store.abort(call.key, by=over_http(call.principal), note=note)
+    )
+    log_decision(call.principal.name, Decision.ABORT, int(done), int(not done))
     return Json({"key": call.key, "aborted": done})
 
 
@@ -321,7 +405,7 @@ async def what_if(call: Call) -> Response:
     if view.phase != "open":
         raise Problem("SagaOver", f"saga {call.key!r} is {view.phase}: there is nothing to plan")
     if suppose["abort"]:
-        children.check_abortable(call.key)
+        child_sagas.check_abortable(call.key)
 
     def answer() -> Response:
         try:
@@ -386,6 +470,22 @@ async def certificate(call: Call) -> Response:
     return Json(json_views.certificate(view.plan))
 
 
+@routes.get(
+    "/sagas/{key}/export",
+    "exportSaga",
+    permission=Permission.LOOK,
+    problems=("NoSuchSaga",),
+    answers={200: Answer("The saga.", answers.EXPORT)},
+)
+async def export(call: Call) -> Response:
+    """Get all that is stored of a saga, with its definition and its log.
+
+    The planner page replays it event by event.
+    """
+    view, now = await view_of(call), call.service.store._now()
+    return await call.service.threads.answers.do(lambda: Json(json_views.export(view, now)))
+
+
 async def check_reports(call: Call, key: str, step: str, undo: bool) -> None:
     """Raise `Problem` if the principal may not report this step."""
     principal = call.principal
@@ -406,7 +506,7 @@ async def decided(call: Call, outcome: str, value: Any) -> Response:
     step, body, store = call.path["step"], call.body, call.service.store
     await check_reports(call, call.key, step, body["undo"])
     options = {name: body[name] for name in ("undo", "early", "note") if name in body}
-    options["by"] = call.principal.name
+    options["by"] = over_http(call.principal)
     commands: dict[str, Any] = {
         "complete": store.complete,
         "fail": store.fail,
@@ -414,13 +514,14 @@ async def decided(call: Call, outcome: str, value: Any) -> Response:
     }
     value = () if outcome == "retry" else (value,)
     await call.service.in_time(commands[outcome](call.key, step, *value, **options))
+    log_decision(call.principal.name, outcome)
     return Json({"key": call.key, "step": step, "kept": True})
 
 
 @routes.post(
     "/sagas/{key}/steps/{step}/complete",
     "completeStep",
-    permission=Permission.APPROVE,
+    permission=DECISIONS[Decision.COMPLETE],
     body=COMPLETE,
     answers=DECIDED,
     problems=(
@@ -446,7 +547,7 @@ async def complete(call: Call) -> Response:
 @routes.post(
     "/sagas/{key}/steps/{step}/fail",
     "failStep",
-    permission=Permission.APPROVE,
+    permission=DECISIONS[Decision.FAIL],
     body=FAIL,
     answers=DECIDED,
     problems=("NoSuchSaga", "StepNotWaiting", "ConflictingReport", "OwnerUnavailable"),
@@ -462,7 +563,7 @@ async def fail(call: Call) -> Response:
 @routes.post(
     "/sagas/{key}/steps/{step}/retry",
     "retryStep",
-    permission=Permission.OPERATE,
+    permission=DECISIONS[Decision.RETRY],
     body=RETRY,
     answers=DECIDED,
     problems=("NoSuchSaga", "StepNotWaiting", "OwnerUnavailable"),
@@ -483,8 +584,8 @@ async def retry(call: Call) -> Response:
     streams=True,
     problems=("TooManyStreams",),
     query={
-        "key": Field(Text(most=512), "only events of this saga", default=None),
-        "definition": Field(Text(most=64), "only events of this definition", default=None),
+        "key": Field(Text(max_length=512), "only events of this saga", default=None),
+        "definition": Field(Text(max_length=64), "only events of this definition", default=None),
     },
     answers={200: Answer("Server-sent events.", media_type="text/event-stream")},
 )
@@ -539,11 +640,12 @@ def stream(
 async def log(call: Call) -> Response:
     """Get the history of a saga.
 
-    Returns each event with its time and result, and the commands of operators.
+    Returns each event with its time and result, the commands of operators, and the repeated calls
+    of attempts.
     """
-    view = await kept_of(call.service, call.principal, call.key)
+    view, now = await kept_of(call.service, call.principal, call.key), call.service.store._now()
     return await call.service.threads.answers.do(
-        lambda: parted({"events": json_views.log(view)}, "events")
+        lambda: parted({"events": json_views.log(view, now)}, "events")
     )
 
 
@@ -557,7 +659,8 @@ async def log(call: Call) -> Response:
 async def timeline(call: Call) -> Response:
     """Get when each attempt of a saga was queued, ran, waited and backed off.
 
-    Returns also the workers that had it, and the decisions of operators with their reasons.
+    Returns also each call with its node, the workers that had it, and the decisions of operators
+    with their reasons.
     """
-    view, now = await view_of(call), call.service.store.now()
+    view, now = await view_of(call), call.service.store._now()
     return await call.service.threads.answers.do(lambda: Json(json_views.timeline(view, now)))

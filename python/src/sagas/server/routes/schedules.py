@@ -15,9 +15,9 @@ from sagas.definition.payloads import unescaped_value
 from sagas.definition.timing import key_of
 from sagas.inspection import lists
 from sagas.server import answers, json_views, problems
-from sagas.server.access import service_of, viewer_of
+from sagas.server.access import service_of
 from sagas.server.auth import Permission, Principal
-from sagas.server.dashboard import login_redirect, session_and_form, show_page
+from sagas.server.dashboard import session_and_form, show_page
 from sagas.server.json_bodies import Json
 from sagas.server.operations import Answer, Call, Handler, Routes
 from sagas.server.service import Service
@@ -26,7 +26,7 @@ from sagas.storage.schedules import Schedule
 
 logger = logging.getLogger("sagas.server")
 routes = Routes("operators", "/v1/schedules")
-NAME = Text(most=128, least=1)
+NAME = Text(max_length=128, min_length=1)
 DONE = {"pause": "paused", "resume": "resumed", "remove": "removed"}
 
 
@@ -112,12 +112,10 @@ REMOVE: dict[str, Any] = {
 }
 
 
-@page_routes.get("/ui/schedules")
+@page_routes.get("/ui/schedules", permission=Permission.BROWSE)
 async def schedules_page(call: Call) -> Response:
     """Show the schedules, by name."""
-    return login_redirect(call.request) or await shown_schedules(
-        call.request, viewer_of(call.request)
-    )
+    return await shown_schedules(call.request, call.principal)
 
 
 async def shown_schedules(
@@ -128,22 +126,26 @@ async def shown_schedules(
     return show_page(request, "schedules.html", status, here="schedules", **values)
 
 
-@page_routes.get("/ui/schedules/{name}/{change}", parts={"change": Choice(("remove",))})
+@page_routes.get(
+    "/ui/schedules/{name}/{change}",
+    permission=Permission.OPERATE,
+    parts={"change": Choice(("remove",))},
+)
 async def remove_page(call: Call) -> Response:
     """Ask for confirmation before a schedule is removed, because this cannot be undone."""
-    if answer := login_redirect(call.request):
-        return answer
     name = call.path["name"]
-    if name not in {
-        schedule.name for schedule in await seen(call.service, viewer_of(call.request))
-    }:
+    if name not in {schedule.name for schedule in await seen(call.service, call.principal)}:
         raise NoSuchSchedule(f"no schedule has the name {name!r}")
     values: dict[str, Any] = {"title": f"Remove the schedule {name}?", **REMOVE}
     crumbs = [("/ui/schedules", "Schedules")]
     return show_page(call.request, "confirm.html", here="schedules", crumbs=crumbs, **values)
 
 
-@page_routes.post("/ui/schedules/{name}/{change}", parts={"change": Choice((*DONE,))})
+@page_routes.post(
+    "/ui/schedules/{name}/{change}",
+    permission=Permission.OPERATE,
+    parts={"change": Choice((*DONE,))},
+)
 async def schedule_changed(call: Call) -> Response:
     session, _ = await session_and_form(call.request)
     name, verb = call.path["name"], call.path["change"]

@@ -51,7 +51,7 @@ PATIENCE = 25.0
 
 def parse_steps(steps: list[str], path: str = "steps") -> list[Word]:
     """Return the requested steps. Raises `Problem`."""
-    words: list[Word] = []
+    steps_read: list[Word] = []
     for number, step in enumerate(steps):
         parsed = _parse_step(step)
         if parsed is None:
@@ -61,8 +61,8 @@ def parse_steps(steps: list[str], path: str = "steps") -> list[Word]:
                 f"{location}: {step[:80]!r} must be DEFINITION/STEP or DEFINITION/STEP/undo",
                 location,
             )
-        words.append(parsed)
-    return words
+        steps_read.append(parsed)
+    return steps_read
 
 
 @functools.lru_cache(1000)  # workers ask for the same again
@@ -95,7 +95,7 @@ class Claimed:
 
 def _texts(leased: LeasedTask) -> list[str]:
     """Return the stored values of a task."""
-    texts = leased.task.texts
+    texts = leased.task._portable
     return [leased.given, texts["input"], texts["result"] or "", *texts["results"].values()]
 
 
@@ -275,7 +275,7 @@ def _answer(call: Call, body: dict[str, Any], tasks: list[LeasedTask]) -> Claime
         "repeat_statuses": problems.REPEAT,
         "unknown_steps": sorted(set(body["steps"]) - call.service.task_names()),
     }
-    return Claimed(tasks, more, call.service.store.now())
+    return Claimed(tasks, more, call.service.store._now())
 
 
 # -- claims, heartbeats and reports of one task
@@ -284,7 +284,7 @@ def _answer(call: Call, body: dict[str, Any], tasks: list[LeasedTask]) -> Claime
 LONGEST_LEASE = 3600.0
 CLAIM = {
     "steps": Field(
-        Several(Text(most=200), least=1, most=1000),
+        Several(Text(max_length=200), min_items=1, max_items=1000),
         "the steps to claim: `trip/car`, `trip/car/undo`, or `trip/hotel/room` in an included saga",
     ),
     "limit": Field(Number(1, 100, whole=True), "maximum number of tasks", default=1),
@@ -294,11 +294,11 @@ CLAIM = {
         "seconds after which another worker may claim a task",
         default=30.0,
     ),
-    "worker": Field(Text(most=64), "the worker's name", default=""),
+    "worker": Field(Text(max_length=64), "the worker's name", default=""),
 }
 END = Record(
     "EndClaimsRequest",
-    {"worker": Field(Text(most=64), "the worker's name, as in its claims", default="")},
+    {"worker": Field(Text(max_length=64), "the worker's name, as in its claims", default="")},
     example={"worker": "host-7"},
 )
 ENDED = Record("EndedClaims", {"ended": Field(answers.COUNT, "how many claims were ended")})
@@ -310,7 +310,7 @@ NEXT = Record(
     CLAIM | {"wait": Field(Number(0.0, 30.0), "seconds to wait for a task", default=0.0)},
     "A claim that is made with a report, so that each task needs only one request.",
 )
-LEASE = {"lease": Field(Text(most=100), "the lease of the task", example="1.c0ffee")}
+LEASE = {"lease": Field(Text(max_length=100), "the lease of the task", example="1.c0ffee")}
 MORE = {"next": Field(Nullable(NEXT), "a claim that is made with the report", default=None)}
 EXAMPLE = {"lease": "1.c0ffee"}
 HEARTBEAT = Record(
@@ -323,7 +323,7 @@ HEARTBEAT = Record(
         "progress": Field(
             Nullable(Number(0.0, 1.0)), "the progress of the task, from 0 to 1", default=None
         ),
-        "detail": Field(Nullable(Text(most=200)), "a text about the progress", default=None),
+        "detail": Field(Nullable(Text(max_length=200)), "a text about the progress", default=None),
     },
     example=EXAMPLE,
 )
@@ -337,7 +337,7 @@ FAIL = Record(
     "FailTaskRequest",
     LEASE
     | {
-        "error": Field(Text(most=4000), "the reason"),
+        "error": Field(Text(max_length=4000), "the reason"),
         "final": Field(Flag(), "no further attempt will help", default=False),
     }
     | MORE,
@@ -346,7 +346,16 @@ FAIL = Record(
 )
 UNKNOWN = Record(
     "UnknownTaskRequest",
-    LEASE | {"error": Field(Text(most=4000), "the reason", default="")} | MORE,
+    LEASE
+    | {
+        "error": Field(Text(max_length=4000), "the reason", default=""),
+        "program_error": Field(
+            Flag(),
+            "the worker's program has a bug, so no call is made until a retry",
+            default=False,
+        ),
+    }
+    | MORE,
     "The outcome is unknown: there may have been an effect.",
     EXAMPLE | {"error": "the connection was lost"},
 )
@@ -376,7 +385,7 @@ async def claim(call: Call) -> Response:
     response is 403.
     """
     parse_steps(call.body["steps"])
-    check_steps(call.principal, call.body["steps"])
+    check_steps(call.principal, call.body["steps"], call.service.ended_definitions)
     if call.service.is_stopping:
         raise Problem("Stopping", "the service is stopping: retry later")
     with waiting(call.request, call.principal, RequestKind.CLAIM):
@@ -431,7 +440,7 @@ def check_next(call: Call, more: dict[str, Any] | None) -> None:
     """Raise `Problem` if the next claim is not allowed, before a report is stored."""
     if more is not None:
         parse_steps(more["steps"], "next.steps")
-        check_steps(call.principal, more["steps"])
+        check_steps(call.principal, more["steps"], call.service.ended_definitions)
 
 
 async def _report(call: Call, **outcome: Any) -> Response:
@@ -497,9 +506,12 @@ async def unknown(call: Call) -> Response:
     """Report that the outcome is unknown.
 
     The report counts only under the newest lease. Otherwise, the response is 409 `LeaseLost`.
-    The same task is offered again after its back-off, or an operator must report it.
+    The same task is offered again after its back-off, or an operator must report it. With
+    `program_error` it waits until an operator retries or reports it.
     """
-    return await _report(call, unknown=call.body["error"] or "the worker does not know")
+    body = call.body
+    unknown = body["error"] or "the worker does not know"
+    return await _report(call, unknown=unknown, program_error=body["program_error"])
 
 
 # -- several reports in one request
@@ -510,23 +522,26 @@ MAX_REPORTS = 100
 REPORT = Record(
     "TaskReport",
     {
-        "attempt_id": Field(Text(most=130), "the attempt id of the task"),
+        "attempt_id": Field(Text(max_length=130), "the attempt id of the task"),
         **LEASE,
         "outcome": Field(
             Choice(("complete", "fail", "unknown")), "the same as the requests for one task"
         ),
         "result": Field(Anything(), "for `complete`: the result of the step", default=None),
         "error": Field(
-            Nullable(Text(most=4000)), "for `fail` and `unknown`: the reason", default=None
+            Nullable(Text(max_length=4000)), "for `fail` and `unknown`: the reason", default=None
         ),
         "final": Field(Flag(), "for `fail`: no further attempt will help", default=False),
+        "program_error": Field(
+            Flag(), "for `unknown`: the worker's program has a bug", default=False
+        ),
     },
 )
 REPORTS = Record(
     "TaskReports",
     {
         "reports": Field(
-            Several(REPORT, least=1, most=MAX_REPORTS),
+            Several(REPORT, min_items=1, max_items=MAX_REPORTS),
             "the reports; each counts as if it was sent alone",
         ),
         **MORE,
@@ -545,7 +560,8 @@ def outcome_of(report: dict[str, Any], index: int) -> dict[str, Any]:
     if outcome == "complete":
         return {"result": report["result"]}
     if outcome == "unknown":
-        return {"unknown": error or "the worker does not know"}
+        unknown = error or "the worker does not know"
+        return {"unknown": unknown, "program_error": report["program_error"]}
     if error is None:
         location = f"reports.{index}.error"
         raise Problem("InvalidRequest", f"{location}: is required", location)

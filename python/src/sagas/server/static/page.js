@@ -17,7 +17,7 @@ const times = () => {
 times();
 setInterval(times, 5000);
 
-// A large picture can be fitted, zoomed and dragged, and has a small one beside; it begins where something goes on, or went wrong.
+// A large picture can be fitted, zoomed and dragged, and has a small one above; it begins where something goes on, or went wrong.
 const drawn = new WeakMap(); // by the frame of a picture that has tools: what draws it as it was chosen
 const make = (name, className) => {
   const one = document.createElement(name);
@@ -32,13 +32,12 @@ const tools = (frame) => {
   seen.classList.add("seen");
   map.setAttribute("aria-hidden", "true");
   frame.before(bar);
-  frame.after(map);
   const picture = () => frame.querySelector("svg"), size = () => picture().viewBox.baseVal;
   const show = () => {
     const by = picture().clientWidth / size().width || 1;
     for (const [name, value] of [["x", frame.scrollLeft], ["y", frame.scrollTop], ["width", frame.clientWidth], ["height", frame.clientHeight]]) seen.setAttribute(name, value / by);
   };
-  let scale = size().width > 1.45 * frame.clientWidth ? 1 : 0; // fitted, nobody could read it
+  let scale = size().width > 1.45 * room(frame) ? 1 : 0; // fitted, nobody could read it
   const draw = () => {
     const svg = picture(), boxes = [...svg.querySelectorAll(".step")];
     frame.classList.toggle("fit", scale === 0);
@@ -71,6 +70,7 @@ const tools = (frame) => {
     button.setAttribute("aria-label", `Picture: ${name}`);
     button.addEventListener("click", () => zoom(next()));
   }
+  bar.append(map); // above the picture: it covers no step
   frame.addEventListener("scroll", show, { passive: true });
   frame.addEventListener("pointerdown", (event) => {
     if (event.pointerType !== "mouse" || event.button) return;
@@ -83,14 +83,37 @@ const tools = (frame) => {
   zoom(scale);
   return draw;
 };
+const room = (frame) => frame.clientWidth - 2 * parseFloat(getComputedStyle(frame).paddingLeft);
 const pictures = () => {
   for (const svg of document.querySelectorAll(".scroll.pad > svg.picture")) {
     const frame = svg.parentElement, { width, height } = svg.viewBox.baseVal;
     if (drawn.has(frame)) drawn.get(frame)();
-    else if (width > frame.clientWidth || height > 900) drawn.set(frame, tools(frame));
+    else if (width > room(frame) || height > 900) drawn.set(frame, tools(frame));
   }
 };
 pictures();
+
+// The buttons that copy a key exist for a script alone: without it, the key is there to be selected.
+document.documentElement.classList.add("scripted");
+const copy = async (text) => {
+  const isWritten = await navigator.clipboard?.writeText(text).then(() => true, () => false);
+  if (isWritten) return; // without TLS, or a permission, there is no clipboard
+  const field = document.body.appendChild(document.createElement("textarea"));
+  field.value = text;
+  field.select();
+  const isDone = document.execCommand("copy");
+  field.remove();
+  if (!isDone) throw new Error("it was not copied");
+};
+document.addEventListener("click", async (event) => {
+  const button = event.target.closest(".copy");
+  if (!button) return;
+  const isDone = await copy(button.dataset.copy).then(() => true, () => false);
+  button.focus();
+  document.getElementById("said").textContent = isDone ? "Copied." : "It was not copied. Select it.";
+  button.classList.toggle("done", isDone);
+  setTimeout(() => button.classList.remove("done"), 2000);
+});
 
 document.addEventListener("keydown", (event) => {
   const search = document.querySelector("[data-search]");
@@ -116,7 +139,7 @@ const patch = (old, fresh) => {
   if (old.nodeType !== Node.ELEMENT_NODE) { old.data = fresh.data; return; }
   for (const name of new Set([...old.getAttributeNames(), ...fresh.getAttributeNames()])) {
     if (name === "open" || old.getAttribute(name) === fresh.getAttribute(name)) continue;
-    if (fresh.hasAttribute(name)) old.setAttribute(name, fresh.getAttribute(name));
+    if (fresh.hasAttribute(name)) old.setAttributeNode(fresh.getAttributeNode(name).cloneNode()); // with its namespace
     else old.removeAttribute(name);
   }
   const left = [...old.childNodes].filter((one) => one.dataset?.made === undefined), names = left.map(identity), passed = new Map();

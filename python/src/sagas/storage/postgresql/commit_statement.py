@@ -18,12 +18,12 @@ import json
 from collections.abc import Callable, Iterable, Mapping, Sequence
 from typing import Any
 
-from sagas.core.batch import Batch, EndedRow, OpenedRow, RareRows, StoredSuspension, Tail
+from sagas.core.shard.batch import Batch, EndedRow, OpenedRow, RareRows, StoredSuspension, Tail
 from sagas.core.states import EarlyReason
 from sagas.definition import tokens
 from sagas.definition.capacity import SHARD_CAPACITY
 from sagas.definition.serialization import clean
-from sagas.storage import deliveries, external
+from sagas.storage import webhook_deliveries, external
 from sagas.storage.postgresql import connections
 from sagas.storage.postgresql.wire import array
 
@@ -85,10 +85,14 @@ ROWS = {
         "id bigint, step integer, action text, number integer, at double precision, spans text"
     ),
     "answers": "shard bigint, answer text, id bigint",
-    "asked": "shard bigint, key text, command text, value text, at double precision, answer text",
+    "requested": (
+        "shard bigint, key text, command text, value text, at double precision, answer text"
+    ),
     "begun": "shard bigint, id bigint, saga bigint",
     "notes": "note text, id bigint",
     "undone": "id bigint, step integer",
+    "end_called": "id bigint",
+    "end_faults": "detail text, id bigint",
     "closed": "shard bigint, closed smallint, audit text",
     "set_aside": "shard bigint, audit text",
 }
@@ -171,7 +175,8 @@ PARTS = {
     "shard = CASE WHEN e.outcome IS DISTINCT FROM 'succeeded' OR v.came = 'succeeded' "
     "THEN e.shard END "
     "FROM {rows} JOIN mine USING (shard) WHERE e.attempt = v.attempt",
-    "deliveries": f"INSERT INTO webhook_deliveries({deliveries.COLUMNS}) SELECT v.* FROM {{rows}} "
+    "deliveries": f"INSERT INTO webhook_deliveries({webhook_deliveries.COLUMNS}) "
+    "SELECT v.* FROM {rows} "
     f"JOIN mine ON mine.shard = v.saga / {SHARD_CAPACITY} ON CONFLICT DO NOTHING",
     "spans": (
         f"INSERT INTO attempt_spans SELECT v.* FROM {{rows}} {OF_LOG} ON CONFLICT DO NOTHING"
@@ -180,7 +185,7 @@ PARTS = {
         "UPDATE operator_commands SET answer = v.answer FROM {rows} WHERE operator_commands.id "
         f"= v.id AND operator_commands.answer IS NULL AND {FREE}"
     ),
-    "asked": (
+    "requested": (
         "INSERT INTO operator_commands(key, command, value, at, answer) SELECT v.key, v.command, "
         f"v.value, v.at, v.answer FROM {{rows}} WHERE {FREE}"
     ),
@@ -190,6 +195,10 @@ PARTS = {
     "AND sagas.note IS NULL",
     "undone": "UPDATE suspensions h SET reason = 'early_undone' FROM {rows} WHERE h.id = v.id "
     "AND h.step = v.step AND h.action = 'run' AND h.number = 0 AND h.reason = 'early_result'",
+    "end_called": "DELETE FROM suspensions h USING {rows} WHERE h.id = v.id AND h.step = -1 "
+    "AND h.reason = 'end_call'",
+    "end_faults": "UPDATE suspensions h SET detail = v.detail FROM {rows} WHERE h.id = v.id "
+    "AND h.step = -1 AND h.reason = 'end_call'",
     "closed": (
         "UPDATE shards SET closed = v.closed, audit = v.audit FROM {rows} JOIN mine USING (shard) "
         "WHERE shards.shard = v.shard"
@@ -266,7 +275,7 @@ Two conditions with `EXISTS` and `OR` may be planned as a scan of all sagas.
 """
 WITHDRAWN = ", (SELECT json_agg(attempt)::text FROM withdrawn_)"
 """The attempts that were withdrawn."""
-MOST = 100 << 20
+MAX_PARSED = 100 << 20
 """Bytes of rows that PostgreSQL parses at once.
 
 It parses more than about 200 MiB only piece by piece, which takes longer.
@@ -319,7 +328,7 @@ def _free(name: str) -> str:
 
 
 def _attempts(rare: RareRows, part: str) -> Sequence[Sequence[Any]]:
-    """Return the rows of a part, each of which is about an external attempt."""
+    """Return the rows of a part, if each row is about an external attempt."""
     if part not in EXTERNAL:
         return ()
     if part == "withdrawn":
@@ -375,10 +384,12 @@ PLAIN: dict[str, Callable[[int, RareRows], Iterable[Any]]] = {
     "deliveries": lambda shard, rare: rare.deliveries,
     "spans": lambda shard, rare: [(*row[:5], clean(row[5])) for row in rare.spans],
     "answers": lambda shard, rare: [(shard, *answer) for answer in rare.answers],
-    "asked": lambda shard, rare: [(shard, *row, answer) for row, answer in rare.asked],
+    "requested": lambda shard, rare: [(shard, *row, answer) for row, answer in rare.requested],
     "begun": lambda shard, rare: [(shard, *row) for row in rare.begun],
     "notes": lambda shard, rare: [(clean(note), id) for note, id in rare.notes],
     "undone": lambda shard, rare: rare.undone,
+    "end_called": lambda shard, rare: rare.end_called,
+    "end_faults": lambda shard, rare: [(clean(detail), id) for detail, id in rare.end_faults],
     "closed": lambda shard, rare: [(shard, *rare.closed)] if rare.closed else [],
     "set_aside": lambda shard, rare: [(shard, *rare.set_aside)] if rare.set_aside else [],
 }
@@ -420,7 +431,7 @@ class Commit:
         """Set of each withdrawal whether it was done."""
         attempts = set(json.loads(withdrawn or "[]"))
         for _, rare in self.rare:
-            if "withdrawn" in rare.parts:
+            if "withdrawn" in vars(rare):
                 for withdrawal in rare.withdrawn:
                     withdrawal.is_done = withdrawal.attempt in attempts
 
@@ -524,7 +535,7 @@ class Commit:
                     for number, row in held.get(attempt_key, {}).items()
                     if number > attempt
                 }
-        undone_rows = [rare.undone for _, rare in self.rare if "undone" in rare.parts]
+        undone_rows = [rare.undone for _, rare in self.rare if "undone" in vars(rare)]
         undone = {(*row, "run") for rows in undone_rows for row in rows}
         for attempt_key in (
             undone & held.keys()
@@ -540,7 +551,7 @@ class Commit:
 
     def _others(self) -> None:
         """Put what most commits do not have."""
-        has = {part for _, rare in self.rare for part in rare.parts}
+        has = {part for _, rare in self.rare for part in vars(rare)}
         if "held" in has or "freed" in has:
             self._held()
         if "defined" in has or any(batch.new_shard for batch in self.batches):
@@ -570,15 +581,14 @@ class Commit:
     def _external(self) -> None:
         """Put the last change of each external attempt."""
         last: dict[str, tuple[str, Any]] = {}
-        others: dict[int, list[str]] = {}
-        for shard, rare in self.rare:
-            for part in rare.parts:
+        for _, rare in self.rare:
+            for part in vars(rare):
                 for row in _attempts(rare, part):
-                    if row[0] not in last:
-                        others.setdefault(_saga_of(shard, row[0]), []).append(row[0])
                     if part == "settled" or last.get(row[0], ("",))[0] != "settled":
                         last[row[0]] = part, row
-        ended = {id: reason for _, rare in self.rare for reason, id in rare.cancelled}
+        ended = {
+            id: reason for _, rare in self.rare for reason, id in vars(rare).get("cancelled", ())
+        }
         for part in EXTERNAL:
             self._put(part, [row for of, row in last.values() if of == part])
         offers = [
@@ -586,10 +596,14 @@ class Commit:
             for row in self.rows("offers")
         ]
         self._put("offers", offers)
-        cancelled = (
-            (reason, id, array(others.get(id, ())).decode()) for id, reason in ended.items()
-        )
-        self._put("cancelled", [*cancelled])
+        if ended:
+            changed: dict[int, list[str]] = {}
+            for attempt, (_, row) in last.items():
+                changed.setdefault(_saga_of(row[1], attempt), []).append(attempt)
+            cancelled = [
+                (reason, id, array(changed.get(id, ())).decode()) for id, reason in ended.items()
+            ]
+            self._put("cancelled", cancelled)
 
     def bind(self, node: bytes) -> tuple[str, list[bytes | None]]:
         """Return the statement and its parameters."""
@@ -611,7 +625,7 @@ class Commit:
         if parts and max(map(len, self.parts.values())) == 1 and (parameters := self._cells(parts)):
             return statement(parts, SINGLE_ROWS, alone), [parameters[0], *mine, *parameters[1:]]
         rows = dumps(self.parts).encode()
-        return statement(parts, "jsonb" if len(rows) < MOST else "json", alone), [rows, *mine]
+        return statement(parts, "jsonb" if len(rows) < MAX_PARSED else "json", alone), [rows, *mine]
 
     def _cells(self, parts: Iterable[str]) -> list[bytes | None] | None:
         """Return the cells of one row of each part.
@@ -622,7 +636,7 @@ class Commit:
         cells = [*itertools.chain.from_iterable([self.parts[part][0] for part in parts])]
         text = "\0".join(map(str, cells)).encode()
         values: list[bytes | None] = [*text.split(b"\0")]
-        if len(values) != len(cells) or len(text) >= MOST:
+        if len(values) != len(cells) or len(text) >= MAX_PARSED:
             return None
         return (
             values

@@ -123,8 +123,8 @@ So it does not wait for other transactions.
 """
 
 ESCAPED = (
-    "with % and two hex digits for what is special in a password, "
-    'as urllib.parse.quote(password, safe="") gives it'
+    "with % and two hex digits for each special character of a password, "
+    'as urllib.parse.quote(password, safe="") returns it'
 )
 
 CUT = ("08", "57P0")
@@ -398,6 +398,12 @@ def store_unavailable(store_name: str, error: Exception) -> StoreUnavailable:
     return unavailable
 
 
+def refused_login(store_name: str, error: Exception) -> InvalidStore:
+    """Return the error for a database, or a role, that does not exist or may not log in."""
+    message = str(store_unavailable(store_name, error))
+    return InvalidStore(f"{message}. Check the database and the user of the URL")
+
+
 async def tried(ask: Callable[[], Awaitable[T]]) -> T:
     """Repeat a query that may be executed twice, if its connection broke unnoticed."""
     for turn in range(5):
@@ -439,7 +445,7 @@ async def connect(url: str, settings: str = SETTINGS) -> Link:
 
 
 async def check_access(url: str, store_name: str) -> None:
-    """Raise `StoreUnavailable` if the server permanently refuses the login.
+    """Raise `InvalidStore` if the server permanently refuses the login.
 
     A pool would retry. Any other error may be temporary.
     """
@@ -454,7 +460,7 @@ async def check_access(url: str, store_name: str) -> None:
             with contextlib.suppress(psycopg.Error):
                 error.pgconn.finish()
         if FINAL.search(str(error)):
-            raise store_unavailable(store_name, error) from error
+            raise refused_login(store_name, error) from error
 
 
 async def timeline_of(connection: Link) -> str:
@@ -486,9 +492,9 @@ def pool(url: str, max_size: int) -> AsyncConnectionPool:
 
     It is not open yet.
 
-    A caller that waits for a connection gives up by the pool's own timeout. A waiter that is
+    The wait of a caller for a connection ends by the pool's own timeout. A waiter that is
     cancelled would keep its position, and the connection that it gets would be lost (psycopg_pool
-    3.1). The pool gives up connecting soon, so that the next caller makes it retry at once, for any
+    3.1). The pool stops connecting soon, so that the next caller makes it retry at once, for any
     duration of the outage.
     """
     arguments = {"autocommit": True, "prepare_threshold": 2}
@@ -520,7 +526,7 @@ class Asker:
     """Executes short statements over a pool."""
 
     def __init__(self, url: str, store_name: str, max_size: int) -> None:
-        self.store_name, self._url, self._most = store_name, url, max_size
+        self.store_name, self._url, self._max_size = store_name, url, max_size
         self.pool = pool(url, max_size)
         self._attached: list[Attached] = []
         self._under_way: set[asyncio.Task[Any]] = set()
@@ -550,7 +556,7 @@ class Asker:
         """
         for attached in self._attached:
             attached.cut()
-        old, self.pool = self.pool, pool(self._url, self._most)
+        old, self.pool = self.pool, pool(self._url, self._max_size)
         used = [*self._used] if cuts else []
         await self.pool.open()
         for connection in used:

@@ -14,10 +14,10 @@ from collections.abc import Awaitable, Callable, Sequence
 from typing import Any, Optional, Union
 
 from sagas.base.errors import StoreUnavailable
-from sagas.core.batch import Batch
+from sagas.core.shard.batch import Batch
 from sagas.definition.serialization import clean
 from sagas.storage import external
-from sagas.storage.deliveries import Deliveries
+from sagas.storage.webhook_deliveries import Deliveries
 from sagas.storage.external import (
     Batcher,
     Claim,
@@ -36,7 +36,7 @@ from sagas.storage.postgresql import connections, notifications, wire
 from sagas.storage.postgresql.connections import Asker
 
 CHANNEL = "sagas_reports"
-MOST = 200
+MAX_BATCH = 200
 """Maximum number of claims and reports in one statement."""
 CLOCK = "clock AS MATERIALIZED (SELECT extract(epoch FROM clock_timestamp())::float8 AS now)"
 HELD = (
@@ -64,10 +64,10 @@ candidates AS MATERIALIZED (
     FROM external_attempts e
     WHERE e.task = w.task AND e.{OPEN} AND (e.until IS NULL OR {expired})
     ORDER BY e.offered_at
-    LIMIT CASE WHEN b.bound IS NULL THEN %(most)s::bigint
-      ELSE greatest(0, least(%(most)s::bigint, b.bound - ({HELD.format("w.task")}))) END
+    LIMIT CASE WHEN b.bound IS NULL THEN %(limit)s::bigint
+      ELSE greatest(0, least(%(limit)s::bigint, b.bound - ({HELD.format("w.task")}))) END
     FOR UPDATE SKIP LOCKED) x
-  ORDER BY x.offered_at LIMIT %(most)s::bigint),
+  ORDER BY x.offered_at LIMIT %(limit)s::bigint),
 taken AS (
   UPDATE external_attempts e SET worker = s.worker, since = clock.now,
     until = clock.now + s.seconds, given_back = false,
@@ -77,7 +77,8 @@ taken AS (
     AS s(worker, seconds, place) USING (place), clock
   WHERE e.attempt = f.attempt
   RETURNING e.attempt, e.lease, e.until - clock.now AS seconds, e.id, e.step, e.action, e.cancelled,
-    f.is_takeover, place, e.number, f.since, f.worker, f.lease AS had, f.until)
+    f.is_takeover, clock.now - f.offered_at AS waited, place, e.number, f.since, f.worker,
+    f.lease AS had, f.until)
 """
 
 
@@ -88,8 +89,8 @@ UNREPORTED = _claimed("e.until <= clock.now AND e.attempt <> ALL(%(attempts)s::t
 It does not claim the attempts that it reports, because a statement changes a row once.
 """
 ROWS = """
-json_agg(json_build_array(attempt, lease, seconds, id, step, action, cancelled, is_takeover, place,
-  number, since, worker, had, until) ORDER BY place)::text
+json_agg(json_build_array(attempt, lease, seconds, id, step, action, cancelled, is_takeover, waited,
+  place, number, since, worker, had, until) ORDER BY place)::text
 """
 """All rows as one text, which is read faster than several cells of each."""
 CLAIM = f"WITH {CLOCK}, {CLAIMED} SELECT {ROWS} FROM taken"
@@ -135,7 +136,7 @@ An attempt whose row another transaction has locked is skipped. A statement that
 rows could deadlock.
 """
 SHARDS = "json_object_agg(attempt, shard)::text"
-CLAIM_PARAMETERS = ("tasks", "most", "workers", "seconds")
+CLAIM_PARAMETERS = ("tasks", "limit", "workers", "seconds")
 REPORT_PARAMETERS = ("attempts", "leases", "outcomes", "values")
 CLAIMS_WIRED = wire.numbered(
     f"WITH {CLOCK}, {CLAIMED} SELECT {ROWS}, NULL FROM taken", *CLAIM_PARAMETERS
@@ -197,7 +198,7 @@ def _divided(claims: Sequence[ClaimRequest], rows: Sequence[list[Any]]) -> list[
 
     The claims that came first have the attempts that have waited longest.
     """
-    by_number = {row[8]: row for row in rows}
+    by_number = {row[9]: row for row in rows}
     rows_of_claims, taken = [], 0
     for claim in claims:
         numbers = range(taken + 1, taken + claim.limit + 1)
@@ -219,12 +220,12 @@ class PostgreSQLExternalAttempts:
 
     def __init__(self, url: str, asker: Asker) -> None:
         self._asker = asker
-        self._own = wire.ReconnectingWire(url, asker.store_name)
-        asker.attach(self._own)
+        self._own_wire = wire.ReconnectingWire(url, asker.store_name)
+        asker.attach(self._own_wire)
         # claims that wait for other nodes hold a connection of the pool
         self._locking = asyncio.Lock()
         self._batcher: Batcher[ExternalRequest, Any] = Batcher(
-            self._ask_all, MOST, self._dropped, _group
+            self._ask_all, MAX_BATCH, self._dropped, _group
         )
         self._unwanted: Callable[[Sequence[Claim]], object] = lambda claims: None
         self.deliveries: Deliveries = PostgreSQLDeliveries(asker)
@@ -247,7 +248,7 @@ class PostgreSQLExternalAttempts:
             rows = await self._alone(limited, wanted)
         else:
             rows = await self._batcher.ask(wanted)
-        claims = [Claim(*row[:8]) for row in rows]
+        claims = [Claim(*row[:9]) for row in rows]
         try:
             await self._note_earlier(rows)
         except asyncio.CancelledError:
@@ -257,7 +258,7 @@ class PostgreSQLExternalAttempts:
 
     async def _note_earlier(self, rows: Sequence[list[Any]]) -> None:
         """Store the earlier leases of claimed attempts."""
-        for _, _, _, id, step, action, _, _, _, number, since, had, lease, until in rows:
+        for _, _, _, id, step, action, _, _, _, _, number, since, had, lease, until in rows:
             if since is not None:
                 span = {"at": since, "spans": earlier(since, had, lease, until)}
                 attempt = {"id": id, "step": step, "action": action, "number": number}
@@ -266,7 +267,7 @@ class PostgreSQLExternalAttempts:
 
     def _dropped(self, request: ExternalRequest, answer: Any) -> None:
         if isinstance(request, ClaimRequest):
-            self._unwanted([Claim(*row[:8]) for row in answer])
+            self._unwanted([Claim(*row[:9]) for row in answer])
 
     async def _ask_all(self, requests: Sequence[ExternalRequest]) -> list[_Answer]:
         """Return the rows of claims of the same tasks, and the shards of reports."""
@@ -276,7 +277,7 @@ class PostgreSQLExternalAttempts:
             for request in reversed(requests)
             if isinstance(request, ReportRequest)
         }
-        if self._own.is_open or await self._has_own():
+        if self._own_wire.is_open or await self._has_own():
             rows, shards = await self._ask_own(claims, [*reports.values()])
         else:
             rows, shards = await self._claim_all(claims), {}  # each report is executed alone
@@ -303,7 +304,7 @@ class PostgreSQLExternalAttempts:
             attempts, leases, outcomes, values = zip(*reports)
             parameters += map(wire.array, (attempts, map(str, leases), outcomes, values))
         text = CLAIMS_WIRED if not reports else BOTH_WIRED if claims else REPORTS_WIRED
-        ((rows, shards),) = await self._own.ask(text, *parameters)
+        ((rows, shards),) = await self._own_wire.ask(text, *parameters)
         return rows_of(rows), json.loads(shards) if shards else {}
 
     async def _claim_all(self, claims: Sequence[ClaimRequest]) -> list[list[Any]]:
@@ -316,13 +317,13 @@ class PostgreSQLExternalAttempts:
             "seconds": [claim.seconds for claim in each],
         }
         tasks = [*claims[0].tasks]
-        ((text,),) = await self._asker.ask(CLAIM, tasks=tasks, most=len(each), **workers)
+        ((text,),) = await self._asker.ask(CLAIM, tasks=tasks, limit=len(each), **workers)
         return rows_of(text)
 
     async def _has_own(self) -> bool:
         """Connect, if the server has a spare connection."""
         try:
-            await self._own.open()
+            await self._own_wire.open()
         except StoreUnavailable:
             return False
         return True
@@ -349,7 +350,7 @@ class PostgreSQLExternalAttempts:
         No other node claims them at the same time.
         """
         workers = [wanted.worker] * wanted.limit
-        parameters = {"tasks": [*wanted.tasks], "most": wanted.limit, "workers": workers}
+        parameters = {"tasks": [*wanted.tasks], "limit": wanted.limit, "workers": workers}
         async with self._locking, self._asker.connection() as connection, connection.transaction():
             await connection.execute(LOCK, {"limited": list(limited)})
             seconds = {"seconds": [wanted.seconds] * wanted.limit}

@@ -8,7 +8,7 @@ from __future__ import annotations
 
 from collections.abc import Callable, Sequence
 
-from sagas.core.batch import Grant
+from sagas.core.shard.batch import Grant
 from sagas.definition.call_options import Bounds
 from sagas.storage.postgresql.connections import Asker
 from sagas.storage.postgresql.node_lease import LIVE

@@ -14,7 +14,7 @@ from typing import Any
 import psycopg
 
 from sagas.base.errors import Closed, NoSuchSaga, SagasError, StoreUnavailable
-from sagas.core.batch import SagaRow, StoredSaga
+from sagas.core.shard.batch import SagaRow, StoredSaga
 from sagas.definition.serialization import clean, cleaned
 from sagas.storage import queries
 from sagas.storage.postgresql import connections, wire
@@ -199,7 +199,7 @@ class Lookups:
             self._spawn(self._look())
         known = await future
         if known is None:
-            raise NoSuchSaga(f"saga {row.key!r} was deleted meanwhile")
+            raise NoSuchSaga(f"saga {row.key!r} was deleted while it was looked up")
         return known
 
     async def _look(self) -> None:

@@ -11,11 +11,11 @@ No node without a codec has a lease once the note that values are encoded is in 
 
 from __future__ import annotations
 
+import importlib
 import json
-import os
 import secrets
-import socket
 import time
+from collections import deque
 from collections.abc import Sequence
 from typing import TYPE_CHECKING, Any
 
@@ -24,14 +24,17 @@ import tomllib
 from sagas.base.errors import StoreLocked
 from sagas.base.logger import logger
 from sagas.base.wording import number
-from sagas.core import children
-from sagas.core.batch import ShardRow
-from sagas.core.children import CompletedChild
+from sagas.core.attempt import child_attempts
+from sagas.core.shard.balance import NodeFigures
+from sagas.core.shard.batch import ShardRow
+from sagas.core.attempt.child_attempts import CompletedChild
 from sagas.definition.capacity import SHARD_CAPACITY
 from sagas.definition.definition_text import version_of
+from sagas.storage import store_name
 from sagas.storage.codec_note import NOTE, NOTED, missing
 from sagas.storage.postgresql import notifications
 from sagas.storage.postgresql.connections import RAISED, TIMELINE, Asker, translate_errors
+from sagas.storage.postgresql.shard_moves import FORGET, IS_DRAINED, SEEN
 from sagas.storage.queries import COMPLETED_CHILDREN, OPENED
 
 if TYPE_CHECKING:
@@ -82,53 +85,69 @@ async def _note_encoding(asker: Asker) -> None:
 
 BEAT = 1.0
 """Maximum number of seconds between two heartbeats of a node."""
-OWN = 64
+SHARDS_PER_LOOK = 64
 """The number of shards up to which each heartbeat looks for unknown shards of this node.
 
 A node with twice as many looks at every second heartbeat.
 """
 TAKEOVER_BATCH = 50
 """Maximum number of shards of one takeover: other nodes take theirs at the same time."""
+MAX_MOVED = 1000
+"""The number of shards that a node remembers after it has moved them."""
 SPARED = 3.0
 """Seconds that other nodes have to take a shard that this node has released."""
 
 LIVE = "EXISTS (SELECT 1 FROM nodes n WHERE n.node = {} AND n.lease > now())"
 ORPHAN = (
     "l.closed = 0 AND CASE WHEN l.owner = %(node)s THEN %(own)s AND l.shard <> "
-    f"ALL(%(mine)s::bigint[]) ELSE NOT {LIVE.format('l.owner')} END"
+    "ALL(%(mine)s::bigint[]) WHEN l.owner IS NULL AND l.shard = ANY(%(moved)s::bigint[]) THEN true "
+    f"ELSE %(takes)s AND NOT {LIVE.format('l.owner')} END"
 )
-"""Whether no node drives a shard.
+"""Whether this node has to take a shard, which no node drives.
 
 Its node is gone, or it is this one, which does not know that it has the shard. The latter is
-checked only with `own`, because that takes long for many shards.
+checked only with `own`, because that takes long for many shards. Without `takes`, shards of other
+nodes are left to other nodes, except for those that this node has `moved`, and that the other node
+has left.
 """
 UNTAKEN = f"(i.refused IS NULL AND NOT {LIVE.format('i.node')})"
 
+FIGURES = {
+    "open_sagas": "%(open_sagas)s::integer",
+    "accepting": "%(accepting)s::integer",
+    "running": "%(running)s::integer",
+    "concurrency": "nullif(%(concurrency)s::integer, 0)",
+    "stopping": "%(is_stopping)s",
+}
+"""The columns of a node that each heartbeat writes, with their values."""
+RENEWED = "lease = now() + make_interval(secs => %(lease)s), beat = now()"
 RENEW_OR_ENTER = f"""
-WITH renewed AS (UPDATE nodes SET lease = now() + make_interval(secs => %(lease)s)
+WITH renewed AS (UPDATE nodes
+  SET {RENEWED}, {', '.join(f'{name} = {value}' for name, value in FIGURES.items())}
   WHERE node = %(node)s AND {ALLOWS} RETURNING 1),
-entered AS (INSERT INTO nodes(node, name, version, kinds, since, lease)
-  SELECT %(node)s, %(name)s, %(version)s, %(kinds)s, now(), now() + make_interval(secs => %(lease)s)
-  WHERE %(enters)s AND NOT EXISTS (SELECT 1 FROM renewed) AND {ALLOWS} RETURNING 1)
+entered AS (INSERT INTO nodes(node, name, version, kinds, release, since, lease, beat,
+    {', '.join(FIGURES)})
+  SELECT %(node)s, %(name)s, %(version)s, %(kinds)s, %(release)s, now(),
+    now() + make_interval(secs => %(lease)s), now(), {', '.join(FIGURES.values())}
+  WHERE %(enters)s AND NOT EXISTS (SELECT 1 FROM renewed) AND {ALLOWS} RETURNING 1),
+seen AS ({SEEN})
 """
-RENEW = f"""
-UPDATE nodes SET lease = now() + make_interval(secs => %(lease)s)
-WHERE node = %(node)s AND {ALLOWS} RETURNING 1
-"""
+RENEW = f"UPDATE nodes SET {RENEWED} WHERE node = %(node)s AND {ALLOWS} RETURNING 1"
 LOOK = f"""
 SELECT {TIMELINE}, EXISTS (SELECT 1 FROM renewed UNION ALL SELECT 1 FROM entered),
   EXISTS (SELECT 1 FROM shards l WHERE {ORPHAN} AND l.shard <> ALL(%(left)s::bigint[])),
   EXISTS (SELECT 1 FROM pending_starts i WHERE {UNTAKEN})
     OR EXISTS (SELECT 1 FROM operator_commands WHERE answer IS NULL),
   (SELECT coalesce(json_agg(json_build_array(l.shard, l.epoch, {LIVE.format('l.owner')})), '[]')
-   FROM shards l WHERE l.shard = ANY(%(left)s::bigint[]) AND l.closed = 0)
+   FROM shards l WHERE l.shard = ANY(%(left)s::bigint[]) AND l.closed = 0),
+  {IS_DRAINED}
 """
 """Returns what a heartbeat has to know.
 
-The last column has the shards that are left to other nodes and not closed, with their epochs, and
-whether a node drives each.
+The last column but one has the shards that are left to other nodes and not closed, with their
+epochs, and whether a node drives each.
 """
-PLACES = f"""ARRAY(SELECT DISTINCT definition_index FROM sagas
+DEFINITION_INDEXES = f"""ARRAY(SELECT DISTINCT definition_index FROM sagas
     WHERE id >= l.shard * {SHARD_CAPACITY} AND id < (l.shard + 1) * {SHARD_CAPACITY}
     AND phase IS NULL)"""
 """The indexes of a shard's definitions that have open sagas."""
@@ -136,7 +155,7 @@ TEXTS = """(SELECT coalesce(json_agg(text ORDER BY place), '[]')
     FROM shard_definitions d JOIN definitions USING (definition) WHERE d.shard = l.shard)"""
 """The definitions of a shard."""
 CANDIDATES = f"""
-SELECT json_build_array(l.shard, {TEXTS}, {PLACES}, l.epoch)::text FROM shards l
+SELECT json_build_array(l.shard, {TEXTS}, {DEFINITION_INDEXES}, l.epoch)::text FROM shards l
 WHERE {ORPHAN} AND l.shard <> ALL(%(left)s::bigint[]) ORDER BY l.shard LIMIT {TAKEOVER_BATCH}
 """
 TAKE = f"""
@@ -148,7 +167,7 @@ SELECT shard FROM mine
 """
 TAKEN = f"""
 SELECT json_build_array(shard, name, {TEXTS}, ({OPENED}), ({OPENED} AND phase IS NULL), epoch,
-  {PLACES}, audit)::text
+  {DEFINITION_INDEXES}, audit)::text
 FROM shards l
 WHERE shard = ANY(%(shards)s::bigint[]) AND owner = %(node)s ORDER BY shard
 """
@@ -186,10 +205,11 @@ noted AS ({RAISED})
 SELECT extract(epoch FROM now())::float8 FROM mine
 """
 """Releases a shard if another node has come since its last release."""
-GONE = """
+GONE = f"""
 WITH old AS (DELETE FROM nodes WHERE name = %(name)s AND node <> %(node)s),
 old2 AS (DELETE FROM nodes n WHERE lease < now() - interval '1 day'
-  AND NOT EXISTS (SELECT 1 FROM shards WHERE owner = n.node AND closed = 0))
+  AND NOT EXISTS (SELECT 1 FROM shards WHERE owner = n.node AND closed = 0)),
+old3 AS ({FORGET})
 SELECT 1
 """
 HAND_OVER = f"""
@@ -214,7 +234,12 @@ ON CONFLICT (name) DO NOTHING RETURNING value
 
 
 class Lease:
-    """This node's name, its lease as far as it knows, and its takeovers."""
+    """This node's name, its lease as far as it knows, and its takeovers.
+
+    Attributes:
+        is_drained: Whether an operator has drained this node, and another one does its work.
+        moved: The last shards that this node has moved to others.
+    """
 
     def __init__(
         self,
@@ -226,15 +251,18 @@ class Lease:
         encodes: bool = False,
     ) -> None:
         self.encodes = encodes  # by a codec
-        self.name = name or f"{socket.gethostname()}-{os.getpid()}"
+        self.name = store_name.node_name(name)
         self.node = f"{self.name}/{secrets.token_hex(4)}"
         self.seconds, self.version, self._asker, self._kinds = seconds, version, asker, [*kinds]
+        self._release: str = importlib.import_module("sagas").__version__
         # open shards whose functions this program does not have, with their epochs then
         self.left: dict[int, int] = {}
         self._undriven: dict[int, float] = {}  # when each was first seen without a node, by `now`
         self._reported: set[int] = set()  # of these, those that were reported
         # until when this node does not take a shard, and its release, by the server's clock
         self._spared: dict[int, tuple[float, float]] = {}
+        self.is_drained = self._is_stopping = False
+        self.moved: deque[int] = deque(maxlen=MAX_MOVED)
         self.fresh = True  # no function was held back since the last heartbeat
         self._enters = True  # the next heartbeat inserts the node's row if it is missing
         self._has_reported_codec = False
@@ -252,7 +280,9 @@ class Lease:
         self.fresh = self.fresh and held
         return held
 
-    async def beat(self, mine: list[int]) -> tuple[bool, bool, bool, str]:
+    async def beat(
+        self, mine: list[int], figures: NodeFigures = NodeFigures()
+    ) -> tuple[bool, bool, bool, str]:
         """Renew the lease; `mine` are the shards that this node drives.
 
         If another run under its name has replaced it, that run has the time until the next
@@ -264,7 +294,7 @@ class Lease:
         """
         started = now()
         self._turn += 1
-        includes_own = self._turn % max(1, len(mine) // OWN) == 0
+        includes_own = self._turn % max(1, len(mine) // SHARDS_PER_LOOK) == 0
         excluded = self._passed()
         parameters = {
             "own": includes_own,
@@ -276,9 +306,14 @@ class Lease:
             "left": excluded,
             "mine": mine,
             "encodes": self.encodes,
+            "takes": self.takes,
+            "moved": [] if self._is_stopping else [*self.moved],
+            "release": self._release,
+            **figures._asdict(),
         }
         rows = await self._asker.ask(RENEW_OR_ENTER + LOOK, enters=self._enters, **parameters)
-        ((timeline, has_row, has_orphans, has_requests, left),) = rows
+        ((timeline, has_row, has_orphans, has_requests, left, self.is_drained),) = rows
+        self._is_stopping = figures.is_stopping
         self._look_at_left(left)
         self._enters = not has_row
         if not has_row:
@@ -288,6 +323,11 @@ class Lease:
         has_expired = self._until > 0 and not (self.holds() and self.fresh)
         self._until, self.fresh = started + self.seconds, True
         return has_expired, has_orphans, has_requests, timeline
+
+    @property
+    def takes(self) -> bool:
+        """Whether this node takes shards of other nodes."""
+        return not self.is_drained and not self._is_stopping
 
     async def renew(self) -> None:
         """Renew the lease only. The next heartbeat returns what happened since the last one."""
@@ -318,7 +358,7 @@ class Lease:
         """Update the shards that were left to other nodes.
 
         The rows are those that are still open: their epochs, and whether a node drives each. If
-        another node has driven one since then, this node checks it again.
+        another node has executed one since then, this node checks it again.
         """
         still_left = {shard for shard, at, driven in rows if driven or self.left.get(shard) == at}
         self.left = {shard: at for shard, at in self.left.items() if shard in still_left}
@@ -327,7 +367,7 @@ class Lease:
         self._reported &= since.keys()
 
     def undriven(self) -> list[int]:
-        """Return the shards that no node has driven for the time of a lease, each once.
+        """Return the shards that no node has executed for the time of a lease, each once.
 
         A node that is gone had that time to return, and other nodes had it to take the shards.
         """
@@ -371,7 +411,9 @@ class Lease:
 
         Return None if there are no more, or if other nodes take them.
         """
-        parameters = {"node": self.node, "mine": mine, "own": True}
+        moved = [] if self._is_stopping else [*self.moved]
+        of_node = {"node": self.node, "mine": mine, "own": True}
+        parameters: dict[str, Any] = {**of_node, "takes": self.takes, "moved": moved}
         rows = await self._asker.read(CANDIDATES, left=self._passed(), **parameters)
         fit = await self._fit(check_functions, [json.loads(text) for (text,) in rows])
         taken = await self._asker.ask(TAKE, shards=fit, **parameters) if fit else []
@@ -388,8 +430,8 @@ class Lease:
         """
         completed = await self._completed([shard for shard, *_ in candidates]) if candidates else {}
         missing_functions = {
-            shard: check_functions(texts, places, completed.get(shard, []))
-            for shard, texts, places, _ in candidates
+            shard: check_functions(texts, indexes, completed.get(shard, []))
+            for shard, texts, indexes, _ in candidates
         }
         left = {shard: at for shard, _, _, at in candidates if missing_functions[shard] is not None}
         if left:
@@ -406,7 +448,9 @@ class Lease:
         if not rows:
             return {}
         digests = [*{digest for _, _, parent, _, child in rows for digest in (parent, child)}]
-        return children.children_by_shard(rows, await self._asker.read(TEXTS_OF, digests=digests))
+        return child_attempts.children_by_shard(
+            rows, await self._asker.read(TEXTS_OF, digests=digests)
+        )
 
     async def _has(self, check_functions: FunctionCheck, taken: list[int]) -> list[ShardRow]:
         """Return the shards that were just taken.

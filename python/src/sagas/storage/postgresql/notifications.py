@@ -13,6 +13,7 @@ from typing import TYPE_CHECKING
 
 import psycopg
 
+from sagas.base.pauses import doubling_pauses
 from sagas.storage.postgresql import connections
 from sagas.storage.postgresql.wire import Wire
 
@@ -38,7 +39,7 @@ def notify_statement(channel: str) -> str:
 NOTIFY = notify_statement(CHANNEL)
 NOTIFY_WIRED = NOTIFY.replace("%(messages)s", "$1")
 """The same for a wire. `array_of` returns its parameter."""
-MOST = 400  # ids per message: PostgreSQL accepts 8,000 bytes
+MAX_IDS = 400  # ids per message: PostgreSQL accepts 8,000 bytes
 FIRST_LOOK, MAX_LOOK = 0.5, 30.0  # seconds
 RECENT = 10_000
 FIRST_PAUSE, MAX_PAUSE = 0.1, 2.0  # seconds
@@ -48,7 +49,8 @@ def payloads(event: str, ids: Iterable[int]) -> list[str]:
     """Return the messages that report an event of these ids."""
     texts = [str(id) for id in ids]
     return [
-        f"{event} {' '.join(texts[first : first + MOST])}" for first in range(0, len(texts), MOST)
+        f"{event} {' '.join(texts[first : first + MAX_IDS])}"
+        for first in range(0, len(texts), MAX_IDS)
     ]
 
 
@@ -85,14 +87,14 @@ class Listener:
 
     async def run(self) -> None:
         """Listen until it is cancelled."""
-        pause = FIRST_PAUSE
+        pauses = doubling_pauses(FIRST_PAUSE, MAX_PAUSE)
         while True:
             try:
                 wire = self.wire = Wire(await connections.connect(self._url), self._heard)
                 try:
                     for channel in self._channels:
                         await wire.rows(f"LISTEN {channel}")
-                    pause = FIRST_PAUSE
+                    pauses = doubling_pauses(FIRST_PAUSE, MAX_PAUSE)
                     self.ready.set()
                     self._listens()
                     await wire.gone.wait()
@@ -100,8 +102,7 @@ class Listener:
                     wire.close()
             except (psycopg.Error, OSError, TimeoutError):
                 pass
-            await asyncio.sleep(pause)
-            pause = min(MAX_PAUSE, 2 * pause)
+            await asyncio.sleep(next(pauses))
 
 
 class Notifications:
@@ -234,7 +235,7 @@ class Announcer:
             self._kept_rare(commit)
 
     def _kept_rare(self, commit: Commit) -> None:
-        has = {part for _, rare in commit.rare for part in rare.parts}
+        has = {part for _, rare in commit.rare for part in vars(rare)}
         if "offers" in has and any(row[6] for _, rare in commit.rare for row in rare.offers):
             self.say(["tasks"])
         if "notes" in has or commit.has_moved:  # parents wait for notes

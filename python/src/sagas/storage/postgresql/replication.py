@@ -12,7 +12,7 @@ import contextlib
 import os
 import socket
 import weakref
-from collections.abc import AsyncIterator, Callable, Coroutine, Iterator
+from collections.abc import AsyncIterator, Callable, Coroutine
 from typing import TYPE_CHECKING, Any, TypeVar, Union
 
 import psycopg
@@ -97,29 +97,6 @@ def check(connection: Connection) -> None:
     """Raise `NotReplicated` if the server has warned since the last call."""
     if connection.warned:
         connection.warned = False
-        raise NotReplicated
-
-
-@contextlib.contextmanager
-def warnings_raised(
-    connection: psycopg.AsyncConnection[Any] | psycopg.Connection[Any],
-) -> Iterator[None]:
-    """Raise `NotReplicated` if the server warns of a commit of the block.
-
-    The connection is one of the caller.
-    """
-    warned = False
-
-    def note(notice: errors.Diagnostic) -> None:
-        nonlocal warned
-        warned = warned or notice.source_function == CANCELED
-
-    connection.add_notice_handler(note)
-    try:
-        yield
-    finally:
-        connection.remove_notice_handler(note)
-    if warned:
         raise NotReplicated
 
 

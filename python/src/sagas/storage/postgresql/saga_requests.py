@@ -8,8 +8,8 @@ from collections.abc import Sequence
 from typing import Any
 
 from sagas.base.errors import NoSuchSaga, StoreUnavailable
-from sagas.core.batch import PendingRequest, PendingStart, SagaRow
-from sagas.core.waits import check_refused
+from sagas.core.shard.batch import NewStart, PendingRequest, PendingStart, SagaRow
+from sagas.core.attempt.waits import check_refused
 from sagas.definition.capacity import SHARD_CAPACITY
 from sagas.definition.payloads import Payloads
 from sagas.definition.serialization import clean
@@ -20,8 +20,8 @@ from sagas.storage.postgresql.node_lease import UNTAKEN
 
 MINE = f"""
 JOIN shards l ON l.shard = s.id / {SHARD_CAPACITY}
-  AND (l.owner = %(node)s OR l.closed <> 0 OR r.command = 'compensate')"""
-"""A compensation is for any node that has the definition."""
+  AND (l.owner = %(node)s OR l.closed <> 0 OR r.command IN ('compensate', 'restart'))"""
+"""A compensation and a restart are for any node that has the definition."""
 REQUESTS = f"""
 SELECT r.id, r.key, r.command, r.value, s.id FROM operator_commands r JOIN sagas s ON s.id = r.saga
 {MINE}
@@ -30,7 +30,7 @@ WHERE r.answer IS NULL AND r.id > %(after)s ORDER BY 1 LIMIT %(most)s
 STARTS = f"""
 WITH batch AS MATERIALIZED (
   SELECT id FROM pending_starts i
-  WHERE ({UNTAKEN}
+  WHERE (%(takes)s AND {UNTAKEN}
       OR i.node = %(node)s AND i.id <> ALL(%(mine)s::bigint[]) AND i.refused IS NULL)
     AND i.id <> ALL(%(left)s::bigint[])
     AND saga || '/' || version || coalesce('/' || digest, '') = ANY(%(sagas)s::text[])
@@ -43,6 +43,18 @@ pending_starts.id, key, saga, version, input, labels, deadline, traceparent
 As a part of an OR, the condition of untaken starts is checked again for a row that another node
 took concurrently. As a join it would not be.
 """
+LEAVE = """
+INSERT INTO pending_starts(key, saga, version, input, digest, labels, deadline, traceparent, at)
+SELECT %(key)s::text, %(saga)s::text, %(version)s::integer, %(input)s::text, %(digest)s::text,
+  %(labels)s::jsonb, %(deadline)s::double precision, %(traceparent)s::text,
+  extract(epoch FROM clock_timestamp())
+WHERE EXISTS (SELECT 1 FROM nodes n WHERE n.node <> %(node)s AND n.lease > now()
+  AND NOT n.stopping AND NOT EXISTS (SELECT 1 FROM drains d WHERE d.name = n.name)
+  AND %(kind)s = ANY(n.kinds))
+ON CONFLICT (key) DO NOTHING RETURNING id
+"""
+RETRACT = "DELETE FROM pending_starts WHERE id = %(id)s AND node IS NULL RETURNING id"
+"""Deletes a start that was left, if no node has taken it."""
 GIVE_BACK = """
 UPDATE pending_starts SET node = NULL, refused = %(reason)s::text,
   at = CASE WHEN %(reason)s::text IS NULL THEN at ELSE extract(epoch FROM clock_timestamp()) END
@@ -73,11 +85,31 @@ async def take_starts(
     limit: int,
     under_way: Sequence[int] | None,
     left: Sequence[int],
+    takes: bool,
 ) -> list[PendingStart]:
-    """Take starts of these sagas that clients added, for a node to open."""
+    """Take starts of these sagas that clients added, for a node to open.
+
+    Without `takes`, only those are returned that the node had taken before.
+    """
     mine = None if under_way is None else list(under_way)
-    parameters = {"node": node, "sagas": [*sagas], "most": limit, "mine": mine, "left": [*left]}
-    return await asker.ask(STARTS, **parameters)  # type: ignore[return-value]
+    of_node = {"node": node, "sagas": [*sagas], "mine": mine, "left": [*left], "takes": takes}
+    return await asker.ask(STARTS, **of_node, **{"most": limit})  # type: ignore[return-value]
+
+
+async def leave_start(asker: connections.Asker, node: str, start: NewStart) -> bool:
+    """Store a start for other nodes. See `Database.leave_start`."""
+    labels = json.dumps(start.labels)
+    kind = f"{start.saga}/{start.version}/{start.digest}"
+    fields = {**start._asdict(), "labels": labels, "input": clean(start.input), "kind": kind}
+    rows = await asker.ask(LEAVE, node=node, **fields)
+    if not rows:
+        return False
+    # after the row, so that no start of the same key at another node is missed
+    if any(int(row[0]) >= 0 for row in await asker.read(FIND_NOW, key=start.key)):
+        await asker.ask(RETRACT, id=rows[0][0])
+        return False
+    await _notify(asker, [notifications.STARTS])
+    return True
 
 
 async def give_back(asker: connections.Asker, node: str, start: int, reason: str | None) -> None:

@@ -39,8 +39,8 @@ CREATE TABLE sagas.shard_definitions(
   shard bigint NOT NULL, place integer NOT NULL, definition text NOT NULL,
   PRIMARY KEY(shard, place));
 
--- closed: 0 if the shard is driven, 1 if it is closed and passed its audit, 2 if it is closed and
--- failed its audit. audit: the verdict of the audit, or why no program can open a driven shard.
+-- closed: 0 if the shard is open, 1 if it is closed and passed its audit, 2 if it is closed and
+-- failed its audit. audit: the verdict of the audit, or why no program can drive an open shard.
 -- owner: the node that drives it, or null. epoch: grows with each owner and each load, and a commit
 -- must name it.
 CREATE SEQUENCE sagas.shard_numbers MINVALUE 0 START 0;
@@ -112,10 +112,12 @@ CREATE TABLE sagas.attempts(
 -- wait: until a time.
 -- approval: it was requested; until: when the request expires, or null.
 -- child: count children did not complete.
--- cannot_decode: the detail has the error.
--- Attempt 0 never begins. It holds a report on a step that has not begun: early_result and
+-- cannot_decode, program_error, no_definition: the detail has the error.
+-- Attempt 0 never begins. It holds a report on a step that has not started: early_result and
 -- early_error (detail: as the value of an attempt), and early_undone: a result of a saga that ended
 -- without it, where another saga undoes the step, if there is anything to undo.
+-- Attempt 0 of step -1 with the reason end_call: the saga has ended, and the saga that calls its
+-- on_end function is not started yet. detail: why it cannot be started.
 CREATE TABLE sagas.suspensions(
   id bigint NOT NULL, step integer NOT NULL, action text NOT NULL, number integer NOT NULL,
   reason text NOT NULL,
@@ -161,9 +163,9 @@ CREATE TABLE sagas.pending_starts(
 -- maximum number of leases of the task, or null. lease: the newest one, or null. until: when the
 -- lease ends, by this server's clock. outcome: null, then the reported one (OutcomeKind) under the
 -- lease `reported`, or one of: suspended (the outcome is unknown, and it is offered again), person
--- (an operator must answer), withdrawn (no worker had it), settled (a commit has it). value: as in
--- attempts. cancelled: why its saga is to be undone (aborted or failed), which its worker gets with
--- its heartbeat.
+-- (an operator must answer), withdrawn (no worker had it), `settled` (a commit has it). value: as
+-- in attempts. cancelled: why its saga is to be undone (aborted or failed), which its worker gets
+-- with its heartbeat.
 CREATE TABLE sagas.external_attempts(
   attempt text PRIMARY KEY, shard bigint NOT NULL, id bigint NOT NULL, step integer NOT NULL,
   action text NOT NULL,
@@ -219,6 +221,38 @@ CREATE UNLOGGED TABLE sagas.peer_calls(
 CREATE TABLE sagas.secrets(name text PRIMARY KEY, value text NOT NULL);
 """
 
+PAUSES = """
+-- Pauses. scope: the name of what it covers: everything, a definition (`saga`), a `step` of it, or
+-- a `queue`. forward_only: whether compensations start. refuse_starts: whether new sagas are
+-- refused. paused_by: who paused it, or null.
+CREATE TABLE sagas.pauses(
+  scope text PRIMARY KEY, saga text, step text, queue text, forward_only smallint NOT NULL,
+  refuse_starts smallint NOT NULL, note text NOT NULL, paused_by text,
+  at double precision NOT NULL);
+"""
+DRAINS = """
+-- What a node stores with each heartbeat. beat: its time. release: of the package. accepting: how
+-- many of its shards accept new sagas. running: how many functions run, of at most `concurrency`;
+-- null until the node has opened. stopping: whether it is about to end.
+ALTER TABLE sagas.nodes ADD COLUMN IF NOT EXISTS beat timestamptz,
+  ADD COLUMN IF NOT EXISTS release text, ADD COLUMN IF NOT EXISTS open_sagas integer,
+  ADD COLUMN IF NOT EXISTS accepting integer, ADD COLUMN IF NOT EXISTS running integer,
+  ADD COLUMN IF NOT EXISTS concurrency integer,
+  ADD COLUMN IF NOT EXISTS stopping boolean NOT NULL DEFAULT false;
+
+-- Nodes that an operator has drained, by name. drained_by: who did it, or null. seen: when the node
+-- last ran. The row is deleted a day later.
+CREATE TABLE sagas.drains(
+  name text PRIMARY KEY, note text NOT NULL, drained_by text, at double precision NOT NULL,
+  seen timestamptz NOT NULL DEFAULT now());
+"""
+TRENDS = """
+-- Counts of events by time, for charts. Each is kept for three widths of a bucket. at: when the
+-- bucket begins. measure: what is counted (core/trends.py). The count of `oldest_task` is seconds.
+CREATE TABLE sagas.trends(
+  width integer NOT NULL, at bigint NOT NULL, saga text NOT NULL, measure text NOT NULL,
+  count bigint NOT NULL, PRIMARY KEY(width, at, saga, measure)) WITH (fillfactor = 70);
+"""
 VERSION = 1
 
 STARTED = "CREATE INDEX IF NOT EXISTS sagas_started ON sagas.sagas(at, id)"
@@ -228,6 +262,16 @@ SELECT to_regclass('sagas.sagas_started') IS NULL AND pg_has_role(relowner, 'USA
 FROM pg_class WHERE oid = to_regclass('sagas.sagas')
 """
 """Whether the index is missing, and this user may create it."""
+ADDED = {"pauses": PAUSES, "drains": DRAINS, "trends": TRENDS}
+"""The tables that stores of older releases do not have, with their statements."""
+LACKS = "SELECT to_regclass(%s) IS NULL"
+GRANTS = """
+SELECT format('GRANT SELECT, INSERT, UPDATE, DELETE ON sagas.%%I TO %%I', CAST(%s AS text), grantee)
+FROM information_schema.role_table_grants
+WHERE table_schema = 'sagas' AND table_name = 'schedules' AND privilege_type = 'INSERT'
+  AND grantee <> current_user
+"""
+"""The rights on an added table for those who have them on the schedules."""
 REMEDY = "Run `CREATE INDEX CONCURRENTLY sagas_started ON sagas.sagas(at, id)`"
 
 TABLES = (
@@ -251,6 +295,9 @@ TABLES = (
     "limit_slots",
     "webhook_deliveries",
     "schedules",
+    "pauses",
+    "drains",
+    "trends",
     "peer_calls",
     "secrets",
 )
@@ -277,7 +324,8 @@ def check(version: int, store_name: str) -> None:
 def migrate(connection: psycopg.Connection[tuple[object, ...]], store_name: str) -> int:
     """Create missing tables in one transaction, and return the version before.
 
-    Older tables get the index of start times, if this user may create it.
+    Older stores get the tables of `ADDED`, and the index of start times if this user may create
+    it.
 
     The connection commits each statement. Raises `StoreSchemaTooNew`, or `InvalidStore` if this
     user may not create the tables.
@@ -285,7 +333,7 @@ def migrate(connection: psycopg.Connection[tuple[object, ...]], store_name: str)
     try:
         version = version_of(connection)
         check(version, store_name)
-        if version == VERSION and not _lacks_started(connection):
+        if version == VERSION and not _lacks_started(connection) and not _missing(connection):
             return version
         # before the transaction: one that waits for the lock may not see new tables
         connection.execute("SELECT pg_advisory_lock(%s)", (LOCK,))
@@ -297,6 +345,8 @@ def migrate(connection: psycopg.Connection[tuple[object, ...]], store_name: str)
                     _make(connection)
             elif _lacks_started(connection):
                 _add_started(connection, store_name)
+            for table in _missing(connection):
+                _add(connection, table)
         finally:
             connection.execute("SELECT pg_advisory_unlock(%s)", (LOCK,))
         return version
@@ -305,6 +355,23 @@ def migrate(connection: psycopg.Connection[tuple[object, ...]], store_name: str)
             f"{store_name}: {str(error).splitlines()[0]}: "
             f"{RIGHTS.format(role=connection.info.user)}"
         ) from error
+
+
+def _missing(connection: psycopg.Connection[tuple[object, ...]]) -> list[str]:
+    """Return the tables that a store of an older release does not have."""
+    return [
+        table
+        for table in ADDED
+        if connection.execute(LACKS, (f"sagas.{table}",)).fetchone() == (True,)
+    ]
+
+
+def _add(connection: psycopg.Connection[tuple[object, ...]], table: str) -> None:
+    """Create a table in a store of an older release."""
+    with connection.transaction():
+        connection.execute(ADDED[table])
+        for (grant,) in connection.execute(GRANTS, (table,)).fetchall():
+            connection.execute(str(grant))
 
 
 def _lacks_started(connection: psycopg.Connection[tuple[object, ...]]) -> bool:
@@ -329,6 +396,8 @@ def _make(connection: psycopg.Connection[tuple[object, ...]]) -> None:
     connection.execute("CREATE SCHEMA IF NOT EXISTS sagas")
     connection.execute("CREATE TABLE sagas.store(version integer NOT NULL)")
     connection.execute(SCHEMA)
+    for statement in ADDED.values():
+        connection.execute(statement)
     connection.execute(f"INSERT INTO sagas.store VALUES({VERSION})")
 
 

@@ -14,13 +14,20 @@ from typing import Any, NamedTuple
 import psycopg
 
 from sagas.base.errors import StoreUnavailable
-from sagas.core.batch import LoadedShard, NewShard, OpenSagaRow, ResultRow, StoredSuspension, Tail
+from sagas.core.shard.batch import (
+    LoadedShard,
+    NewShard,
+    OpenSagaRow,
+    ResultRow,
+    StoredSuspension,
+    Tail,
+)
 from sagas.definition.capacity import SHARD_CAPACITY
 from sagas.storage import queries
 from sagas.storage.postgresql import connections
 from sagas.storage.record_file import RecordFile
 
-MOST = 64
+MAX_LOADED = 64
 """Maximum number of shards that are loaded at once."""
 
 LOGS = "shard = ANY(%(shards)s::bigint[])"
@@ -42,7 +49,7 @@ SELECT shard, {MINE},
     (SELECT json_agg(json_build_array({queries.SMALL_RESULT}) ORDER BY r.step, r.action, r.number)
       FROM attempts r WHERE r.id = s.id),
     (SELECT json_agg(json_build_array({queries.HELD})) FROM suspensions h WHERE h.id = s.id),
-    s.traceparent, (SELECT {queries.SMALL_SHAPE} FROM shapes p WHERE p.id = s.id))
+    s.traceparent, (SELECT {queries.SMALL_SHAPE} FROM shapes p WHERE p.id = s.id), s.at)
     ORDER BY s.id)::text FROM {SAGAS} AND s.phase IS NULL),
   (SELECT count(*) FROM shard_definitions d WHERE d.shard = l.shard),
   (SELECT json_build_array(first_seq, committed_at,
@@ -183,7 +190,7 @@ class ShardLoader:
         """Load all shards that are wanted, one batch after the other."""
         try:
             while self._wanted:
-                batch, self._wanted = self._wanted[:MOST], self._wanted[MOST:]
+                batch, self._wanted = self._wanted[:MAX_LOADED], self._wanted[MAX_LOADED:]
                 await self._load_batch(batch)
         finally:
             self._is_loading = False
@@ -296,8 +303,8 @@ class ShardLoader:
 def _born(born: NewShard) -> dict[str, Any]:
     """Return a shard's name and definitions as parameters of `BORN`."""
     name, defined = born
-    places, digests, texts = zip(*defined) if defined else ((), (), ())
-    return {"name": name, "places": [*places], "digests": [*digests], "texts": [*texts]}
+    indexes, digests, texts = zip(*defined) if defined else ((), (), ())
+    return {"name": name, "places": [*indexes], "digests": [*digests], "texts": [*texts]}
 
 
 def _was_answered(failure: Exception) -> bool:
@@ -337,7 +344,8 @@ def _loaded(text: str, opened: int, sagas: Sequence[Any]) -> LoadedShard:
             None if deadline is None else float(deadline),
             traceparent,
             shape,
+            float(at),
         )
-        for id, key, definition_index, text, deadline, _, _, traceparent, shape in sagas
+        for id, key, definition_index, text, deadline, _, _, traceparent, shape, at in sagas
     ]
     return LoadedShard(text, text.count("\n"), opened, open, results, held)

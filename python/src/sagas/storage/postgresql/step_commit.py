@@ -12,7 +12,7 @@ from typing import Any, NamedTuple
 
 from psycopg import pq
 
-from sagas.core.batch import Tail
+from sagas.core.shard.batch import Tail
 from sagas.storage.postgresql import connections
 from sagas.storage.postgresql.step_connections import encoding_of, is_prepared
 
@@ -58,12 +58,12 @@ def prepares() -> str:
     They also plan it, by keys: a plan for small tables would be kept while the tables grow. The
     settings are only for this text.
     """
-    places = {name: f"${number}" for number, name in enumerate(PARAMETERS, 1)}
+    parameters = {name: f"${number}" for number, name in enumerate(PARAMETERS, 1)}
     types, nulls = ", ".join(PARAMETERS.values()), ", ".join("NULL" for _ in PARAMETERS)
     return "; ".join(
         [
             "SET LOCAL enable_seqscan = off; SET LOCAL plan_cache_mode = force_generic_plan",
-            f"PREPARE {PREPARED}({types}) AS {RECORD.format(**places)}",
+            f"PREPARE {PREPARED}({types}) AS {RECORD.format(**parameters)}",
             f"EXPLAIN EXECUTE {PREPARED}({nulls})",
         ]
     )

@@ -14,6 +14,8 @@ from typing import TYPE_CHECKING, Any, TypeVar
 import psycopg
 from psycopg import errors, generators, pq, waiting
 
+from sagas.base.errors import ProgramError
+from sagas.base.pauses import doubling_pauses
 from sagas.storage.postgresql.connections import Row
 
 if TYPE_CHECKING:
@@ -32,7 +34,8 @@ For example, the server reports only the first of several statements in one text
 FORBIDDEN = "Explicit {}() forbidden: the transaction is the step's, and ends with it"
 ENDED = (
     "the transaction was over before its step: it is the step's, and no statement of the function "
-    "(COMMIT, ROLLBACK ..) may end it"
+    "(such as COMMIT or ROLLBACK) may end it. Remove the statement. What it committed stays, "
+    "without a record"
 )
 BROKE = (
     "the connection of the step broke before its function was over, so what it did there is rolled "
@@ -41,7 +44,7 @@ BROKE = (
 OPEN = (pq.TransactionStatus.INTRANS, pq.TransactionStatus.INERROR)
 JOINS = pq.version() >= 140000
 """Whether libpq can send one statement after another, without waiting."""
-LET_GO = "DEALLOCATE ALL"
+DEALLOCATE = "DEALLOCATE ALL"
 """A statement, and the server's report of it; psycopg sends it after a rollback."""
 FIRST_PAUSE, MAX_PAUSE = 1.0, 600.0
 """Seconds without prepared statements, once a server did not know them.
@@ -56,7 +59,7 @@ class Prepares:
     def __init__(self, text: str) -> None:
         self.text = text
         self.until = 0.0
-        self._pause = FIRST_PAUSE
+        self._pauses = doubling_pauses(FIRST_PAUSE, MAX_PAUSE)
 
     @property
     def works(self) -> bool:
@@ -68,8 +71,7 @@ class Prepares:
 
         A function deallocated them, or a pooler changed the session.
         """
-        self.until = time.monotonic() + self._pause
-        self._pause = min(MAX_PAUSE, 2 * self._pause)
+        self.until = time.monotonic() + next(self._pauses)
 
 
 class Statements(enum.Enum):
@@ -78,7 +80,7 @@ class Statements(enum.Enum):
     NONE = "none"
     """They were not prepared."""
     KEPT = "kept"
-    LET_GO = "let go"
+    DEALLOCATED = "deallocated"
     """psycopg deallocated all statements, and knows it: they are prepared again."""
     LOST = "lost"
     """A statement of the function deallocated them, and psycopg does not know it.
@@ -89,15 +91,15 @@ class Statements(enum.Enum):
 
 def look_at(connection: AsyncStepLink | StepLink, command: object) -> None:
     """Note a command that psycopg is about to send by itself."""
-    if command == LET_GO.encode() and connection.statements is Statements.KEPT:
-        connection.statements = Statements.LET_GO
+    if command == DEALLOCATE.encode() and connection.statements is Statements.KEPT:
+        connection.statements = Statements.DEALLOCATED
 
 
 def check_whole(connection: AsyncStepLink | StepLink) -> None:
     """Check that the transaction can be ended; nothing of its end was sent.
 
     Raises psycopg's error if the connection broke, for example while the function did something
-    else, or if the function ended the transaction.
+    else. Raises `ProgramError` if the function ended the transaction.
     """
     try:
         # the server's last bytes, and the end of the connection
@@ -109,19 +111,22 @@ def check_whole(connection: AsyncStepLink | StepLink) -> None:
     if connection.closed:
         raise errors.OperationalError(BROKE.format("it is closed"))
     if connection.spent or connection.pgconn.transaction_status == pq.TransactionStatus.IDLE:
-        raise errors.ProgrammingError(ENDED)
+        raise ProgramError(ENDED)
 
 
 def note(cursor: Any) -> None:
-    """Note the effect of a function's statement on its connection, by the server's report."""
+    """Note the effect of a function's statement on its connection, by the server's report.
+
+    Raises `ProgramError` if it ended the transaction: a repetition would end it again.
+    """
     status = cursor.pgresult.command_status if cursor.pgresult else None
     if status == b"SET":
         cursor.connection.is_set = True
-    elif status == LET_GO.encode():
+    elif status == DEALLOCATE.encode():
         cursor.connection.statements = Statements.LOST
     elif status == b"COMMIT":
         cursor.connection.spent = True
-        raise errors.ProgrammingError(ENDED)
+        raise ProgramError(ENDED)
 
 
 def joined(connection: Any, query: Any, params: Any, more: dict[str, Any]) -> dict[str, Any]:
@@ -600,6 +605,10 @@ def _put_back(connection: AsyncStepLink | StepLink) -> Iterator[str]:
     if connection.is_set and not connection.closed:
         yield AS_MADE
         connection.is_set = False
-    if connection.statements is Statements.LET_GO and connection.prepares and not connection.closed:
+    if (
+        connection.statements is Statements.DEALLOCATED
+        and connection.prepares
+        and not connection.closed
+    ):
         yield connection.prepares.text
         connection.statements = Statements.KEPT

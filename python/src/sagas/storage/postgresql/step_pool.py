@@ -21,6 +21,7 @@ import psycopg
 from psycopg import errors, pq
 from psycopg.rows import tuple_row
 
+from sagas.base.pauses import doubling_pauses
 from sagas.storage.postgresql import connections
 from sagas.storage.postgresql.step_connections import (
     AsyncStepLink,
@@ -58,7 +59,7 @@ class Pool:
     """
 
     def __init__(self, url: str, max_size: int, prepares: Prepares | None = None) -> None:
-        self._url, self._most, self._count, self._prepares = url, max_size, 0, prepares
+        self._url, self._max_size, self._count, self._prepares = url, max_size, 0, prepares
         self._reserved = 0  # number of idle connections that are reserved
         self._idle: list[tuple[AsyncStepLink, float]] = []  # with the time; the newest is last
         self._idle_for_threads: list[tuple[StepLink, float]] = []
@@ -228,7 +229,7 @@ class Pool:
     def _grow(self) -> None:
         if (
             self._waiting
-            and self._count < self._most
+            and self._count < self._max_size
             and self._connecting is None
             and not self._is_over
         ):
@@ -237,7 +238,7 @@ class Pool:
 
     async def _connect(self) -> None:
         connection: AsyncStepLink | None = None
-        pause = AGAIN[0]
+        pauses = doubling_pauses(*AGAIN)
         try:
             while connection is None and self._waiting:
                 try:
@@ -248,8 +249,7 @@ class Pool:
                     connection = made
                 except connections.CLIENT_ERRORS as error:
                     self._failure = error
-                    await asyncio.sleep(pause)
-                    pause = min(AGAIN[1], 2 * pause)
+                    await asyncio.sleep(next(pauses))
         finally:
             self._connecting = None
             if connection is None:

@@ -10,11 +10,13 @@ from typing import Any
 
 from sagas.base.errors import StoreUnavailable
 from sagas.base.logger import logger
-from sagas.core.batch import (
+from sagas.core.shard.balance import NodeShare
+from sagas.core.shard.batch import (
     Batch,
     Grant,
     LoadedShard,
     NewShard,
+    NewStart,
     PendingRequest,
     PendingStart,
     SagaRow,
@@ -40,6 +42,7 @@ from sagas.storage.postgresql import (
     notifications,
     saga_requests,
     schema,
+    shard_moves,
 )
 from sagas.storage.postgresql.commit_statement import Commit
 from sagas.storage.postgresql.connections import Asker
@@ -97,8 +100,10 @@ class PostgreSQL(queries.Questions):
     listens, and one answers questions. So a slow question delays no lease and no saga.
     """
 
-    shared = True
+    supports_nodes = True
+    answers_at_once = False
     blobs = None
+    commit_seconds = 0.0
 
     def __init__(
         self,
@@ -230,10 +235,16 @@ class PostgreSQL(queries.Questions):
         return await self.lease.secret()
 
     def _migrate(self) -> None:
-        with connections.translate_errors(self.path):
-            connection = connections.connect_now(self.url)
-            with contextlib.closing(connection):
-                schema.migrate(connection, self.path)
+        try:
+            with connections.translate_errors(self.path):
+                connection = connections.connect_now(self.url)
+                with contextlib.closing(connection):
+                    schema.migrate(connection, self.path)
+        except StoreUnavailable as error:
+            cause = error.__cause__
+            if isinstance(cause, Exception) and connections.FINAL.search(str(cause)):
+                raise connections.refused_login(self.path, cause) from error
+            raise
 
     def peers(self) -> Peers:
         """Return the calls between this node and the others."""
@@ -242,6 +253,7 @@ class PostgreSQL(queries.Questions):
     def watch(self, watcher: Watcher) -> None:
         """Listen to notifications, and take over shards."""
         self._watcher = watcher
+        watcher.drained(self.lease.is_drained)
         channels = notifications.CHANNEL, external_attempts.CHANNEL
         self._announcer = Announcer(notifications.Notifications(self.url, self._heard, channels))
         self._turn.set()
@@ -280,7 +292,9 @@ class PostgreSQL(queries.Questions):
             self._watcher.reported()
         if command in ("tasks", ""):
             self._watcher.offered()
-        if command not in ("places", "reported", "tasks"):
+        if command in ("paused", ""):
+            self._watcher.paused()
+        if command not in ("places", "reported", "tasks", "paused"):
             self._turn.set()
         if command in ("places", ""):
             self._watcher.slots_freed()
@@ -322,8 +336,9 @@ class PostgreSQL(queries.Questions):
             await self.lease.renew()
             return
         has_expired, has_orphans, has_requests, timeline = await self.lease.beat(
-            self._watcher.logs()
+            self._watcher.logs(), self._watcher.figures()
         )
+        self._watcher.drained(self.lease.is_drained)
         self._check_age(timeline)
         if not self._is_known(timeline):
             self._writer.cut()
@@ -434,18 +449,13 @@ class PostgreSQL(queries.Questions):
 
     async def admit(self, name: str, bounds: Bounds, want: int, have: Sequence[int]) -> Grant:
         """Take slots of a step, over all nodes."""
-        places = LimitSlots(self.asker, self.lease.node, self._say)
-        return await places.take(name, bounds, want, have, self.lease.pause)
+        slots = LimitSlots(self.asker, self.lease.node, self._say)
+        return await slots.take(name, bounds, want, have, self.lease.pause)
 
     @property
     def timeline(self) -> str:
         """The server's timeline, as far as this node knows."""
         return self._timeline
-
-    @property
-    def commit_seconds(self) -> float:
-        """Seconds that a recent commit took."""
-        return self._writer.commit_seconds
 
     @property
     def commits(self) -> int:
@@ -477,7 +487,8 @@ class PostgreSQL(queries.Questions):
             self._announcer.say(parameters)
 
     def _kept(self, commit: Commit) -> None:
-        """Notify the other nodes of a commit that the store has."""
+        """Note how long commits take, and notify the other nodes of one that the store has."""
+        self.commit_seconds = self._writer.commit_seconds
         if self._announcer:
             self._announcer.kept(commit)
 
@@ -515,6 +526,29 @@ class PostgreSQL(queries.Questions):
         """Release a shard for another node, if one has come since the last try."""
         return await self.lease.spare(shard)
 
+    @property
+    def node(self) -> str:
+        """The run of this node."""
+        return self.lease.node
+
+    @property
+    def lease_seconds(self) -> float:
+        """The seconds of the lease."""
+        return self.lease.seconds
+
+    async def shares(self) -> list[NodeShare]:
+        """Return the nodes with a valid lease."""
+        return await shard_moves.shares(self.asker)
+
+    async def move(self, shard: int, epoch: int, node: str, difference: int | None) -> bool:
+        """Pass a shard of this node to another one. See `Database.move`."""
+        is_moved = await shard_moves.move(
+            self.asker, shard, epoch, self.lease.node, node, difference
+        )
+        if is_moved:
+            self.lease.moved.append(shard)
+        return is_moved
+
     async def take_up(self, shard: int, epoch: int) -> tuple[str, int] | None:
         """Return a shard's event log and its number of events.
 
@@ -540,8 +574,14 @@ class PostgreSQL(queries.Questions):
         self, limit: int, under_way: Sequence[int] | None, left: Sequence[int] = ()
     ) -> list[PendingStart]:
         """Return sagas that clients started, for this node to open."""
-        node, sagas = self.lease.node, self._sagas
-        return await saga_requests.take_starts(self.asker, node, sagas, limit, under_way, left)
+        node, sagas, takes = self.lease.node, self._sagas, self.lease.takes
+        return await saga_requests.take_starts(
+            self.asker, node, sagas, limit, under_way, left, takes
+        )
+
+    async def leave_start(self, start: NewStart) -> bool:
+        """Store a start for another node that has its definition."""
+        return await saga_requests.leave_start(self.asker, self.lease.node, start)
 
     async def give_back(self, start: int, reason: str | None) -> None:
         """Release a start that this node took."""

@@ -29,7 +29,7 @@ Values = tuple[Optional[bytes], ...]
 """The values of a row, in PostgreSQL's text format."""
 ReplyCallback = Callable[[list[Values], Optional[Exception]], object]
 """Called with the rows, or with the error."""
-MOST = 96
+MAX_PREPARED = 96
 """Maximum number of prepared statements: each takes the server about 270 kB."""
 GOOD = (pq.ExecStatus.TUPLES_OK, pq.ExecStatus.COMMAND_OK)
 
@@ -135,7 +135,7 @@ class Wire:
         text, parameters, _ = self._jobs[0]
         try:
             name = self._names.get(text)
-            if name is None and len(self._names) >= MOST:
+            if name is None and len(self._names) >= MAX_PREPARED:
                 self._is_deallocating = True
                 self._pgconn.send_query(b"DEALLOCATE ALL")
             elif name is None:
@@ -318,7 +318,7 @@ class ReconnectingWire:
                 if self._is_over:  # it was closed during the connect
                     await connection.close()
                     raise errors.OperationalError("the connection is closed")
-                # the server gives up first
+                # the server times out first
                 self._wire = Wire(connection, patience=connections.PATIENCE + 1)
             return self._wire
 

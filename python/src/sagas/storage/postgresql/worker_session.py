@@ -13,7 +13,7 @@ from psycopg.rows import tuple_row
 
 from sagas.base.errors import StoreUnavailable, Unknown
 from sagas.core import outcomes
-from sagas.core.external_work import AlreadyReported, AttemptTexts, Order
+from sagas.core.attempt.external_work import AlreadyReported, AttemptTexts, Order
 from sagas.core.outcomes import Outcome
 from sagas.definition import awaitables
 from sagas.definition.call_options import Function
@@ -62,11 +62,11 @@ class PostgreSQLWorkerSession:
         return fetched(
             order,
             self._ask(BEGIN.replace("?", "%s"), (order.token, order.log)),
-            self._one,
+            self._first_text,
             self.path,
         )
 
-    def _one(self, text: str, *parameters: Any) -> str:
+    def _first_text(self, text: str, *parameters: Any) -> str:
         rows = self._ask(text.replace("?", "%s"), parameters)
         return str(rows[0][0]) if rows and rows[0][0] is not None else "null"
 
@@ -104,7 +104,7 @@ class PostgreSQLWorkerSession:
         def in_thread(task: Task[Any]) -> Any:
             try:
                 connection = self._function_connection()
-                task.enter(connection)
+                task._enter(connection)
                 connection.begun = False
                 value = awaitables.plain_result(function(task))
                 recorded = connection.execute(RECORD, record(connection, value), prepare=False)
@@ -126,7 +126,7 @@ class PostgreSQLWorkerSession:
             connection: AsyncStepLink | None = None
             try:
                 connection = await self._new_connection()
-                task.enter(connection)
+                task._enter(connection)
                 connection.begun = False
                 value = await awaitables.awaited(await function(task))
                 recorded = await connection.execute(

@@ -19,7 +19,7 @@ from psycopg import errors
 
 from sagas.base.errors import StoreUnavailable
 from sagas.base.logger import logger
-from sagas.core.batch import Batch, Tail
+from sagas.core.shard.batch import Batch, Tail
 from sagas.storage.interface import CommitCallback
 from sagas.storage.postgresql import connections
 from sagas.storage.postgresql.commit_statement import HAS_MOVED, Commit
@@ -333,7 +333,7 @@ class Continuity:
             if events < written:
                 self._report(shard, f"has {events} events, and {written} were written")
         elif written and not (await self._asker.read(IS_THERE, shard=shard))[0][0]:
-            self._report(shard, f"is not there, and {written} of its events were written")
+            self._report(shard, f"does not exist, and {written} of its events were written")
 
     async def look(self) -> None:
         """Look for the last commit if there was none since the last look.

@@ -11,9 +11,9 @@ import sqlite3
 from collections.abc import Awaitable, Callable, Iterable, Iterator, Sequence
 from typing import Any
 
-from sagas.core.batch import Batch
+from sagas.core.shard.batch import Batch
 from sagas.definition.serialization import clean
-from sagas.storage.deliveries import Deliveries
+from sagas.storage.webhook_deliveries import Deliveries
 from sagas.storage.external import (
     Batcher,
     Claim,
@@ -31,7 +31,7 @@ from sagas.storage.external import (
 )
 from sagas.storage.sqlite.writer import SPANS
 
-MOST = 200
+MAX_BATCH = 200
 """Maximum number of claims and reports in one transaction."""
 HELD = f"SELECT count(*) FROM external_attempts WHERE task = ? AND {OPEN} AND until > ?"
 BOUND = f"""
@@ -130,7 +130,7 @@ def _claimed(
 
 def _leased(db: sqlite3.Connection, claim: ClaimRequest, row: tuple[Any, ...], now: float) -> Claim:
     """Lease the attempt of a row."""
-    _, attempt, lease, given_back, id, step, action, cancelled, *earlier_lease = row
+    offered_at, attempt, lease, given_back, id, step, action, cancelled, *earlier_lease = row
     count, earlier_worker, since, until = earlier_lease
     number = max(int(now * 1000), (lease or 0) + 1)
     if since is not None:
@@ -138,7 +138,8 @@ def _leased(db: sqlite3.Connection, claim: ClaimRequest, row: tuple[Any, ...], n
         db.execute(SPANS, (id, step, action, count, since, spans))
     db.execute(LEASE, (claim.worker, now, now + claim.seconds, number, attempt))
     is_takeover = lease is not None and not given_back
-    return Claim(attempt, number, claim.seconds, id, step, action, cancelled, is_takeover)
+    outcome = cancelled, is_takeover, now - offered_at
+    return Claim(attempt, number, claim.seconds, id, step, action, *outcome)
 
 
 class SqliteExternalAttempts:
@@ -146,7 +147,9 @@ class SqliteExternalAttempts:
 
     def __init__(self, rows: Callable[..., list[tuple[Any, ...]]]) -> None:
         self._rows = rows
-        self._batcher: Batcher[ExternalRequest, Any] = Batcher(self._ask_all, MOST, self._dropped)
+        self._batcher: Batcher[ExternalRequest, Any] = Batcher(
+            self._ask_all, MAX_BATCH, self._dropped
+        )
         self.deliveries: Deliveries = SqliteDeliveries()
 
     def begin(

@@ -21,8 +21,8 @@ CREATE TABLE shard_definitions(
   shard INTEGER NOT NULL, place INTEGER NOT NULL, definition TEXT NOT NULL,
   PRIMARY KEY(shard, place)) WITHOUT ROWID;
 
--- closed: 0 if the shard is driven, 1 if it is closed and passed its audit, 2 if it is closed and
--- failed its audit. audit: the verdict of the audit, or why no program can open a driven shard.
+-- closed: 0 if the shard is open, 1 if it is closed and passed its audit, 2 if it is closed and
+-- failed its audit. audit: the verdict of the audit, or why no program can drive an open shard.
 CREATE TABLE shards(
   shard INTEGER PRIMARY KEY, name TEXT NOT NULL UNIQUE,
   closed INTEGER NOT NULL DEFAULT 0, audit TEXT);
@@ -78,10 +78,12 @@ CREATE TABLE attempts(
 -- wait: until a time.
 -- approval: it was requested; until: when the request expires, or null.
 -- child: count children did not complete.
--- cannot_decode: the detail has the error.
--- Attempt 0 never begins. It holds a report on a step that has not begun: early_result and
+-- cannot_decode, program_error, no_definition: the detail has the error.
+-- Attempt 0 never begins. It holds a report on a step that has not started: early_result and
 -- early_error (detail: as the value of an attempt), and early_undone: a result of a saga that ended
 -- without it, where another saga undoes the step, if there is anything to undo.
+-- Attempt 0 of step -1 with the reason end_call: the saga has ended, and the saga that calls its
+-- on_end function is not started yet. detail: why it cannot be started.
 CREATE TABLE suspensions(
   id INTEGER NOT NULL, step INTEGER NOT NULL, action TEXT NOT NULL, number INTEGER NOT NULL,
   reason TEXT NOT NULL,
@@ -113,7 +115,7 @@ CREATE INDEX operator_commands_key ON operator_commands(key);
 -- concurrency: the maximum number of leases of the task, or null. lease: the newest one, or null.
 -- until: when the lease ends. outcome: null, then the reported one (OutcomeKind) under the lease
 -- `reported`, or one of: suspended (the outcome is unknown, and it is offered again), person (an
--- operator must answer), withdrawn (no worker had it), settled (a commit has it). value: as in
+-- operator must answer), withdrawn (no worker had it), `settled` (a commit has it). value: as in
 -- attempts. cancelled: why its saga is to be undone (aborted or failed), which its worker gets with
 -- its heartbeat.
 CREATE TABLE external_attempts(
@@ -160,6 +162,25 @@ CREATE TABLE schedules(
 -- with a codec has opened the store, whose values are encoded.
 CREATE TABLE secrets(name TEXT PRIMARY KEY, value TEXT NOT NULL) WITHOUT ROWID;
 """
+PAUSES = """
+-- Pauses. scope: the name of what it covers: everything, a definition (`saga`), a `step` of it, or
+-- a `queue`. forward_only: whether compensations start. refuse_starts: whether new sagas are
+-- refused. paused_by: who paused it, or null.
+CREATE TABLE IF NOT EXISTS pauses(
+  scope TEXT PRIMARY KEY, saga TEXT, step TEXT, queue TEXT, forward_only INTEGER NOT NULL,
+  refuse_starts INTEGER NOT NULL, note TEXT NOT NULL, paused_by TEXT, at REAL NOT NULL)
+  WITHOUT ROWID
+"""
+"""Also for files of older releases, which have no such table."""
+
+TRENDS = """
+-- Counts of events by time, for charts. Each is kept for three widths of a bucket. at: when the
+-- bucket begins. measure: what is counted (core/trends.py). The count of `oldest_task` is seconds.
+CREATE TABLE IF NOT EXISTS trends(
+  width INTEGER NOT NULL, at INTEGER NOT NULL, saga TEXT NOT NULL, measure TEXT NOT NULL,
+  count INTEGER NOT NULL, PRIMARY KEY(width, at, saga, measure)) WITHOUT ROWID
+"""
+"""Also for files of older releases."""
 
 STARTED = "CREATE INDEX IF NOT EXISTS sagas_started ON sagas(at)"
 """For files of older releases, which have no index of start times."""

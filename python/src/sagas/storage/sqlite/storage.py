@@ -10,7 +10,6 @@ import os
 import secrets
 import shlex
 import sqlite3
-import threading
 import time
 from collections.abc import Callable, Sequence
 from typing import Any
@@ -24,18 +23,19 @@ from sagas.base.errors import (
     StoreUnavailable,
 )
 from sagas.base.fork_guard import private_descriptors
-from sagas.base.logger import logger
-from sagas.core import children
-from sagas.core.batch import (
+from sagas.core.attempt import child_attempts
+from sagas.core.shard.balance import NodeShare
+from sagas.core.shard.batch import (
     Grant,
     LoadedShard,
     NewShard,
+    NewStart,
     PendingRequest,
     PendingStart,
     SagaRow,
     ShardRow,
 )
-from sagas.core.children import CompletedChild
+from sagas.core.attempt.child_attempts import CompletedChild
 from sagas.definition.payloads import Payloads
 from sagas.definition.serialization import cleaned
 from sagas.definition.call_options import Bounds
@@ -46,6 +46,7 @@ from sagas.storage.record_file import RecordFile
 from sagas.storage.sqlite.external_attempts import SqliteExternalAttempts
 from sagas.storage.sqlite.schema import VERSION
 from sagas.storage.sqlite.store_file import (
+    FileWatch,
     Reader,
     check_file,
     close_lock,
@@ -70,7 +71,7 @@ def migrate_file(path: str) -> str:
     Raises `StoreLocked`, `StoreSchemaTooNew`, `InvalidStore`, `StoreUnavailable`.
     """
     if not os.path.isfile(path):
-        raise InvalidStore(f"{path}: it is not there")
+        raise InvalidStore(f"{path}: the file does not exist")
     store = Sqlite(path)
     store._take_lock()
     before = store._make()
@@ -88,7 +89,10 @@ class Sqlite(queries.Questions):
     Short reads happen in the loop, and long ones in a thread. A `Writer` writes.
     """
 
-    shared = False
+    supports_nodes = False
+    answers_at_once = True
+    node = ""
+    lease_seconds = 0.0
     commit_seconds = 0.0
     pending_lookups = 0
     inside = None
@@ -100,12 +104,11 @@ class Sqlite(queries.Questions):
         self.path, self._encodes = os.fspath(path), encodes
         self.file = os.path.abspath(path)
         self._lock: int | None = None
-        self._identities: dict[str, tuple[int, int]] = {}  # of its files when it was opened
         self._timer: asyncio.Handle | None = None
-        self._faults = threading.Lock()
+        self._files = FileWatch(self.path)
         self._next_log = 0
         self.external: ExternalAttempts = SqliteExternalAttempts(self.rows)
-        self._writer = writer = Writer(self._check_files)
+        self._writer = writer = Writer(self._files)
         self.commit, self.finish_commit = writer.commit, writer.finish_commit
 
     @property
@@ -123,7 +126,7 @@ class Sqlite(queries.Questions):
         self._take_lock()
         self._make()
         lengthen(self._db)
-        self._identities = {name: file_identity(name) for name in (self.file, f"{self.file}-wal")}
+        self._files.begin(self.file, f"{self.file}-wal")
         self._writer.open(self._db)
         self._note_codec()
         self._next_log = int(self.rows("SELECT coalesce(max(shard) + 1, 0) FROM shards")[0][0])
@@ -132,7 +135,9 @@ class Sqlite(queries.Questions):
         for row in rows:
             below = completed.get(row.shard, [])
             missing = (
-                check_functions(row.texts, self.places(row.shard), below) if row.open else None
+                check_functions(row.texts, self.definition_indexes(row.shard), below)
+                if row.open
+                else None
             )
             if missing:
                 count = sum(row.open for row in rows)
@@ -166,7 +171,7 @@ class Sqlite(queries.Questions):
     def _note_codec(self) -> None:
         """Store that values are encoded.
 
-        Raises `MissingCodec` if they are encoded, and there is no codec.
+        Raises `MissingCodec` if they are encoded, and the program has no codec.
         """
         try:
             is_noted = bool(self._db.execute(codec_note.NOTED).fetchall())
@@ -183,12 +188,12 @@ class Sqlite(queries.Questions):
         self._lock = take_lock(path)
         if self._lock is None:
             holder = holder_of(path)
-            who = (
+            holder_text = (
                 "this program"
                 if holder == str(os.getpid())
                 else f"another program{f' (process {holder})' if holder else ''}"
             )
-            raise StoreLocked(f"{self.path}: {who} has this store open. Close it first")
+            raise StoreLocked(f"{self.path}: {holder_text} has this store open. Close it first")
         with contextlib.suppress(OSError):  # the process id is only for messages
             os.ftruncate(self._lock, 0)
             os.pwrite(self._lock, str(os.getpid()).encode(), 0)
@@ -219,7 +224,7 @@ class Sqlite(queries.Questions):
             nonlocal version
             self._timer = loop.call_later(LOOK, look)
             with contextlib.suppress(StoreUnavailable):
-                self._check_files()
+                self._files.check()
             self._look_for_lock()
             with contextlib.suppress(StoreUnavailable):
                 now = self.rows("PRAGMA data_version")[0][0]
@@ -228,25 +233,6 @@ class Sqlite(queries.Questions):
                     watcher.look()
 
         self._timer = loop.call_soon(look)
-
-    def _check_files(self) -> None:
-        """Check that no file of the store was deleted or replaced.
-
-        SQLite would continue to write into the deleted file, and the data would be lost. So nothing
-        is written from then on. Raises `StoreUnavailable`.
-        """
-        for name, identity in self._identities.items():
-            if file_identity(name) != identity:
-                remedy = (
-                    "nothing is written any more. Close the store, restore the file (a copy with "
-                    "its -wal, or a backup), and open it again"
-                )
-                self._give_up(
-                    f"{self.path}: {name} was deleted or replaced while the store was open, so "
-                    f"{remedy}"
-                )
-        if self._writer.failure:
-            raise self._writer.failure
 
     def _look_for_lock(self) -> None:
         """Create the lock file again if it was deleted.
@@ -261,21 +247,10 @@ class Sqlite(queries.Questions):
             self._take_lock()
         except SagasError as error:
             self._lock = lock
-            self._give_up(f"{error} The lock file was deleted while this program held it")
+            self._files.give_up(f"{error} The lock file was deleted while this program held it")
         else:
             private_descriptors.discard(lock)
             os.close(lock)
-
-    def _give_up(self, reason: str) -> None:
-        """Write nothing any more, for this reason.
-
-        The first reason stays. Both threads call this.
-        """
-        with self._faults:
-            if self._writer.failure:
-                return
-            self._writer.failure = StoreUnavailable(reason)
-        logger.critical("%s", reason)
 
     async def close(self) -> None:
         """Close after the commits that were given to the writer."""
@@ -307,15 +282,15 @@ class Sqlite(queries.Questions):
 
     async def admit(self, name: str, bounds: Bounds, want: int, have: Sequence[int]) -> Grant:
         """Take slots of a step: this program is the only node."""
-        places = free_slots(bounds.concurrency, want, have) if bounds.concurrency else []
-        count, pause = len(places) if bounds.concurrency else want, MAX_LOOK
+        slots = free_slots(bounds.concurrency, want, have) if bounds.concurrency else []
+        count, pause = len(slots) if bounds.concurrency else want, MAX_LOOK
         if bounds.rate_limit and count:
             # a killed program has counted its calls, since only a crash of the machine loses them
             connected = functools.partial(connect, self.file, "NORMAL")
             count, pause = await asyncio.to_thread(
                 take_slots, connected, self.path, name, bounds.rate_limit, count, time.time()
             )
-        return Grant(count, places[:count], pause)
+        return Grant(count, slots[:count], pause)
 
     # -- reading
 
@@ -344,20 +319,22 @@ class Sqlite(queries.Questions):
             for shard, name, note, opened, open in rows
         ]
 
-    def places(self, shard: int) -> list[int]:
+    def definition_indexes(self, shard: int) -> list[int]:
         """Return the indexes of the definitions of a shard's open sagas."""
-        return [index for (index,) in self.rows(queries.PLACES, *queries.bounds(shard))]
+        return [index for (index,) in self.rows(queries.DEFINITION_INDEXES, *queries.bounds(shard))]
 
     def completed_children(self) -> dict[int, list[CompletedChild]]:
         """Return the completed children below the open sagas of each shard."""
         rows = self.rows(queries.COMPLETED_IN_FILE)
         if not rows:
             return {}
-        return children.children_by_shard(rows, self.rows(queries.ALL_DEFINITIONS))
+        return child_attempts.children_by_shard(rows, self.rows(queries.ALL_DEFINITIONS))
 
     def find_many(self, keys: Sequence[str]) -> dict[str, SagaRow]:
         """Return the sagas that have these keys, by key."""
-        db, sagas = self._writer.reader() or self._reader, {}
+        sagas: dict[str, SagaRow] = {}
+        # the writing connection knows its own writes; another one would have to look for them
+        db = self._reader if self._writer.is_lent else self._db
         for index in range(0, len(keys), queries.MAX_KEYS):
             batch = [*keys[index : index + queries.MAX_KEYS]]
             count = queries.COUNTS[bisect.bisect_left(queries.COUNTS, len(batch))]
@@ -386,6 +363,18 @@ class Sqlite(queries.Questions):
         """Do nothing: all that is known was just read."""
 
     async def spare(self, shard: int) -> bool:
+        """Return False: there are no other nodes."""
+        return False
+
+    async def shares(self) -> list[NodeShare]:
+        """Return no node: there are no other ones."""
+        return []
+
+    async def leave_start(self, start: NewStart) -> bool:
+        """Return False: there are no other nodes."""
+        return False
+
+    async def move(self, shard: int, epoch: int, node: str, difference: int | None) -> bool:
         """Return False: there are no other nodes."""
         return False
 

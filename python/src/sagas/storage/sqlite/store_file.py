@@ -8,13 +8,15 @@ import os
 import pathlib
 import pwd
 import sqlite3
+import threading
 import time
 from typing import Any
 
 from sagas.base.errors import InvalidStore, StoreSchemaTooNew, StoreUnavailable
 from sagas.base.fork_guard import private_descriptors
+from sagas.base.logger import logger
 from sagas.definition.serialization import cleaned
-from sagas.storage.sqlite.schema import STARTED, VERSION, statements
+from sagas.storage.sqlite.schema import PAUSES, STARTED, TRENDS, VERSION, statements
 
 BUSY = 5000  # ms: an operator's command may be writing
 CHECKPOINT = 750
@@ -133,13 +135,18 @@ def lock_of(path: str | os.PathLike[str]) -> str:
 def open_lock(path: str, access: int) -> int:
     """Open a lock file, or create it if it is missing.
 
-    A forked process does not keep it open. Raises `StoreUnavailable`.
+    A forked process does not keep it open. Raises `StoreUnavailable`, and `InvalidStore` if the
+    path is of no folder.
     """
     try:
         lock = os.open(path, access | os.O_CREAT | os.O_CLOEXEC, 0o644)
     except FileNotFoundError as error:
-        raise StoreUnavailable(
+        raise InvalidStore(
             f"folder {os.path.dirname(path)} does not exist. Create it first"
+        ) from error
+    except NotADirectoryError as error:
+        raise InvalidStore(
+            f"{path}: a part of this path is a file, and not a folder. Name another folder"
         ) from error
     except PermissionError as error:
         owner = owner_of(path)
@@ -226,6 +233,47 @@ def file_identity(path: str | int) -> tuple[int, int]:
     return status.st_dev, status.st_ino
 
 
+class FileWatch:
+    """Notices that a file of an open store was deleted or replaced.
+
+    SQLite would continue to write into the deleted file, and the data would be lost. So nothing is
+    written from then on. All threads may call it.
+
+    Attributes:
+        failure: Why nothing is written any more.
+    """
+
+    def __init__(self, path: str) -> None:
+        self._path = path
+        self._identities: dict[str, tuple[int, int]] = {}
+        self._lock = threading.Lock()
+        self.failure: StoreUnavailable | None = None
+
+    def begin(self, *names: str) -> None:
+        """Note which files the store has opened."""
+        self._identities = {name: file_identity(name) for name in names}
+
+    def check(self) -> None:
+        """Raise `StoreUnavailable` if a file was deleted or replaced, now or before."""
+        for name, identity in self._identities.items():
+            if file_identity(name) != identity:
+                self.give_up(
+                    f"{self._path}: {name} was deleted or replaced while the store was open, so "
+                    "nothing is written any more. Close the store, restore the file (a copy with "
+                    "its -wal, or a backup), and open it again"
+                )
+        if self.failure:
+            raise self.failure
+
+    def give_up(self, reason: str) -> None:
+        """Write nothing any more, for this reason. The first reason stays."""
+        with self._lock:
+            if self.failure:
+                return
+            self.failure = StoreUnavailable(reason)
+        logger.critical("%s", reason)
+
+
 def owner_of(path: str) -> str | None:
     """Return the owner of a file, if it is another user."""
     try:
@@ -261,6 +309,8 @@ def migrate(db: sqlite3.Connection, path: str) -> int:
         for statement in statements():
             db.execute(statement)
     db.execute(STARTED)
+    db.execute(PAUSES)
+    db.execute(TRENDS)
     # written even if it is the same, to check that the file can be written
     db.execute(f"PRAGMA user_version = {VERSION}")
     db.execute("COMMIT")

@@ -9,7 +9,7 @@ from typing import Any
 from urllib.parse import quote
 
 from sagas.base.errors import StoreUnavailable, WrongStore
-from sagas.core.external_work import AttemptTexts, Order
+from sagas.core.attempt.external_work import AttemptTexts, Order
 from sagas.core.outcomes import Outcome
 from sagas.definition.call_options import Function
 from sagas.storage.sqlite.external_attempts import REPORT
@@ -50,9 +50,11 @@ class SqliteWorkerSession:
 
         Return None if the attempt is closed. Raises `WrongStore`, `StoreUnavailable`.
         """
-        return fetched(order, self._ask(BEGIN, (order.token, order.log)), self._one, self.path)
+        return fetched(
+            order, self._ask(BEGIN, (order.token, order.log)), self._first_text, self.path
+        )
 
-    def _one(self, text: str, *parameters: Any) -> str:
+    def _first_text(self, text: str, *parameters: Any) -> str:
         rows = self._ask(text, parameters)
         return str(rows[0][0]) if rows and rows[0][0] is not None else "null"
 

@@ -19,11 +19,11 @@ import time
 from collections.abc import Callable, Iterable, Sequence
 from typing import Any
 
-from sagas.core.batch import Batch, DefinitionRow, EndedRow, RareRows, Withdrawal
+from sagas.core.shard.batch import Batch, DefinitionRow, EndedRow, RareRows, Withdrawal
 from sagas.definition.serialization import clean, cleaned
 from sagas.storage import external
 from sagas.storage.interface import CommitCallback
-from sagas.storage.sqlite.store_file import BUSY, CHECKPOINT, LONG
+from sagas.storage.sqlite.store_file import BUSY, CHECKPOINT, LONG, FileWatch
 
 # -- the statements of a commit
 
@@ -79,6 +79,10 @@ UNDONE = """
 UPDATE suspensions SET reason = 'early_undone'
 WHERE id = ? AND step = ? AND action = 'run' AND number = 0 AND reason = 'early_result'
 """
+END_CALLED = "DELETE FROM suspensions WHERE id = ? AND step = -1 AND reason = 'end_call'"
+END_FAULTS = """
+UPDATE suspensions SET detail = ? WHERE id = ? AND step = -1 AND reason = 'end_call'
+"""
 CLOSED = "UPDATE shards SET closed = ?, audit = ? WHERE shard = ?"
 SET_ASIDE = "UPDATE shards SET audit = ? WHERE shard = ? AND closed = 0"
 RowsOf = Callable[[int, RareRows], Sequence[Sequence[Any]]]
@@ -102,9 +106,14 @@ PARTS: dict[str, tuple[str, RowsOf]] = {
     "deliveries": (DELIVERIES, lambda shard, rare: [cleaned(row) for row in rare.deliveries]),
     "spans": (SPANS, lambda shard, rare: [cleaned(row) for row in rare.spans]),
     "answers": (ANSWERS, lambda shard, rare: rare.answers),
-    "asked": (REQUESTS, lambda shard, rare: [(*row, answer) for row, answer in rare.asked]),
+    "requested": (REQUESTS, lambda shard, rare: [(*row, answer) for row, answer in rare.requested]),
     "notes": (NOTES, lambda shard, rare: [(clean(note), id) for note, id in rare.notes]),
     "undone": (UNDONE, lambda shard, rare: rare.undone),
+    "end_called": (END_CALLED, lambda shard, rare: rare.end_called),
+    "end_faults": (
+        END_FAULTS,
+        lambda shard, rare: [(clean(detail), id) for detail, id in rare.end_faults],
+    ),
     "closed": (CLOSED, lambda shard, rare: [(*rare.closed, shard)] if rare.closed else ()),
     "set_aside": (
         SET_ASIDE,
@@ -140,7 +149,7 @@ def rows_statement(statement: str, width: int, count: int) -> str:
 
 # -- the writer
 
-MOST = 6000
+MAX_WAL_PAGES = 6000
 """Pages of the WAL at which any next commit moves it into the file.
 
 Large values make it that long.
@@ -193,15 +202,15 @@ class Gap(Exception):
 class Writer:
     """Owns the connection that writes, once `open` was called.
 
-    `events` has the number of events of each shard that was read or written last. `check` is called
-    before each commit, in either thread. It raises if the store's files were replaced.
+    `events` has the number of events of each shard that was read or written last. `files` is
+    checked before each commit, in either thread.
     """
 
     _db: sqlite3.Connection
     _thread: threading.Thread | None = None
 
-    def __init__(self, check: Callable[[], None]) -> None:
-        self._check = check
+    def __init__(self, files: FileWatch) -> None:
+        self._files = files
         self.commits = 0
         self.events: dict[int, int] = {}
         self._jobs: queue.SimpleQueue[
@@ -210,13 +219,12 @@ class Writer:
         self._took = AT_ONCE  # seconds, the average of the loop's last commits
         self._patient: bool | None = None  # whether the connection waits for other programs
         self._moves: bool | None = None  # whether the connection moves the WAL into the file
-        self._lent = False  # whether the thread has the connection
+        self.is_lent = False
+        """Whether the thread has the connection."""
         self._pages = 0  # estimate of the pages that the loop wrote into the WAL
         self._over: tuple[
             CommitCallback, Sequence[Batch], BaseException | None, frozenset[int]
         ] | None = None  # a commit of the loop whose `then` is to be called
-        self.failure: Exception | None = None
-        """Why nothing is written any more."""
 
     def open(self, db: sqlite3.Connection) -> None:
         """Start the thread."""
@@ -239,11 +247,11 @@ class Writer:
         failure: Exception | None = None
         lost = NONE
         try:
-            if self.failure:
-                raise self.failure
+            if self._files.failure:
+                raise self._files.failure
             put = self._put_here(batches) if rows <= FEW_ROWS else None
             if put is None or not self._sync_here(put[0], rows):
-                self._pages, self._lent = 0, True
+                self._pages, self.is_lent = 0, True
                 self._jobs.put((batches, then, put))
                 return
             lost = put[1]
@@ -319,15 +327,8 @@ class Writer:
         failure: Exception | None,
         lost: frozenset[int],
     ) -> None:
-        self._lent = False
+        self.is_lent = False
         then(batches, failure, lost)
-
-    def reader(self) -> sqlite3.Connection | None:
-        """Return the connection, for reads while it is not writing.
-
-        It knows its own writes. Another connection would have to look for them.
-        """
-        return None if self._lent else self._db
 
     def _put(self, batches: Sequence[Batch], patient: bool) -> PutResult:
         """Begin a transaction, and insert all rows.
@@ -393,9 +394,11 @@ class Writer:
         try:
             if patient != self._moves:
                 self._moves = None
-                self._db.execute(f"PRAGMA wal_autocheckpoint = {CHECKPOINT if patient else MOST}")
+                self._db.execute(
+                    f"PRAGMA wal_autocheckpoint = {CHECKPOINT if patient else MAX_WAL_PAGES}"
+                )
                 self._moves = patient
-            self._check()
+            self._files.check()
             began = time.perf_counter()
             self._execute("COMMIT")
         except BaseException:
@@ -475,7 +478,7 @@ class Writer:
 
     def _put_rare(self, rare: Sequence[tuple[int, RareRows]]) -> None:
         """Write the rare parts of shards with these numbers."""
-        has = {part for _, parts in rare for part in parts.parts}
+        has = {part for _, parts in rare for part in vars(parts)}
         if "defined" in has:
             define(self._db, ((shard, parts.defined) for shard, parts in rare))
         for part, (statement, rows_of) in PARTS.items():

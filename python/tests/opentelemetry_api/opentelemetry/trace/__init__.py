@@ -75,7 +75,7 @@ class Link:
 
 
 class NonRecordingSpan:
-    """A span of which only the context is known."""
+    """A span with only a context: it is known."""
 
     def __init__(self, context: SpanContext) -> None:
         self._context = context

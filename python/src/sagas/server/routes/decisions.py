@@ -1,0 +1,113 @@
+"""The list of decisions: who decided what, on which sagas, as a call and as a page."""
+
+from __future__ import annotations
+
+from typing import Any
+from urllib.parse import urlencode
+
+from starlette.responses import Response
+
+from sagas.core.decisions import Decision, DecisionEntry, Way
+from sagas.inspection import decision_questions
+from sagas.inspection.decision_questions import MAX_KEYS, DecisionFilter
+from sagas.server import answers
+from sagas.server.auth import Permission, Principal
+from sagas.server.dashboard import show_page
+from sagas.server.json_bodies import Json, times
+from sagas.server.operations import Answer, Call, Routes
+from sagas.server.routes.filters import LIMIT
+from sagas.server.shapes import Choice, Field, Number, Text
+
+routes = Routes("operators", "/v1")
+page_routes = Routes("pages", is_page=True)
+MAX_NUMBER = 1 << 62
+AFTER = Field(Number(1, MAX_NUMBER, whole=True), "`next` of the previous page", default=None)
+FILTERS = {
+    "key": Field(Text(max_length=512), "only decisions on this saga", default=None),
+    "definition": Field(
+        Text(max_length=64), "only decisions on sagas of this definition", default=None
+    ),
+    "decision": Field(Choice((*Decision,)), "only decisions of this kind", default=None),
+}
+SHOWN, LISTED = 5, 50
+"""How many keys of an entry, and how many entries, a page of the dashboard has."""
+
+
+def filter_of(principal: Principal, query: Any) -> DecisionFilter:
+    """Return the filter of a query, within what the principal may see."""
+    names = query["key"] or None, query["definition"] or None, query["decision"] or None
+    return DecisionFilter(*names, scope=principal.scope)
+
+
+def entry_json(entry: DecisionEntry) -> dict[str, Any]:
+    """Return a decision, with at most `MAX_KEYS` of its sagas."""
+    return {
+        "number": entry.number,
+        "decision": entry.command,
+        **times(at=entry.at),
+        "by": entry.by,
+        "via": entry.via,
+        "note": entry.note,
+        "bulk": entry.is_bulk,
+        "subject": entry.subject,
+        "count": len(entry.sagas),
+        **entry.counts,
+        "sagas": [
+            {
+                "key": saga.key,
+                "definition": saga.saga,
+                "step": saga.step,
+                "undo": saga.undo,
+                "answer": saga.answer,
+            }
+            for saga in entry.sagas[:MAX_KEYS]
+        ],
+    }
+
+
+@routes.get(
+    "/decisions",
+    "listDecisions",
+    permission=Permission.LOOK,
+    query=FILTERS | {"after": AFTER, "limit": LIMIT},
+    answers={200: Answer("A page of decisions.", answers.DECISIONS)},
+)
+async def decisions(call: Call) -> Response:
+    """List who decided what, newest first.
+
+    Returns decisions on sagas that the token may see, and pauses; those on nodes only if it may
+    see all sagas. A decision on many sagas at once is one entry, with the sagas that the token may
+    see, at most 1,000. Decisions are deleted with their sagas.
+    """
+    limit = call.query["limit"]
+    of = filter_of(call.principal, call.query)
+    question = decision_questions.listed(of, call.query["after"], limit)
+    entries = await call.service.look(question)
+    more = entries[-1].number if len(entries) == limit else None
+    return Json({"decisions": [entry_json(entry) for entry in entries], "next": more})
+
+
+@page_routes.get("/ui/decisions", permission=Permission.BROWSE, query=FILTERS | {"after": AFTER})
+async def page(call: Call) -> Response:
+    """Show who decided what."""
+    principal, query = call.principal, dict(call.query)
+    of, limit = filter_of(principal, query), LISTED
+    entries = await call.service.look(decision_questions.listed(of, query["after"], limit + 1))
+    counts, _ = await call.service.figures.of(principal.scope)
+    shown = entries[:limit]
+    older = None
+    if len(entries) > limit:
+        parts = {name: value for name, value in query.items() if value and name != "after"}
+        older = f"/ui/decisions?{urlencode(parts | {'after': shown[-1].number})}"
+    values: dict[str, Any] = {"entries": shown, "keys": SHOWN, "older": older, "query": query}
+    values |= {"names": counts, "decisions": [*Decision], "ways": WAYS}
+    return show_page(call.request, "decisions.html", here="decisions", **values)
+
+
+WAYS = {
+    Way.DASHBOARD.value: "the dashboard",
+    Way.HTTP.value: "the HTTP API",
+    Way.COMMAND.value: "the command",
+    Way.PROGRAM.value: "a program",
+}
+"""The ways of decisions, in words."""
