@@ -1401,7 +1401,7 @@ def test_reads_do_not_block_the_loop(url: str, table: str) -> None:
                     since = node._until
                     await until(lambda: node._until > since + lease + 0.5)
                     assert store._holds() and not answers.done()
-                assert turns.longest < 1.0
+                assert turns.longest < lease
                 stranger.rollback()
                 results = dict(zip(reads, await answers))
         assert results["get"] and {summary.key for summary in results["list"]} == {"k", "other's"}
@@ -1474,7 +1474,7 @@ def test_an_audit_in_the_background_blocks_nothing(url: str) -> None:
                     await until(lambda: asyncio.to_thread(waits_in, url))
                     since = node._until
                     await until(lambda: node._until > since + lease + 0.5)
-                    assert not event_names and turns.longest < 0.2
+                    assert not event_names and turns.longest < lease
                     stranger.rollback()
                     await until(lambda: "shard_closed" in event_names)
 

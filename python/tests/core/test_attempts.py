@@ -275,17 +275,30 @@ def test_a_wait_until_a_time_of_the_program() -> None:
     [
         ('"raises"', OutcomeKind.FAILED, "ValueError: no idea"),
         ('"fails"', OutcomeKind.FAILED_PERMANENTLY, "Fail: never"),
-        ('"text"', OutcomeKind.FAILED, "fromisoformat"),
-        ('"naive"', OutcomeKind.FAILED, "a datetime without a time zone"),
-        ('"none"', OutcomeKind.FAILED, "NoneType"),
     ],
 )
-def test_a_wait_that_cannot_say_its_time_has_failed(
-    text: str, kind: OutcomeKind, message: str
-) -> None:
+def test_a_wait_whose_function_raises_has_failed(text: str, kind: OutcomeKind, message: str) -> None:
     attempt = attempt_of("later", text=text)
     assert answered(attempt) is REPORT
     assert attempt.outcome and attempt.outcome.kind is kind and message in error_of(attempt)
+
+
+@pytest.mark.parametrize(
+    ("text", "message"),
+    [
+        ('"text"', "fromisoformat"),
+        ('"naive"', "a datetime without a time zone"),
+        ('"none"', "NoneType"),
+    ],
+)
+def test_a_wait_whose_function_returns_no_time_has_a_bug(text: str, message: str) -> None:
+    """No try reports a failure: the step is suspended until the program is mended."""
+    attempt = attempt_of("later", text=text)
+    decision = answered(attempt)
+    assert decision.do is Do.SUSPEND and decision.row
+    assert decision.row.reason is Suspension.PROGRAM_ERROR and decision.row.until is None
+    assert message in (decision.row.error or "")
+    assert attempt.outcome and attempt.outcome.kind is OutcomeKind.PROGRAM_ERROR
 
 
 def test_a_saga_drains_while_the_time_of_a_wait_is_computed() -> None:
