@@ -16,10 +16,15 @@ from test_service_tokens import World
 
 import sagas
 from sagas.core import trends
+from sagas.core.attempt.instance import SagaInstance
 from sagas.core.trends import BOUNDS, TrendCounts, TrendRange, percentile, rows_of, trends_of
+from sagas.definition.registry import DefinitionRegistry
 from sagas.inspection import charts
 from sagas.storage import admin, trends as table
 
+TRIP = sagas.Saga("trip")
+TRIP.step(name="book", undo=0)(lambda task: None)
+KIND = DefinitionRegistry([TRIP]).kinds[0]
 NOW = 1_800_000_000.0 + 125  # two minutes and five seconds after a full hour
 
 
@@ -35,11 +40,18 @@ def test_a_range_ends_with_the_bucket_of_now(kind: str, count: int, seconds: int
     assert buckets[-1] <= NOW < buckets[-1] + seconds
 
 
+def trip() -> SagaInstance:
+    """Return a saga that was started at `NOW`, and is about to end."""
+    instance = SagaInstance("k", "null", KIND, 0)
+    instance.started_at = NOW
+    return instance
+
+
 def test_each_count_is_stored_once_for_each_width() -> None:
     counts = TrendCounts()
-    counts.add_start("trip")
-    counts.add_start("trip")
-    counts.add_end("trip", False, 0.25)
+    first, second = trip(), trip()
+    counts.add_starts([first, second])
+    counts.add_ends([first], now=NOW + 0.25)
     counts.add_age("trip", 7.2)
     counts.add_age("trip", 3.0)
     taken = counts.take()
@@ -56,10 +68,10 @@ def test_each_count_is_stored_once_for_each_width() -> None:
 
 def test_counts_that_could_not_be_stored_are_stored_later() -> None:
     counts = TrendCounts()
-    counts.add_start("trip")
+    counts.add_starts([trip()])
     counts.add_age("trip", 9.0)
     taken = counts.take()
-    counts.add_start("trip")
+    counts.add_starts([trip()])
     counts.add_age("trip", 4.0)
     counts.put_back(taken)
     assert counts.take() == {("trip", "started"): 2, ("trip", "oldest_task"): 9}
@@ -68,7 +80,7 @@ def test_counts_that_could_not_be_stored_are_stored_later() -> None:
 def bucket_of(seconds: float) -> int:
     """Return the bucket of a duration."""
     counts = TrendCounts()
-    counts.add_end("trip", True, seconds)
+    counts.add_ends([trip()], NOW + seconds)
     (measure,) = [name for _, name in counts.take() if name.startswith(trends.DURATION)]
     return int(measure.removeprefix(trends.DURATION))
 

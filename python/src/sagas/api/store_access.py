@@ -299,6 +299,10 @@ def may_leave(saga: SagaParts | CompiledDefinition, options: StartOptions) -> Ty
     return not isinstance(saga, CompiledDefinition) and not is_linked
 
 
+NO_OPTIONS = (None, None, None, None, None)
+"""The optional arguments of `Starter.start`, if none is given."""
+
+
 class Starter:
     """Starts sagas. Without `accepts_new`, it only finds existing ones."""
 
@@ -338,8 +342,7 @@ class Starter:
         options = start_options.NONE
         if deadline is None:
             deadline = saga.deadline
-        options_given = (labels, deadline, traceparent, token, restarts)
-        if any(option is not None for option in options_given):
+        if (labels, deadline, traceparent, token, restarts) != NO_OPTIONS:
             deadline_time, saga_labels = deadline_at(deadline, coordinator.clock()), checked(labels)
             saga_labels = (
                 saga_labels if token is None else with_token(saga_labels, token, len(text))

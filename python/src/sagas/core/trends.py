@@ -8,6 +8,10 @@ import math
 from bisect import bisect_left
 from collections import defaultdict
 from collections.abc import Iterable, Mapping
+from typing import TYPE_CHECKING
+
+if TYPE_CHECKING:
+    from sagas.core.attempt.instance import SagaInstance
 
 STARTED, COMPLETED, RECOVERED = "started", "completed", "recovered"
 STUCK, FAILED_STEPS, OLDEST_TASK = "stuck", "failed_steps", "oldest_task"
@@ -79,19 +83,21 @@ class TrendCounts:
     def __bool__(self) -> bool:
         return bool(self._tallies or self._ages)
 
-    def add_start(self, saga: str) -> None:
-        """Count the start of a saga with this definition."""
-        self._tallies[saga][STARTS] += 1
+    def add_starts(self, sagas: Iterable[SagaInstance]) -> None:
+        """Count the starts of sagas."""
+        for saga in sagas:
+            self._tallies[saga.kind.name][STARTS] += 1
 
-    def add_end(self, saga: str, is_planned: bool, seconds: float) -> None:
-        """Count the end of a saga, and how long it took. `is_planned`: a plan ended it."""
-        tally = self._tallies[saga]
-        tally[RECOVERIES if is_planned else COMPLETIONS] += 1
-        tally[FIRST_DURATION + bisect_left(BOUNDS, seconds)] += 1
-
-    def add_stuck(self, saga: str) -> None:
-        """Count a saga that got stuck."""
-        self._tallies[saga][STUCKS] += 1
+    def add_ends(self, sagas: Iterable[SagaInstance], now: float) -> None:
+        """Count sagas that ended at this time, or got stuck, and how long the others took."""
+        for saga in sagas:
+            tally = self._tallies[saga.kind.name]
+            if saga.phase == "stuck":
+                tally[STUCKS] += 1
+            else:
+                is_planned = saga.answer is not None and saga.answer.get("kind") == "plan"
+                tally[RECOVERIES if is_planned else COMPLETIONS] += 1
+                tally[FIRST_DURATION + bisect_left(BOUNDS, now - saga.started_at)] += 1
 
     def add_failed_step(self, saga: str) -> None:
         """Count a step that failed permanently."""

@@ -461,7 +461,7 @@ def _of_dict(key_hint: Any, hint: Any) -> Decoder:
     def read(value: Any) -> Any:
         if type(value) is not dict:
             raise wrong_type(NAMES[dict], value)
-        if key is None and set(map(type, value.values())) <= unchanged:
+        if key is None and all(map(unchanged.__contains__, map(type, value.values()))):
             return value
         decoded = {}
         for text, item in value.items():
@@ -526,7 +526,7 @@ def _of_items(make: Any, hint: Any) -> Decoder:
     def read(value: Any) -> Any:
         if type(value) is not list:
             raise wrong_type(NAMES[list], value)
-        if set(map(type, value)) <= unchanged:
+        if all(map(unchanged.__contains__, map(type, value))):
             items = value
         else:
             items = []

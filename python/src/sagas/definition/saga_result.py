@@ -111,7 +111,9 @@ class EndQueries:
     @property
     def ok(self: SagaEnd) -> bool:
         """Whether every step is committed, except for optional failures."""
-        return self.phase in ENDED and all(
+        if self.phase not in ENDED:
+            return False
+        return all(map("committed".__eq__, self.states.values())) or all(
             state == "committed" or step in self.optional_failures
             for step, state in self.states.items()
         )

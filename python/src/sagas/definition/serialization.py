@@ -27,6 +27,7 @@ NUMBERS = {int, float, bool}
 UNSTORABLE = "unstorable"
 FAILED = "$failed"
 """The only key of the stored result of an optional failure: of an optional step, or an item."""
+UNSTORABLE_NAME, FAILED_NAME = f'"{UNSTORABLE}"', f'"{FAILED}"'
 FAILED_HEAD = f'{{"{FAILED}":'
 """The beginning of the stored text of an optional failure. No codec encodes it."""
 MAX_LEVELS = 64
@@ -34,6 +35,8 @@ MAX_LEVELS = 64
 
 JSON libraries of all languages can read it together with the levels around it in a reply.
 """
+SHORT = 2 * MAX_LEVELS
+"""No text of this length has more levels than `MAX_LEVELS`."""
 BRACKETS = b"[]{}"
 OTHERS = bytes(byte for byte in range(256) if byte not in BRACKETS)
 ALIKE = bytes.maketrans(b"{}", b"[]")
@@ -129,7 +132,7 @@ def is_deeper(text: str, levels: int = MAX_LEVELS) -> bool:
 
     It does not recurse. For 1 MiB it takes at most 50 ms, for any order of brackets.
     """
-    if len(text) <= 2 * levels or text.count("[") + text.count("{") <= levels:
+    if text.count("[") + text.count("{") <= levels:
         return False
     data = text.encode("ascii", "replace").replace(b"\\\\", b"").replace(b'\\"', b"")
     brackets = b"".join(data.split(b'"')[::2]).translate(ALIKE, OTHERS)
@@ -173,13 +176,15 @@ def write(value: Any, name: str = "") -> str:
     try:
         return "".join(_chunks(value, 0))
     except Exception as error:  # also of the value's own code
-        path = name
-        if not isinstance(error, RecursionError):
-            with contextlib.suppress(Exception):
-                path += _path(value, MAX_DEEP)
-        raise NotSerializable(
-            f"{path}: {_reason(value, error)}" if path else _reason(value, error)
-        ) from error
+        raise _not_serializable(value, name, error) from error
+
+
+def _not_serializable(value: Any, name: str, error: Exception) -> NotSerializable:
+    path = name
+    if not isinstance(error, RecursionError):
+        with contextlib.suppress(Exception):
+            path += _path(value, MAX_DEEP)
+    return NotSerializable(f"{path}: {_reason(value, error)}" if path else _reason(value, error))
 
 
 def write_value(value: Any, name: str = "") -> str:
@@ -189,8 +194,11 @@ def write_value(value: Any, name: str = "") -> str:
         NotSerializable: As `write`. Or the value has more than `MAX_LEVELS` levels, which not
             every program could read.
     """
-    text = write(value, name)
-    if is_deeper(text):
+    try:
+        text = "null" if value is None else "".join(_chunks(value, 0))
+    except Exception as error:  # also of the value's own code
+        raise _not_serializable(value, name, error) from error
+    if len(text) > SHORT and is_deeper(text):
         raise NotSerializable(f"{name}: {TOO_DEEP}" if name else TOO_DEEP)
     return text
 
@@ -266,6 +274,11 @@ def optional_failures(results: Mapping[int, str]) -> dict[int, str]:
     }
 
 
+def may_have_errors(text: str) -> bool:
+    """Return whether an error may stand in this JSON text in place of a result."""
+    return FAILED_NAME in text or UNSTORABLE_NAME in text
+
+
 def is_plain(value: Any) -> bool:
     """Return whether a stored value is an error instead of a result."""
     return unstorable(value) is not None or failed(value) is not None
@@ -313,8 +326,11 @@ def fitting(text: str, decoder: Decoder | None) -> Any:
 
 def fitted(value: Any, decoder: Decoder | None) -> Any:
     """Return a decoded value, or the JSON value if it does not fit its type."""
-    if decoder is None or is_plain(value):
-        return value
+    return value if decoder is None or is_plain(value) else fitted_result(value, decoder)
+
+
+def fitted_result(value: Any, decoder: Decoder) -> Any:
+    """Return a decoded result, which is no error, or the JSON value if it does not fit its type."""
     try:
         return decoder(value)
     except Exception:  # of the type's own code

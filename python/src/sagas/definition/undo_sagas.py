@@ -251,20 +251,19 @@ def _undoing(
 
 def check_started(saga: SagaParts) -> None:
     """Raise `DefinitionError` if only the store starts a saga, because of others."""
-    ended = getattr(saga, "ends", None)
-    if ended is not None:
+    if not isinstance(saga, SagaParts) or saga.ends is saga.starts_for is saga.undoes is None:
+        return
+    if (ended := saga.ends) is not None:
         raise DefinitionError(
             f"saga {saga.name!r} calls on_end of {ended.name!r}, so only the store starts it. "
             f"Start {ended.name!r}, or a saga of another name"
         )
-    starter = getattr(saga, "starts_for", None)
-    if starter is not None:
+    if (starter := saga.starts_for) is not None:
         raise DefinitionError(
             f"saga {saga.name!r} starts the children of step {starter.name!r} of saga "
             f"{starter.saga.name!r}, so only that step starts it. Start {starter.saga.name!r}"
         )
-    child = getattr(saga, "undoes", None)
-    if child is not None:
+    if (child := saga.undoes) is not None:
         raise DefinitionError(
             f"saga {saga.name!r} undoes {child.name!r} as a child, so only parents of such "
             f"children start it. Start {child.name!r}, or a saga of another name"

@@ -6,6 +6,7 @@ import asyncio
 import contextlib
 import errno
 import fcntl
+import itertools
 import os
 import select
 import subprocess
@@ -29,6 +30,7 @@ AGAIN = 32
 AGAIN_LATER = 0.01  # seconds
 REPLY = "{"
 """The first character of each reply. Lines of the log begin with a plus, which sorts before it."""
+IS_REPLY = REPLY.__le__
 NOT_RUNNABLE = (errno.ENOEXEC, errno.EACCES, errno.ENOENT)
 """The errors of the system for a program that it cannot run: another processor, no permission or no
 loader."""
@@ -207,8 +209,8 @@ class EngineProcess:
         )  # all of ASCII: no character is cut
         self._partial_line = lines.pop()
         # a line of the log is shown before the reply that it belongs to
-        self._replies += [line for line in lines if line >= REPLY]
-        self._log_lines += [line for line in lines if line < REPLY]
+        self._replies += filter(IS_REPLY, lines)
+        self._log_lines += itertools.filterfalse(IS_REPLY, lines)
         if not self.unanswered or len(self._replies) < self.unanswered:
             return None
         replies, self._replies, self.unanswered = self._replies, [], 0

@@ -496,14 +496,14 @@ class Executor:
     def reported(self, attempts: Sequence[Attempt]) -> None:
         """Handle that reports are stored, each with its event."""
         is_wanted = self._teller.is_wanted("step_succeeded")
-        is_awaited = self.kept.futures
-        for attempt in attempts:
-            if is_awaited:
+        if self.kept.futures:
+            for attempt in attempts:
                 self.kept.notify(attempt)
+        for attempt in attempts:
             outcome = attempt.outcome
-            if attempt.event not in DONE:
-                self._emit_failure(attempt)
-            elif outcome is not None and outcome.encoded and is_optional_failure(outcome):
+            if attempt.event in DONE and outcome and not outcome.encoded and not is_wanted:
+                continue  # most
+            if attempt.event not in DONE or is_optional_failure(outcome):
                 self._emit_failure(attempt)
             elif is_wanted and not undoes_failure(attempt):
                 self.emit(attempt, "step_succeeded")

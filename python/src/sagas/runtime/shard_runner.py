@@ -628,17 +628,17 @@ class EffectHandler:
 
     def _opened(self, sagas: Sequence[SagaInstance]) -> None:
         is_wanted = self._teller.is_wanted("saga_started")
+        self._trends.add_starts(sagas)
         for saga in sagas:
             self._sagas.notify_started(saga)
-            self._trends.add_start(saga.kind.name)
             if is_wanted:
                 self._teller.emit("saga_started", key=saga.key, saga=saga.kind.name)
 
     def _ended(self, sagas: Sequence[SagaInstance]) -> None:
-        is_wanted, now = self._teller.is_wanted("saga_ended"), self._clock()
+        is_wanted = self._teller.is_wanted("saga_ended")
+        self._trends.add_ends(sagas, self._clock())
         for saga in sagas:
             self._sagas.notify_ended(saga)
-            self._count_end(saga, now)
             if is_wanted or saga.phase != "ended":
                 self._emit_end(saga)
             if saga.has_deviated and saga.phase == "ended" and (steps := undo_failures(saga.end)):
@@ -646,13 +646,6 @@ class EffectHandler:
             has_early = saga.extras is not None and saga.extras.early_reports
             if has_early and (unused := reports.unused_report_steps(saga)):
                 self._emit_unused(saga, unused)
-
-    def _count_end(self, saga: SagaInstance, now: float) -> None:
-        if saga.phase == "stuck":
-            self._trends.add_stuck(saga.kind.name)
-        else:
-            is_planned = saga.answer is not None and saga.answer.get("kind") == "plan"
-            self._trends.add_end(saga.kind.name, is_planned, now - saga.started_at)
 
     def _emit_end(self, saga: SagaInstance) -> None:
         """Emit how a saga ended: its phase, and the blocking steps of a stuck one."""
