@@ -506,7 +506,9 @@ class Store(Operators):
         traceparent: str | None,
     ) -> Run:
         """Start a saga. `token` is the name of a service's token, or None."""
-        trace = tracing.of_start(self._tracer, traceparent)
+        trace = traceparent
+        if traceparent is not None or self._tracer is not None:
+            trace = tracing.of_start(self._tracer, traceparent)
         new = await self._starter.start(saga, key, input, labels, deadline, trace, token)
         return Run(self, key, new)
 

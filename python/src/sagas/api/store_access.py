@@ -350,7 +350,8 @@ class Starter:
             if restarts is not None:
                 saga_labels = {**saga_labels, RESTART: restart_value(*restarts)}
             options = StartOptions(saga_labels, deadline_time, None, None, traceparent)
-        refusal = coordinator.pauses.refusal(saga.name)
+        pauses = coordinator.pauses
+        refusal = pauses.refusal(saga.name) if pauses.has_any else None
         if fitted is None:
             return self._shape(coordinator, saga, key, text, options, self.accepts_new, refusal)
         fitted = fitted if refusal is None else fitted._replace(wrong=refusal)

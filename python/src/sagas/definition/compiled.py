@@ -10,7 +10,7 @@ from typing import Any, NamedTuple
 
 import tomllib
 
-from sagas.base.errors import CannotDecode, InvalidInput
+from sagas.base.errors import CannotDecode
 from sagas.definition import definition_text, input_types, serialization, type_checks
 from sagas.definition.call_options import Function, Manner, nothing
 from sagas.definition.definition_text import name_of, version_of
@@ -150,6 +150,7 @@ class CompiledDefinition:
         payloads: How inputs and results are stored.
         hooks: The webhooks that receive events of its sagas.
         declared: The declaration of the saga in this program.
+        calls_end: Whether the program has an `on_end` function for the ends of its sagas.
         undoes: The name of the child that its sagas undo, or None.
         starts_each: Whether its sagas start the children of one step, one for each item.
         below: The numbers of the steps that each step needs, directly or not.
@@ -171,6 +172,8 @@ class CompiledDefinition:
         self.payloads = payloads
         self.hooks: Hooks = {}
         self.declared = declared or Declaration(saga)
+        root = self.declared.root
+        self.calls_end = root is not None and root.end_saga is not None
         is_shaped = definition_text.is_shaped(text)
         listed = definition_text.shaped_steps(text) if is_shaped else tomllib.loads(text)["step"]
         self.layout: Layout | None = layout_of(text, listed) if is_shaped else None
@@ -224,12 +227,6 @@ class CompiledDefinition:
         self.input_types: InputTypes = self.declared.input_types
         is_typed = any((*self.inputs, *undo_inputs, *self.input_types.readers))
         self.reads = bool(payloads.reads or self.decoders or is_typed)
-
-    @property
-    def calls_end(self) -> bool:
-        """Whether the program has an `on_end` function for the ends of its sagas."""
-        saga = self.declared.root
-        return saga is not None and saga.end_saga is not None
 
     def with_costs(self, text: str) -> CompiledDefinition:
         """Return the definition of a text that differs from this one's only in its costs."""
@@ -317,10 +314,6 @@ class CompiledDefinition:
                 left.remove(step)
                 below[step] = set(needs[step]).union(*(below[need] for need in needs[step]))
         return [sorted(below[step]) for step in range(len(needs))]
-
-    def input_error(self, text: str) -> InvalidInput | None:
-        """Return why the functions of the saga cannot read an input, or None if they can."""
-        return self.input_types.error(text)
 
     def own_input(self, number: int, text: str | None, values: ShapeValues | None) -> str | None:
         """Return the input that the functions of a step read, as JSON.

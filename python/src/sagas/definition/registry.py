@@ -288,7 +288,7 @@ class DefinitionRegistry:
             check_is_saga(saga)
         fitted = self._fitted.get(saga)
         if fitted is not None and (kind := fitted.kind) is not None:
-            wrong = kind.input_error(text)
+            wrong = kind.input_types.error(text)
             return fitted if wrong is None else Fitted(kind, None, wrong)
         if self.sagas.get((saga.name, saga.version)) is not saga:
             raise DefinitionError(
@@ -323,7 +323,7 @@ class DefinitionRegistry:
             kind, values = self._shaped.of(shape)
         except SagasError as error:
             return Fitted(None, None, error)
-        return Fitted(kind, values, kind.input_error(text))
+        return Fitted(kind, values, kind.input_types.error(text))
 
     def announce(self, hooks: Callable[[str], Hooks]) -> None:
         """Set the webhooks that receive events.

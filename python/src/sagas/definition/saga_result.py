@@ -292,12 +292,21 @@ class SagaResult(EndQueries):
         vars(end)["_read"] = read
         return end
 
+    def read_results_later(self, read: Callable[[], dict[str, Any]]) -> None:
+        """Let `results` be read at the first access to it."""
+        values = vars(self)
+        values["_read_results"] = read
+        del values["results"]
+
     def __getattr__(self, name: str) -> Any:
         """Read the result at the first access. (If two threads read it, both get the same.)"""
         values = vars(self)
         if (read := values.get("_read")) is not None:
             values.update({**vars(read()), **values})
             values.pop("_read", None)
+        if name == "results" and (read_results := values.get("_read_results")) is not None:
+            values.setdefault(name, read_results())
+            values.pop("_read_results", None)
         if name not in values:
             raise AttributeError(
                 f"{type(self).__name__!r} object has no attribute {name!r}", name=name, obj=self

@@ -27,7 +27,6 @@ NUMBERS = {int, float, bool}
 UNSTORABLE = "unstorable"
 FAILED = "$failed"
 """The only key of the stored result of an optional failure: of an optional step, or an item."""
-UNSTORABLE_NAME, FAILED_NAME = f'"{UNSTORABLE}"', f'"{FAILED}"'
 FAILED_HEAD = f'{{"{FAILED}":'
 """The beginning of the stored text of an optional failure. No codec encodes it."""
 MAX_LEVELS = 64
@@ -274,11 +273,6 @@ def optional_failures(results: Mapping[int, str]) -> dict[int, str]:
     }
 
 
-def may_have_errors(text: str) -> bool:
-    """Return whether an error may stand in this JSON text in place of a result."""
-    return FAILED_NAME in text or UNSTORABLE_NAME in text
-
-
 def is_plain(value: Any) -> bool:
     """Return whether a stored value is an error instead of a result."""
     return unstorable(value) is not None or failed(value) is not None
@@ -326,11 +320,8 @@ def fitting(text: str, decoder: Decoder | None) -> Any:
 
 def fitted(value: Any, decoder: Decoder | None) -> Any:
     """Return a decoded value, or the JSON value if it does not fit its type."""
-    return value if decoder is None or is_plain(value) else fitted_result(value, decoder)
-
-
-def fitted_result(value: Any, decoder: Decoder) -> Any:
-    """Return a decoded result, which is no error, or the JSON value if it does not fit its type."""
+    if decoder is None or is_plain(value):
+        return value
     try:
         return decoder(value)
     except Exception:  # of the type's own code

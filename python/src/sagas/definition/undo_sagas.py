@@ -251,7 +251,7 @@ def _undoing(
 
 def check_started(saga: SagaParts) -> None:
     """Raise `DefinitionError` if only the store starts a saga, because of others."""
-    if not isinstance(saga, SagaParts) or saga.ends is saga.starts_for is saga.undoes is None:
+    if not isinstance(saga, SagaParts):
         return
     if (ended := saga.ends) is not None:
         raise DefinitionError(

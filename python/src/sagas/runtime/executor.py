@@ -121,8 +121,9 @@ class Executor:
             and not attempt.instance.draining
             and not (attempt.instance.is_partial and attempt.lacks_values())
         ]
-        if self.machine.pauses:
-            paused = self.machine.pauses.of_attempt
+        pauses = self.machine.pauses
+        if pauses.by_scope or pauses.moving:
+            paused = pauses.of_attempt
             simple = [attempt for attempt in simple if paused(attempt) is None]
         self.slots.release(len(attempts))
         count = 0 if self.closing else self.slots.take_slots(len(simple))
@@ -426,7 +427,8 @@ class Executor:
     def _finished(self, attempt: Attempt, at_once: bool) -> None:
         self._drop_timer(attempt)
         self._stop_following(attempt)
-        self.changes.notify(attempt)
+        if self.changes.futures:
+            self.changes.notify(attempt)
         self._report(attempt, at_once)
 
     def _stop_following(self, attempt: Attempt) -> None:

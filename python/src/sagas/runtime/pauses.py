@@ -26,6 +26,7 @@ class PauseKeeper:
 
     Attributes:
         pauses: What is paused. It is read each second, and when the store notifies this program.
+        has_any: Whether anything is paused.
         listeners: Functions that are called when the pauses have changed.
     """
 
@@ -37,7 +38,7 @@ class PauseKeeper:
     ) -> None:
         """`apply` holds the attempts that wait and are paused now, and releases the others."""
         self._store, self._apply = store, apply
-        self.pauses = Pauses()
+        self.pauses, self.has_any = Pauses(), False
         self._declared: dict[str, tuple[str, str]] = {}
         for saga in sagas:
             for pattern in patterns(saga):
@@ -75,7 +76,7 @@ class PauseKeeper:
             before = [*self.pauses]
             if pauses == before:
                 return
-            self.pauses = Pauses(pauses)
+            self.pauses, self.has_any = Pauses(pauses), bool(pauses)
             _log(before, pauses)
             await self._apply(self.pauses)
             for listener in self.listeners:

@@ -385,7 +385,8 @@ class Shards:
 
     def changed(self, runner: ShardRunner) -> None:
         """Handle that a write of a shard succeeded or failed."""
-        self.relocation.moves.changed()
+        if runner.is_moving:
+            self.relocation.moves.changed()
         if not runner.driver.sagas:
             self.close_if_over(runner)
         if self._change:

@@ -535,7 +535,7 @@ class Family:
         else:
             definition = validation.checked_text(saga)
         kind = CompiledDefinition(definition, saga, self._context, self._payloads)
-        if error := kind.input_error(text):
+        if error := kind.input_types.error(text):
             raise error
         if kind.layout is not None:
             scripts.check_items(saga, kind.layout, _named(scenario))

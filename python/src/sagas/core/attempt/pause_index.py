@@ -17,25 +17,26 @@ class Pauses:
     """The pauses of a store, as this program last read them.
 
     Attributes:
+        by_scope: The pauses.
         moving: The shards of this program that are about to move: their attempts are paused, too.
     """
 
     def __init__(self, pauses: Iterable[Pause] = ()) -> None:
-        self._by_scope: Mapping[PauseScope, Pause] = {pause.scope: pause for pause in pauses}
+        self.by_scope: Mapping[PauseScope, Pause] = {pause.scope: pause for pause in pauses}
         self.moving: set[object] = set()
 
     def __bool__(self) -> bool:
-        return bool(self._by_scope or self.moving)
+        return bool(self.by_scope or self.moving)
 
     def __iter__(self) -> Iterator[Pause]:
-        return iter(self._by_scope.values())
+        return iter(self.by_scope.values())
 
     def of_step(self, saga: str, step: str, action: str, queue: str | None = None) -> Pause | None:
         """Return the pause of a step's action, or None."""
         scopes = [PauseScope(), PauseScope(saga), PauseScope(saga, step)]
         if queue is not None:
             scopes.append(PauseScope(queue=queue))
-        pauses = (self._by_scope.get(scope) for scope in scopes)
+        pauses = (self.by_scope.get(scope) for scope in scopes)
         return next((pause for pause in pauses if pause and pause.covers(action)), None)
 
     def of_attempt(self, attempt: Attempt) -> Pause | None:
@@ -45,7 +46,7 @@ class Pauses:
         """
         if self.moving and attempt.instance.shard in self.moving:
             return MOVING
-        if not self._by_scope:
+        if not self.by_scope:
             return None
         saga, step, action = external_work.offered_action(attempt)
         queue = attempt.manner.queue
@@ -71,9 +72,9 @@ class Pauses:
 
     def of_definition(self, saga: str) -> Pause | None:
         """Return the pause of a whole definition, or None."""
-        return self._by_scope.get(PauseScope()) or self._by_scope.get(PauseScope(saga))
+        return self.by_scope.get(PauseScope()) or self.by_scope.get(PauseScope(saga))
 
     def of_start(self, saga: str) -> Pause | None:
         """Return the pause that refuses new sagas of a definition, or None."""
-        pauses = (self._by_scope.get(scope) for scope in (PauseScope(), PauseScope(saga)))
+        pauses = (self.by_scope.get(scope) for scope in (PauseScope(), PauseScope(saga)))
         return next((pause for pause in pauses if pause and pause.refuse_starts), None)
