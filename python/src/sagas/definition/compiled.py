@@ -183,7 +183,6 @@ class CompiledDefinition:
         if self.undoes is None and saga is not None and saga.undoes is not None:
             self.undoes = saga.undoes.name  # a text of an older release
         self.names: list[str] = [step["name"] for step in listed]
-        self.heads = [f'"{name}":' for name in self.names]
         self.steps: list[Step[Any] | None] = self._declared_steps(saga)
         self.tries = {
             kind: [int(step.get(word, 1)) for step in listed]

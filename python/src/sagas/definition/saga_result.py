@@ -293,7 +293,11 @@ class SagaResult(EndQueries):
         return end
 
     def read_results_later(self, read: Callable[[], dict[str, Any]]) -> None:
-        """Let `results` be read at the first access to it."""
+        """Let `results` be read at the first access to it.
+
+        Args:
+            read: Returns the results.
+        """
         values = vars(self)
         values["_read_results"] = read
         del values["results"]
