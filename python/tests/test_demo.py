@@ -95,7 +95,7 @@ def test_each_state_is_shown_and_nothing_is_left(tmp_path: pathlib.Path) -> None
             assert wrong == set()
         began = time.monotonic()
         process.send_signal(signal.SIGINT)
-        assert process.wait(LONG) == 0 and time.monotonic() - began < 10
+        assert process.wait(LONG) == 0 and time.monotonic() - began < 30
         assert process.stdout and "Traceback" not in process.stdout.read()
         assert is_alone(process)
     assert [*tmp_path.iterdir()] == []

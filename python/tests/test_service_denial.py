@@ -184,7 +184,7 @@ def test_a_refusal_needs_only_the_head(guarded: tuple[Served, dict[str, str]]) -
             began = time.monotonic()
             connection.sendall(f"{head}Content-Length: 100000\r\n\r\n".encode())
             status, error = answered(connection)
-            assert status in statuses and time.monotonic() - began < 10, (path, name, error)
+            assert status in statuses and time.monotonic() - began < 30, (path, name, error)
             connection.sendall(b"[" * 100_000)  # not JSON, and deep: it is never read
             connection.sendall(
                 f"GET /health/live HTTP/1.1\r\nHost: {service.address}\r\n\r\n".encode()

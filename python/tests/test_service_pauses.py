@@ -150,7 +150,7 @@ def test_a_pause_by_the_command(world: World, capsys: pytest.CaptureFixture[str]
         "--json",
     )
     assert (done.returncode, json.loads(done.stdout)["by"]) == (0, "ada"), done.stderr
-    deadline = time.monotonic() + 2
+    deadline = time.monotonic() + LONG
     while "sagas_paused{" not in operator.get("/metrics").text:
         assert time.monotonic() < deadline
         time.sleep(0.05)

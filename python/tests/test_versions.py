@@ -310,11 +310,11 @@ def test_a_client_that_is_never_let_in(postgresql: Server, url: str) -> None:
     ]
     with lets_in(postgresql, "host all keyed 127.0.0.1/32 scram-sha-256"):
         for name, text in is_approval_pending:
-            begun = time.monotonic()
             for opened in (sagas.SyncClient(name), sagas.open_sync(name, [simple(print)])):
+                begun = time.monotonic()
                 with pytest.raises(sagas.InvalidStore, match=text) as error, opened:
                     pass
-                assert time.monotonic() - begun < connections.CONNECT
+                assert time.monotonic() - begun < 2 * connections.CONNECT
                 assert "wrong" not in str(error.value)
         with pytest.raises(sagas.InvalidStore, match="no tables yet"), sagas.SyncClient(
             url.replace("owner", "keyed:right")
