@@ -53,6 +53,38 @@ def test_returns(location: str) -> None:
     assert end.ok and end.results == {"a": {"id": 7, "days": [1, 2]}} and end.cost is None
 
 
+def test_an_end_is_the_same_at_each_way_to_it(tmp_path: pathlib.Path) -> None:
+    """Results are read at the first access to them: by a copy, a comparison or a representation,
+    in a thread, and of a saga that another program has ended.
+    """
+
+    async def main() -> list[sagas.SagaResult]:
+        ends = []
+        for _ in range(5):
+            saga = simple(lambda task: {"id": 7})
+            async with sagas.open(tmp_path / "store.db", [saga]) as store:
+                ends.append(await ended(store, saga))
+        return ends
+
+    first, second, third, fourth, fifth = run(main())
+    assert first.ok and pickle.loads(pickle.dumps(first)) == first
+    assert second == first and copy.copy(second).results == {"a": {"id": 7}}
+    assert repr(third) == repr(first) and "'id': 7" in repr(third)
+    values: list[Any] = []
+    threads = [
+        threading.Thread(target=lambda: values.append((fourth.states, fourth.results)))
+        for _ in range(8)
+    ]
+    for thread in threads:
+        thread.start()
+    for thread in threads:
+        thread.join()
+    assert values == [({"a": "committed"}, {"a": {"id": 7}})] * 8
+    assert dataclasses.replace(fifth, note="n").results == first.results
+    with pytest.raises(AttributeError, match="no attribute 'nothing'"):
+        fifth.nothing  # type: ignore[attr-defined]
+
+
 def test_returns_a_value_that_is_not_json(location: str, caplog: pytest.LogCaptureFixture) -> None:
     """The effect exists and is not lost: the result is kept as unstorable, with a warning."""
 
