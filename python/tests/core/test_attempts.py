@@ -277,7 +277,9 @@ def test_a_wait_until_a_time_of_the_program() -> None:
         ('"fails"', OutcomeKind.FAILED_PERMANENTLY, "Fail: never"),
     ],
 )
-def test_a_wait_whose_function_raises_has_failed(text: str, kind: OutcomeKind, message: str) -> None:
+def test_a_wait_whose_function_raises_has_failed(
+    text: str, kind: OutcomeKind, message: str
+) -> None:
     attempt = attempt_of("later", text=text)
     assert answered(attempt) is REPORT
     assert attempt.outcome and attempt.outcome.kind is kind and message in error_of(attempt)
@@ -292,7 +294,7 @@ def test_a_wait_whose_function_raises_has_failed(text: str, kind: OutcomeKind, m
     ],
 )
 def test_a_wait_whose_function_returns_no_time_has_a_bug(text: str, message: str) -> None:
-    """No try reports a failure: the step is suspended until the program is mended."""
+    """No try reports a failure: the step waits until the program is corrected."""
     attempt = attempt_of("later", text=text)
     decision = answered(attempt)
     assert decision.do is Do.SUSPEND and decision.row
