@@ -139,6 +139,13 @@ def committed(sagas: int, steps: int) -> str:
     )
 
 
+def started(sagas: int, steps: int) -> str:
+    """Return the events of sagas, all open, and then of their steps without needs, all started."""
+    opened_sagas = [f"{saga}:open" for saga in range(sagas)]
+    starts = [f"{saga}:start_run {step}" for saga in range(sagas) for step in range(steps)]
+    return ",".join(opened_sagas + starts)
+
+
 def given_up(sagas: int) -> str:
     """Return the events of sagas whose only step fails, so that each adopts a plan."""
     events = ("open", "start_run 0", "fail 0", "start_plan", "adopt")
@@ -196,14 +203,23 @@ def opened(saga: int) -> str:
     return replied(event={"def": 0, "event": "open", "saga": saga}, phase="going")
 
 
-def ready(*sagas: int, steps: int = 60, more: int | None = None) -> str:
-    """Return the reply that all steps of these sagas, of the definition `alike`, may start."""
-    tasks = [
+def runs(sagas: Iterable[int], steps: int) -> list[dict[str, object]]:
+    """Return the first attempts of all steps of these sagas, of the definition `alike`."""
+    return [
         {"attempt": 1, "name": f"s{step}", "saga": saga, "step": step, "task": "run"}
         for saga in sagas
         for step in range(steps)
     ]
-    return replied(ready=tasks, **({} if more is None else {"more": more}))
+
+
+def ready(*sagas: int, steps: int = 60, more: int | None = None) -> str:
+    """Return the reply that all steps of these sagas, of the definition `alike`, may start."""
+    return replied(ready=runs(sagas, steps), **({} if more is None else {"more": more}))
+
+
+def busy(sagas: int, steps: int) -> str:
+    """Return the reply that all steps of the sagas, of the definition `alike`, are under way."""
+    return replied(busy=runs(range(sagas), steps))
 
 
 def ended(sagas: int, steps: int) -> str:
