@@ -7,6 +7,7 @@ It starts a service with N sagas (default: 3,000), and opens each page in Chromi
 light and dark colors. The pictures go into FOLDER. On each page it measures, by WCAG 2.2 AA:
 
 - the contrast of each text against its background: 4.5, or 3 for large text;
+- the contrast of the borders of fields, and of the lines of pictures: 3;
 - that Tab reaches each control in order, and that a ring shows the focus;
 - that each field has a label and each control has a name;
 - that headings have no gaps, and that the page has a language and a title;
@@ -31,6 +32,8 @@ import sys
 import tempfile
 import time
 import urllib.request
+from bisect import bisect_left
+from collections import Counter
 from collections.abc import Iterator
 from pathlib import Path
 from typing import Any
@@ -200,15 +203,18 @@ def fill_trends(store: Path) -> None:
     with admin.writing(str(store)) as connection:
         rows: list[trends.TrendRow] = []
         for minutes in range(1, 7 * 24 * 60, 7):
-            counts = trends.TrendCounts()
+            counts: Counter[tuple[str, str]] = Counter()
             for _ in range(draw.randrange(12)):
-                counts.add_start("order")
-                counts.add_end("order", not draw.randrange(10), draw.lognormvariate(-1, 1))
+                end = trends.COMPLETED if draw.randrange(10) else trends.RECOVERED
+                bucket = bisect_left(trends.BOUNDS, draw.lognormvariate(-1, 1))
+                counts.update(
+                    ("order", measure)
+                    for measure in (trends.STARTED, end, trends.DURATIONS[bucket])
+                )
             if not draw.randrange(20):
-                counts.add_stuck("server")
-                counts.add_failed_step("server")
-            counts.add_age("order", draw.uniform(0, 900))
-            rows += trends.rows_of(counts.take(), now - 60 * minutes)
+                counts.update([("server", trends.STUCK), ("server", trends.FAILED_STEPS)])
+            counts["order", trends.OLDEST_TASK] = draw.randrange(1, 900)
+            rows += trends.rows_of(counts, now - 60 * minutes)
         table.add(connection, rows, now)
 
 

@@ -43,6 +43,15 @@ for (const field of document.querySelectorAll("input, textarea, select")) {
   const named = field.labels?.length || field.getAttribute("aria-label") || field.getAttribute("aria-labelledby");
   if (!named) faults.push(`no label: ${field.nodeName.toLowerCase()} ${field.name}`);
 }
+// The border of a field, and the lines and boxes of a picture, against what is around them.
+const border = (node, style, what) => {
+  const back = ground(node.parentElement), line = over(of(style), back), ratio = contrast(line, back), key = `${line}${back}${what}`;
+  if (ratio < 2.995 && !seen.has(key)) { seen.add(key); faults.push(`contrast ${ratio.toFixed(2)} < 3 of ${what} (${node.nodeName.toLowerCase()}.${node.getAttribute("class") || ""})`); }
+};
+for (const field of document.querySelectorAll("input, textarea, select"))
+  if (!["hidden", "checkbox", "radio"].includes(field.type) && isSeen(field) && !field.disabled) border(field, getComputedStyle(field).borderTopColor, `border of ${field.name}`);
+for (const line of document.querySelectorAll("svg :is(.need, .box)"))
+  if (isSeen(line) && getComputedStyle(line).stroke !== "none") border(line.closest("svg"), getComputedStyle(line).stroke, "a picture's line");
 for (const node of document.querySelectorAll("a[href], button, summary, [role=group][tabindex], [role=img], nav, form[role], meter")) {
   const by = (node.getAttribute("aria-labelledby") || "").split(" ").map((id) => id && document.getElementById(id)?.textContent).join("");
   if (!words(node) && !node.getAttribute("aria-label") && !by) faults.push(`no name: ${node.outerHTML.slice(0, 80)}`);

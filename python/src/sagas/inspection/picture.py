@@ -286,9 +286,9 @@ ICONS = {
 STYLE = """
 svg{font:13px system-ui,-apple-system,"Segoe UI",Roboto,"Helvetica Neue",Arial,sans-serif;
 color-scheme:light dark;
---card:#fff;--line:#9aa4b2;--text:#16202c;--soft:#55606e;--grey:#6b7685;--blue:#1f5fbf;
+--card:#fff;--line:#7b8695;--text:#16202c;--soft:#55606e;--grey:#6b7685;--blue:#1f5fbf;
 --green:#157347;--red:#b42318;--amber:#8a5300;--violet:#6541b0}
-@media (prefers-color-scheme:dark){svg{--card:#1b222b;--line:#5d6876;--text:#e8edf3;--soft:#a9b4c1;
+@media (prefers-color-scheme:dark){svg{--card:#1b222b;--line:#6f7a88;--text:#e8edf3;--soft:#a9b4c1;
 --grey:#98a3b1;--blue:#7fb2ff;--green:#5fce94;--red:#ff8f84;--amber:#f0b95a;--violet:#b99cf5}}
 .box{fill:var(--card);stroke:var(--tone);stroke-width:1.5}.bar{fill:var(--tone)}
 .name{fill:var(--text);font-weight:600}.long{font-size:11.5px}
