@@ -169,7 +169,7 @@ def test_a_worker(tmp_path: pathlib.Path, caplog: pytest.LogCaptureFixture) -> N
 def test_a_worker_that_is_interrupted(tmp_path: pathlib.Path) -> None:
     """Ctrl-C ends it once its current tasks have ended, and are reported.
 
-    An address without a scheme is refused.
+    It comes while most of the threads are not started yet. An address without a scheme is refused.
     """
     with pytest.raises(ValueError, match="not the address of a service"):
         sagas.Worker("127.0.0.1:8080")
@@ -197,7 +197,7 @@ def test_a_worker_that_is_interrupted(tmp_path: pathlib.Path) -> None:
 
 INTERRUPTED = """import sagas, signal, sys
 signal.signal(signal.SIGINT, signal.default_int_handler)  # which a job in the background ignores
-worker = sagas.Worker(sys.argv[1])
+worker = sagas.Worker(sys.argv[1], concurrency=100)
 
 @worker.step("trip", "flight")
 def flight(task):

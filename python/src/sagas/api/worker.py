@@ -78,7 +78,8 @@ class LifeEvent(enum.Enum):
 
     THREAD_ENDED = "thread ended"
     STOPPED = "stopped"
-    SIGNAL = "signal"
+    TERMINATION = "SIGTERM"
+    INTERRUPT = "SIGINT"
 
 
 class Worker:
@@ -238,8 +239,8 @@ class Worker:
         running are released: another worker gets them, with the same idempotency key. A second
         SIGTERM releases them at once, and a second Ctrl-C is raised.
 
-        SIGTERM is handled if the call is made in the main thread and the program has no handler of
-        its own. So it also ends a worker that is process 1 of a container.
+        A signal is handled if the call is made in the main thread and the program has no handler of
+        its own for it. So SIGTERM also ends a worker that is process 1 of a container.
 
         Raises:
             ServiceRefused: The service refuses the worker, for example its token.
@@ -274,22 +275,33 @@ class Worker:
 
     @contextlib.contextmanager
     def _signals(self) -> Iterator[None]:
-        """Handle SIGTERM, if this is the main thread and the program does not."""
-        is_main = threading.current_thread() is threading.main_thread()
-        if not is_main or signal.getsignal(signal.SIGTERM) is not signal.SIG_DFL:
-            yield
-            return
-        signal.signal(signal.SIGTERM, lambda *_: self._life.put(LifeEvent.SIGNAL))
+        """Handle SIGTERM and Ctrl-C, if this is the main thread and the program does not.
+
+        A handler of a signal may only put into the queue: a lock could be held by the code that it
+        interrupts. A second Ctrl-C is raised.
+        """
+        handled: list[tuple[int, Any]] = []
+        if threading.current_thread() is threading.main_thread():
+            if signal.getsignal(signal.SIGTERM) is signal.SIG_DFL:
+                handled.append((signal.SIGTERM, signal.SIG_DFL))
+                signal.signal(signal.SIGTERM, lambda *_: self._life.put(LifeEvent.TERMINATION))
+            if signal.getsignal(signal.SIGINT) is signal.default_int_handler:
+                handled.append((signal.SIGINT, signal.default_int_handler))
+                signal.signal(signal.SIGINT, self._interrupt)
         try:
             yield
         finally:
-            signal.signal(signal.SIGTERM, signal.SIG_DFL)
+            for number, handler in handled:
+                signal.signal(number, handler)
+
+    def _interrupt(self, *_: object) -> None:
+        signal.signal(signal.SIGINT, signal.default_int_handler)
+        self._life.put(LifeEvent.INTERRUPT)
 
     def _ended(self, running: int) -> int:
         """Wait until the threads have ended, or the time after a stop is over.
 
-        Returns how many threads are still running. A handler of a signal may only put into the
-        queue: a lock could be held by the code that it interrupts.
+        Returns how many threads are still running.
         """
         until: float | None = None
         while running:
@@ -298,21 +310,19 @@ class Worker:
                 event = self._life.get(timeout=left)
             except queue.Empty:
                 return running
-            except KeyboardInterrupt:
-                if self._stop.is_set():
-                    raise
-                self.stop()
-                continue
-            if event is LifeEvent.THREAD_ENDED:
-                running -= 1
-            elif event is LifeEvent.STOPPED:
-                if until is None and self.shutdown_timeout is not None:
-                    until = time.monotonic() + self.shutdown_timeout
-            elif self._stop.is_set():
-                return running
-            else:
-                logger.info("SIGTERM: the worker stops")
-                self.stop()
+            match event:
+                case LifeEvent.THREAD_ENDED:
+                    running -= 1
+                case LifeEvent.STOPPED:
+                    if until is None and self.shutdown_timeout is not None:
+                        until = time.monotonic() + self.shutdown_timeout
+                case LifeEvent.TERMINATION if self._stop.is_set():
+                    return running
+                case LifeEvent.INTERRUPT if self._stop.is_set():
+                    raise KeyboardInterrupt
+                case LifeEvent.TERMINATION | LifeEvent.INTERRUPT:
+                    logger.info("%s: the worker stops", event.value)
+                    self.stop()
         return 0
 
     def _release_running(self) -> None:
