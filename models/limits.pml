@@ -25,12 +25,13 @@
 #define ENDED 5
 
 byte slot = NO_NODE;            /* the node that has the slot in the database */
-bit is_live[2], is_up[2], was_silent[2];
+bit is_live[2] = 1, is_up[2] = 1, was_silent[2];
 bit is_answered[2], is_granted[2], has_slot[2];
 byte call[2];
 bit is_paused, knows_pause[2], is_notified[2];
 byte losses_left = LOSSES, silences_left = SILENCES, pauses_left = PAUSES;
 
+#define HAVE_ENDED ((call[0] == ENDED || !is_up[0]) && (call[1] == ENDED || !is_up[1]))
 #define RUNNING(i) (call[i] == RUNS && !was_silent[i])
 
 /* TAKE: release what the node does not list, and take a slot that no live node has. */
@@ -125,16 +126,19 @@ proctype world() {
        i = 0 }
   :: atomic { is_up[0] && !is_live[0] -> is_live[0] = 1 }
   :: atomic { is_up[1] && !is_live[1] -> is_live[1] = 1 }
-  :: atomic { timeout ->
-       require(ENDS_OR_WAITS, (call[0] == ENDED || !is_up[0]) && (call[1] == ENDED || !is_up[1]));
-       break }
+#ifndef FORMULAS
+  :: atomic { timeout -> require(ENDS_OR_WAITS, HAVE_ENDED); break }
+#endif
   od
 }
 
 init {
   atomic {
-    is_live[0] = 1; is_live[1] = 1; is_up[0] = 1; is_up[1] = 1;
     choose_budget(losses_left); choose_budget(silences_left); choose_budget(pauses_left);
     run node(0); run node(1); run world()
   }
 }
+
+#ifdef FORMULAS
+ltl ends { <> HAVE_ENDED }
+#endif

@@ -17,7 +17,11 @@ proctype node(byte i) {
      }
 #endif
   :: atomic { is_up[i] && holds_lease[i] && driving[i] == 0 && !log_end[DATABASE] &&
+#ifdef no_takeover
+       (owner == NO_NODE || owner == i) ->
+#else
        (owner == NO_NODE || owner == i || !is_live[owner]) ->
+#endif
        owner = i; raise_epoch(); driving[i] = TO_LOAD }
   :: atomic { is_up[i] && driving[i] == TO_LOAD && commit_operation[i] == 0 ->
        if

@@ -84,10 +84,10 @@ proctype world() {
 #endif
 #ifndef FORMULAS
   :: atomic { timeout ->
-       require(ENDS_OR_WAITS, log_end[DATABASE] ||
-         (row == ROW_PERSON && suspension == BY_PERSON));
        require(DRIVEN, log_end[DATABASE] ||
          (owner != NO_NODE && is_up[owner] && driving[owner] == DRIVES));
+       require(ENDS_OR_WAITS, log_end[DATABASE] ||
+         (row == ROW_PERSON && suspension == BY_PERSON));
        break }
 #endif
   od

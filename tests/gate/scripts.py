@@ -48,6 +48,7 @@ READS = {
     "hostile": ("crates/", "dist/", "examples/"),
     "library": ("dist/", "library/", "examples/"),
     "memory": ("crates/", "dist/"),
+    "models": ("models/", "python/src/", "crates/saga_drive/src/", "crates/saga_fleet/src/"),
     "mutants": ("crates/", "crates.txt"),
     "page": ("dist/", "page/"),
     "pages": ("docs/", "*.md", "dist/", "examples/", "python/src/"),
