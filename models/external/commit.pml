@@ -43,6 +43,9 @@ inline raise_epoch() { epoch = epoch + 1; writer = NO_NODE }
 #define MAY_WITHDRAW (worker_lease == 0 && (row == ROW_OPEN || row == ROW_WITHDRAWN))
 #endif
 
+/* a report that came before its step, which never started: an operator is told (core.reports) */
+#define HAS_UNUSED_REPORT (has_early_report && log_attempt[DATABASE] == 0)
+
 inline put_row(node_, operation_) {
   if
   :: operation_ == START_EXTERNAL ->
@@ -116,8 +119,9 @@ inline execute(node_, epoch_, operation_, ok_, withdrew_) {
      apply(DATABASE, operation_);
      if
      :: log_end[DATABASE] ->
+        require(EFFECT_IF_COMMITTED, HAS_UNUSED_REPORT ||
+          external_effect == (log_external[DATABASE] == COMMITTED));
         require(EFFECT_IF_COMMITTED,
-          external_effect == (log_external[DATABASE] == COMMITTED) &&
           internal_effect == (log_internal[DATABASE] == COMMITTED))
      :: else
      fi
