@@ -1,8 +1,8 @@
 /* Group commits: decisions that wait for a commit, and commits of several of them.
  *
- * Two nodes and one shard, whose saga has one external attempt. The engine decides on what it knows,
- * before the earlier decisions are stored. A statement stores all decisions that wait, and changes
- * the row of the attempt once. A takeover may happen at any time: leases decide nothing here.
+ * Two nodes and one shard, whose saga has one external attempt. The engine decides on what it
+ * knows, before the earlier decisions are stored. A statement stores all decisions that wait, and
+ * changes the row of the attempt once. A takeover may happen at any time: leases decide nothing.
  */
 #include "properties.pml"
 #ifndef TAKEOVERS
@@ -47,7 +47,7 @@
 byte owner, epoch = 1, lines, row, writer = NO_NODE;
 byte stored_outcome;            /* of the attempt: SUCCEEDED or FAILED */
 bit has_ended, is_suspended, is_leased;
-byte acknowledged_lines;        /* ghost: what a caller was told is stored */
+byte acknowledged_lines;        /* ghost: what was acknowledged to a caller */
 bit is_done_acknowledged, effect;
 
 typedef Entries { byte entry[QUEUE] };
@@ -280,7 +280,8 @@ proctype node(byte i) {
        od;
        k = 0 }
   /* -- decisions */
-  :: atomic { DECIDES(i) && attempt[i] == NO_ATTEMPT -> attempt[i] = START_PENDING; decide(i, START) }
+  :: atomic { DECIDES(i) && attempt[i] == NO_ATTEMPT ->
+       attempt[i] = START_PENDING; decide(i, START) }
   :: atomic { DECIDES(i) && attempt[i] == TO_OFFER && !has_row_pending[i] ->
        has_row_pending[i] = 1; decide(i, PUT_OFFER) }
   :: atomic { DECIDES(i) && attempt[i] == IN_DOUBT && !has_row_pending[i] -> attempt[i] = TO_OFFER }
@@ -290,7 +291,8 @@ proctype node(byte i) {
        if
        :: row == ROW_UNKNOWN ->
           attempt[i] = IN_DOUBT; has_row_pending[i] = 1; decide(i, PUT_SUSPENDED)
-       :: row == ROW_SUCCEEDED -> attempt[i] = REPORTED; outcome[i] = SUCCEEDED; decide(i, SUCCEEDED)
+       :: row == ROW_SUCCEEDED ->
+          attempt[i] = REPORTED; outcome[i] = SUCCEEDED; decide(i, SUCCEEDED)
        :: row == ROW_FAILED -> attempt[i] = REPORTED; outcome[i] = FAILED; decide(i, FAILED)
        fi }
   :: atomic { DECIDES(i) && attempt[i] == IN_DOUBT && !has_row_pending[i] &&

@@ -195,7 +195,7 @@ active proctype node() {
        attempt == FOR_PERSON) && row == ROW_SUCCEEDED -> attempt = HAS_SUCCEEDED }
   :: atomic { MAY_DECIDE && (attempt == OFFERED || attempt == TO_OFFER) && row == ROW_FAILED ->
        handle_failure() }
-  /* an operator repaired the effect, gives it up, or lets it be called again */
+  /* an operator repaired the effect, reports a failure, or retries the call */
   :: atomic { MAY_DECIDE && attempt == FOR_PERSON && answers_left > 0 ->
        answers_left = answers_left - 1;
        if

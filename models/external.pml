@@ -22,9 +22,9 @@ init {
     log_internal[0] = COMMITTED; log_internal[DATABASE] = COMMITTED; internal_effect = 1;
 #endif
     choose_budget(crashes_left); choose_budget(lapses_left); choose_budget(losses_left);
-    choose_budget(worker_lapses_left); choose_budget(worker_crashes_left); choose_budget(stops_left);
-    choose_budget(aborts_left); choose_budget(early_reports_left); choose_budget(retries_left);
-    choose_budget(operator_reports_left);
+    choose_budget(worker_lapses_left); choose_budget(worker_crashes_left);
+    choose_budget(stops_left); choose_budget(aborts_left); choose_budget(early_reports_left);
+    choose_budget(retries_left); choose_budget(operator_reports_left);
     run node(0); run node(1); run worker(0);
 #if WORKERS > 1
     run worker(1);

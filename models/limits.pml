@@ -83,7 +83,7 @@ proctype node(byte i) {
        :: call[i] == REQUESTS -> call[i] = WAITS
        :: else
        fi }
-  /* -- the call; an attempt that is paused by now gives its slot to others */
+  /* -- the call; an attempt that is paused by now leaves its slot to others */
   :: atomic { is_up[i] && call[i] == GRANTED && knows_pause[i] ->
        has_slot[i] = 0; take_slot(i, 0); call[i] = WAITS }
   :: atomic { is_up[i] && call[i] == GRANTED && !knows_pause[i] ->

@@ -43,7 +43,7 @@ inline raise_epoch() { epoch = epoch + 1; writer = NO_NODE }
 #define MAY_WITHDRAW (worker_lease == 0 && (row == ROW_OPEN || row == ROW_WITHDRAWN))
 #endif
 
-/* a report that came before its step, which never started: an operator is told (core.reports) */
+/* a report that came before its step, which never started: an operator sees it (core.reports) */
 #define HAS_UNUSED_REPORT (has_early_report && log_attempt[DATABASE] == 0)
 
 inline put_row(node_, operation_) {

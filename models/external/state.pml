@@ -1,4 +1,4 @@
-/* The state of the database, of the nodes and of the workers, and the budgets of faults. */
+/* The state of the database, of the nodes and of the workers, and the budgets. */
 #ifndef CRASHES
 #define CRASHES 0
 #endif

@@ -1,4 +1,4 @@
-/* Operators, clocks and faults, and the check of the last state. */
+/* Operators, clocks and crashes, and the check of the last state. */
 inline leave_late_commit(l_) {
   if
   :: commit_state[l_] == SENT && late_operation == 0 ->
