@@ -1,8 +1,8 @@
 /* Child sagas: a parent, its child, and the saga that undoes the child.
  *
  * Two nodes may drive the parent, one after the other. The start of a child is a commit of another
- * shard, so no epoch of the parent fences it. A node that lost the parent may still start the child.
- * Commits of the parent are fenced, which external.pml checks. Here each is one step of its owner.
+ * shard, so no epoch of the parent fences it. A node that lost the parent may still start the
+ * child. Commits of the parent are fenced, which external.pml checks. Here each is one step.
  */
 #include "properties.pml"
 #ifndef TAKEOVERS

@@ -1,9 +1,9 @@
 /* Failover of the database server: a log, its standby, and nodes that write to the server.
  *
  * A chunk is known by its number. The server answers a commit only if the standby has the chunk;
- * with ASYNCHRONOUS it does not wait, and chunks may be lost. The server that takes over has another
- * timeline, and at least what the standby has. Leases decide nothing here: a takeover of the shard
- * may happen at any time, within its budget.
+ * with ASYNCHRONOUS it does not wait, and chunks may be lost. The server that takes over has
+ * another timeline, and at least what the standby has. Leases decide nothing here: a takeover of
+ * the shard may happen at any time, within its budget.
  */
 #include "properties.pml"
 #ifndef FAILOVERS
