@@ -100,7 +100,7 @@ proctype node(byte i) {
   /* -- reports */
   :: atomic { OWNS(i) && job[i] == FOLLOWS_CHILD && step == STARTED && child > OPEN ->
        job[i] = NO_JOB;
-#ifdef failure_counts_as_success
+#ifdef failure_is_success
        step = COMMITTED
 #else
        if

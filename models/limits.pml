@@ -52,10 +52,10 @@ inline take_slot(i_, wants_) {
 #ifdef takes_live_slots
      slot != i_
 #endif
-#ifdef keeps_slots_of_gone_nodes
+#ifdef keeps_gone_slots
      false
 #endif
-#if !defined(takes_live_slots) && !defined(keeps_slots_of_gone_nodes)
+#if !defined(takes_live_slots) && !defined(keeps_gone_slots)
      (slot != i_ && !is_live[slot])
 #endif
      ) -> slot = i_; is_granted[i_] = 1
