@@ -44,7 +44,7 @@ byte takeovers_left = TAKEOVERS, losses_left = LOSSES, failures_left = FAILURES;
 #endif
 
 /* RECORD and COMMIT: the record is refused if the fence does not fit, or if there is one */
-inline commit_transaction(epoch_, ok_) {
+inline commit_step(epoch_, ok_) {
   if
 #ifdef no_record
   :: FITS(epoch_) -> effects = effects + 1; ok_ = 1
@@ -97,7 +97,7 @@ proctype node(byte i) {
        failures_left = failures_left - 1; attempt[i] = HAS_FAILED }
   :: atomic { attempt[i] == CALL_RUNS -> attempt[i] = TRANSACTION_SENT; is_answered[i] = 0 }
   :: atomic { attempt[i] == TRANSACTION_SENT && !is_answered[i] ->
-       commit_transaction(node_epoch[i], ok);
+       commit_step(node_epoch[i], ok);
        require(NOTHING_AFTER_END, !ok || !has_ended);
        is_answered[i] = 1; is_ok[i] = ok; ok = 0 }
   :: atomic { attempt[i] == TRANSACTION_SENT && is_answered[i] ->
@@ -121,7 +121,7 @@ active proctype world() {
   bit ok;
   do
   :: atomic { is_late ->
-       commit_transaction(late_epoch, ok);
+       commit_step(late_epoch, ok);
        require(NOTHING_AFTER_END, !ok || !has_ended);
        is_late = 0; late_epoch = 0; ok = 0 }
   :: atomic { timeout -> require(ENDS_OR_WAITS, has_ended); break }
