@@ -267,7 +267,7 @@ proctype worker() {
        work = 0; held_lease = 0; held_attempt = 0 }
   :: atomic { work == WORK_NOT_DONE || work == WORK_IN_DOUBT ->
        if
-#ifdef failure_replaces_success
+#ifdef replaces_success
        :: held_attempt == log_attempt && (row == ROW_OPEN || row == ROW_SUCCEEDED) &&
 #else
        :: held_attempt == log_attempt && held_lease == lease && row == ROW_OPEN &&

@@ -1,9 +1,9 @@
 /* Transactional steps: a function whose effect and record are one transaction of the database.
  *
- * Two nodes, one shard, one saga with one such step. The transaction has the fence of the shard, and
- * its answer may be lost; then the shard is loaded again, and the transaction may be committed late.
- * A takeover may happen at any time. Commits of the shard are one step of its owner here, because
- * external.pml and commits.pml check them.
+ * Two nodes, one shard, one saga with one such step. The transaction has the fence of the shard,
+ * and its answer may be lost. Then the shard is loaded again, and the transaction may be committed
+ * late. A takeover may happen at any time. Commits of the shard are one step of its owner here,
+ * because external.pml and commits.pml check them.
  */
 #include "properties.pml"
 #ifndef TAKEOVERS
