@@ -1,9 +1,11 @@
 """Compare the pages of definitions, promises and crates in docs/dev with the crates.
 
-The script lists words of specs/ that contracts of public calls cite, and that the pages in
-docs/dev/definitions do not have for that crate, and entries of these pages whose file does not have
-the word. It checks that each crate has a page of promises, that the crate has the calls on that
-page, and that the page on the architecture of the core has the crates of crates.txt.
+The script lists words that specs/ declare, and words that contracts of public calls cite, which the
+pages in docs/dev/definitions do not have for that crate. It lists entries of these pages whose file
+does not have the word. A word is an abbreviation, a function, a record or a data type, and no field
+or lemma. The script does not check what an entry says. It checks that each crate has a page of
+promises, that the crate has the calls on that page, and that the page on the architecture of the
+core has the crates of crates.txt.
 
 A public call is a function that src/lib.rt of a crate exports, or a public method of an exported
 type. Of a static library it is each call for C, and of the program a call that its promises name.
@@ -20,6 +22,9 @@ PROGRAM = {"check_input", "judge_record", "read_words", "run"}
 # Programs without promises, and those whose promises no other crate uses.
 SILENT = {"saga_trials"}
 
+DECLARED = re.compile(
+    r"^ *(?:(?:abbrev|unfoldable)(?: pub)?|(?:pub )?(?:record|data)) ([^\s{:(]+)(?=[\s:({])", re.M
+)
 CITED = re.compile(r"ghost use Rattle\.(saga_\w+)\.specs\.([\w.]+)\.\{([^}]*)\}")
 EXPORTED = re.compile(r"^pub use (?:crate::)?[\w:]+::(?:\{([^}]*)\}|(\w+));", re.M)
 FOR_C = re.compile(r'^#\[unsafe\(no_mangle\)\]\npub extern "C" fn (\w+)', re.M)
@@ -67,6 +72,15 @@ def cited(crate):
                 for word, file in files_by_word.items()
                 if re.search(rf"(?<![\w.]){re.escape(word)}(?!\w)", head)
             )
+
+
+def declared():
+    """Yield the words that the files of specs/ declare: crate, file and word."""
+    for path in sorted((ROOT / "crates").glob("*/specs/**/*.antt")):
+        crate = path.relative_to(ROOT / "crates").parts[0]
+        yield from (
+            (crate, path.name, word) for word in DECLARED.findall(path.read_text(encoding="utf-8"))
+        )
 
 
 def entries():
@@ -168,6 +182,8 @@ def main():
         for word, file in citations
         if (file.split("/")[0], word) not in known and "/declared." not in file
     )
+    defined = set(declared())
+    missing += sorted((f"{crate}/specs/{file}", word) for crate, file, word in defined - listed)
     for file, word in missing:
         print(f"docs/dev/definitions has no {word} ({file})")
     wrong = [
@@ -179,7 +195,8 @@ def main():
     for line in wrong:
         print(line)
     print(
-        f"definitions: {len(citations)} words of public contracts, {len(missing)} missing; "
+        f"definitions: {len(defined)} words, {len(citations)} of public contracts, "
+        f"{len(missing)} missing; "
         f"{len(listed)} entries; {len(wrong)} entries, promises, crates or examples wrong"
     )
     return 1 if missing or wrong else 0

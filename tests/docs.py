@@ -45,6 +45,7 @@ PAGES = (
     "SECURITY.md",
     "python/*.md",
     "bench/*.md",
+    "models/*.md",
     "docs/**/*.md",
 )
 MUTANTS = ("docs/dev/mutants.md", "docs/dev/mutants-program.md")

@@ -114,6 +114,72 @@ def opened(
     return sagas.open(location, [kind], node="one", lease=60, on_event=hook)
 
 
+def interrupted(notes: Notes) -> sagas.Saga:
+    """Return a saga whose step fails, is called again, and is killed after its effect.
+
+    The saga is aborted during the call.
+    """
+    saga = sagas.Saga("interrupted")
+    effect, aborted = notes.path.with_name("effect"), notes.path.with_name("aborted")
+
+    @saga.step(name="a", backoff=QUICK, tries=1, on_exhausted="retry")
+    def call(task: Task) -> str:
+        with open(notes.path, "a") as file:
+            file.write(f"{task.idempotency_key} {task.attempt}\n")
+        if len(notes.lines) == 1:
+            raise sagas.Retry("the bank is closed")
+        effect.touch()
+        if notes.strike:
+            deadline = time.monotonic() + 60
+            while not aborted.exists() and time.monotonic() < deadline:
+                time.sleep(0.01)
+            os.kill(os.getpid(), signal.SIGKILL)
+        return "done"
+
+    @call.compensation(backoff=QUICK)
+    def undo(task: Task) -> None:
+        effect.unlink(missing_ok=True)
+
+    return saga
+
+
+@pytest.mark.parametrize("location", STORE_KINDS, indirect=True)
+def test_a_repeated_call_that_was_killed_is_made_again_in_an_aborted_saga(
+    location: str, tmp_path: pathlib.Path
+) -> None:
+    """Its effect may exist, so the failure before it does not count."""
+    notes = Notes(tmp_path)
+    notes.strike = 1
+    kind, effect, aborted = interrupted(notes), tmp_path / "effect", tmp_path / "aborted"
+
+    async def first() -> None:
+        async with sagas.open(location, [kind], node="one", lease=2) as store:
+            await store.start(kind, "k")
+            await until(effect.exists)
+            assert await store.abort("k")
+            aborted.touch()
+            await store.wait("k")
+
+    child = os.fork()
+    if child == 0:
+        try:
+            asyncio.run(first())
+        finally:
+            os._exit(0)
+    assert os.waitstatus_to_exitcode(os.waitpid(child, 0)[1]) == -signal.SIGKILL
+    assert effect.exists()
+    notes.strike = 0
+
+    async def second() -> None:
+        async with opened(location, kind) as store:
+            end = await store.wait("k", 60)
+            assert end.states == {"a": "undone"}
+
+    run(second())
+    assert not effect.exists() and len(notes.lines) == 3
+    assert len({line.split()[0] for line in notes.lines}) == 1
+
+
 @pytest.mark.parametrize(
     "location, answer, strike",
     pairs(STORE_KINDS, ("retry", "complete", "fail"), (1, 0)),

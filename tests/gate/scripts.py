@@ -31,7 +31,7 @@ TIMED = ("python", "clients", "page")
 LONG = ("docs", "library", "platforms", "python", "clients", "page")
 """The longest scripts, which start first, in their order."""
 
-WIDE = {"python": 64}
+WIDE = {"models": 2, "python": 64}
 """The processors that a script uses, if more than one. With 64 it runs alone."""
 
 LIMIT = 50 * 60
@@ -48,6 +48,7 @@ READS = {
     "hostile": ("crates/", "dist/", "examples/"),
     "library": ("dist/", "library/", "examples/"),
     "memory": ("crates/", "dist/"),
+    "models": ("models/", "python/src/", "crates/saga_drive/src/", "crates/saga_fleet/src/"),
     "mutants": ("crates/", "crates.txt"),
     "page": ("dist/", "page/"),
     "pages": ("docs/", "*.md", "dist/", "examples/", "python/src/"),

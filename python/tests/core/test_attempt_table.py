@@ -59,7 +59,7 @@ ACTIONS = (
     *(("broken", 1, "run"), ("broken", 2, "run"), ("keyed", 1, "run")),
     *(("sign", 1, "run"), ("sign", 2, "run"), ("outside", 1, "run"), ("outside", 1, "undo")),
     *(("stay", 1, "run"), ("stay", 1, "undo"), ("sent", 1, "run")),
-    *(("outside", 2, "run"), ("stay", 2, "run")),
+    *(("outside", 2, "run"), ("stay", 2, "run"), ("repeated", 9, "run")),
 )
 """The attempts of new steps: name, number and action."""
 SOON = sagas.Backoff(initial=10, maximum=60)
@@ -114,6 +114,7 @@ def kind() -> Any:
     saga.step(name="outside", undo=0, tries=2, external=True, backoff=SOON).compensation(
         external=True, backoff=SOON
     )
+    saga.step(name="repeated", undo=0, tries=10, external=True, backoff=SOON)
     saga.step(name="sent", undo=0, queue=queue, backoff=SOON)(nothing)  # type: ignore[arg-type]
     saga.child(child, name="stay", input=lambda task: None)
     kinds = DefinitionRegistry([saga, child]).kinds
@@ -220,7 +221,9 @@ def restarts(attempt: Attempt, stored_row: SuspensionRow | None) -> Iterator[Att
     not have the functions of the saga.
     """
     outcome = attempt.outcome
-    was_given_up = attempt.state is AttemptState.FINISHED and outcome and not outcome.called
+    has_failed = stored_row is not None and stored_row.reason is Suspension.RETRY
+    is_uncalled = outcome and not outcome.called and not has_failed  # a failed one was called
+    was_given_up = attempt.state is AttemptState.FINISHED and is_uncalled
     previous_attempts = (attempt, None) if was_given_up else (None,)
     for previous, missing in itertools.product(previous_attempts, (None, "no function")):
         saga = fork(attempt).instance
@@ -276,7 +279,9 @@ def state_of(attempt: Attempt, stored_row: SuspensionRow | None) -> tuple[Any, .
         rows = [row and row.reason for row in (attempt.pending_row, stored_row)]
         return attempt.condition, outcome and outcome.called, *rows
     is_answered = bool(attempt.extras and attempt.extras.returned)
-    flags = (attempt.is_uncalled, attempt.until is None, attempt.is_wait_over, is_answered)
+    has_unknown_call = bool(attempt.extras and attempt.extras.has_unknown_call)
+    is_timed = attempt.until is not None
+    flags = (attempt.is_uncalled, is_timed, attempt.is_wait_over, is_answered, has_unknown_call)
     is_missing = attempt.missing_function is not None
     return attempt.condition, attempt.reason, flags, is_missing, saga.draining, saga.aborted
 

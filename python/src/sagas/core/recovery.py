@@ -369,6 +369,7 @@ def _apply_suspension(attempt: Attempt, row: StoredSuspension) -> None:
     attempt.rare.notes.last = why
     if reason in AFTER_FAILURE:
         attempt.rare.failures, attempt.outcome = count, failure(error or "")
+        attempt.rare.has_unknown_call = reason is Suspension.RETRY
         return
     if reason is Suspension.CHILD:
         attempt.rare.failures = count

@@ -587,6 +587,8 @@ class AttemptMachine:
         return FOLLOW if attempt.missing_function is None else NOTHING
 
     def _end_failed(self, attempt: Attempt, now: float) -> Decision:
+        if attempt.rare.has_unknown_call and not attempt.is_child:
+            return self._call_again(attempt, now)  # that call may have had its effect
         assert attempt.outcome is not None
         return self._finish(attempt, attempt.outcome, now)
 
@@ -719,6 +721,7 @@ def after_failure(attempt: Attempt, outcome: Outcome, now: float) -> Decision | 
     failure = json.loads(outcome.value)
     detail = str(failure.get("error", ""))[:MAX_TEXT]
     attempt.rare.failures += 1
+    attempt.rare.has_unknown_call = False
     attempt.waiting_since, attempt.outcome = attempt.waiting_since or now, outcome
     if is_final or not repeats:
         attempt.suspend(Suspension.EXHAUSTED)

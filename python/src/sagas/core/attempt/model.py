@@ -120,6 +120,8 @@ class AttemptExtras:
     """How often it failed and was called again, or will be."""
     pause: float = 0.0
     """Seconds until it is called again."""
+    has_unknown_call: bool = False
+    """Whether an earlier program may have called it again after its last stored failure."""
     gave_way: bool = False
     """Whether its wait for another saga was given up, so that others get its slot."""
     lease: Lease | None = None

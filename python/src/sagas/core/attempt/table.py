@@ -140,7 +140,7 @@ class Handler(enum.Enum):
     WITHDRAW = enum.auto()
     FOLLOW = enum.auto()
     END_FAILED = enum.auto()
-    """Its last failure counts: it is not called again."""
+    """Its last failure counts, unless an earlier program may have called it again."""
     END_EXHAUSTED = enum.auto()
     """As `END_FAILED` if the saga is aborted; otherwise an operator still decides."""
     CALL_NOW = enum.auto()
@@ -371,7 +371,7 @@ LINES: Mapping[AttemptEvent, Lines] = {
         [
             (_suspended((S.CHILD,), SETTLED), Rule(H.FOLLOW, stays=True)),
             (_claimed((S.CHILD,), SETTLED), Rule(H.FOLLOW, stays=True)),
-            (_suspended((S.RETRY,)), Rule(H.END_FAILED, ENDED)),
+            (_suspended((S.RETRY,)), Rule(H.END_FAILED, ENDED | _to(S.EXTERNAL), stays=True)),
             (_suspended((S.EXHAUSTED,)), Rule(H.END_EXHAUSTED, ENDED, stays=True)),
             (_suspended((S.UNKNOWN,)), Rule(H.CALL_NOW, CALLING, stays=True)),
             (_suspended((S.BACKOFF,)), Rule(H.START, STARTING, stays=True)),
