@@ -94,6 +94,8 @@ def trip() -> sagas.Saga:
         ...
 
     saga.step(name="outside", undo=0, tries=2, external=True, backoff=WAIT)
+    asks: Any = saga.step(name="asks", undo=0, tries=1, on_exhausted="ask", backoff=WAIT)
+    asks(lambda task: None)
     queue: Any = QueueStub()
     saga.step(name="sent", undo=0, queue=queue, backoff=WAIT)(lambda task: None)
     return saga
@@ -388,6 +390,22 @@ def test_an_abandoned_wait_frees_its_slot() -> None:
     MACHINE.ended(attempt, outcomes.unknown("all places are taken"), NOW)
     # its back-off is longer than the 60 s
     assert attempt.until == NOW + 100 and not attempt.rare.gave_way
+
+
+def test_a_retry_of_an_exhausted_attempt_is_stored_before_the_call() -> None:
+    """With the row before, a program that is killed would count the failure before."""
+    attempt = running("asks")
+    decision = MACHINE.ended(attempt, outcomes.failure("no"), NOW)
+    assert decision.row == SuspensionRow(Suspension.EXHAUSTED, None, "no") and not decision.timer
+    for reason in (Suspension.EXHAUSTED, Suspension.RETRY):
+        attempt.expect_row(decision.row)
+        assert MACHINE.stored(attempt).timer is (reason is Suspension.RETRY)
+        decision = MACHINE.retry(attempt, NOW)
+        assert decision.row == SuspensionRow(Suspension.RETRY, NOW, "no")
+        assert decision.timer is (reason is Suspension.RETRY)
+    attempt.expect_row(decision.row)
+    assert MACHINE.stored(attempt).timer and MACHINE.timer_delay(attempt, NOW) == 0.0
+    assert MACHINE.timer(attempt, NOW) is CALL
 
 
 def test_undecodable_values_park_an_attempt() -> None:

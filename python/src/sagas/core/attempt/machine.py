@@ -248,7 +248,8 @@ class AttemptMachine:
         assert row is not None
         is_parked = row.reason in NEEDS_PROGRAM  # its row has no time of a further try
         attempt.suspend(row.reason, attempt.until if is_parked else row.until)
-        return Decision(Do.SUSPEND, row, timer=is_parked or row.reason in RETRYABLE)
+        is_timed = row.reason in RETRYABLE - {Suspension.RETRY}  # `stored` sets the timer of that
+        return Decision(Do.SUSPEND, row, timer=is_parked or is_timed)
 
     def _suspend_by_row(self, attempt: Attempt, now: float) -> Decision:
         assert attempt.reason is not None
@@ -533,9 +534,11 @@ class AttemptMachine:
         """Call an attempt again at once for an operator, with new counts and a new time.
 
         The engine keeps the attempt's number, so failures count from it. A new `waiting_since`
-        distinguishes the wait that the operator answered from a later one.
+        distinguishes the wait that the operator answered from a later one. An exhausted attempt is
+        called once its row is stored: with the row before, its last failure would still count.
         """
         is_unknown = attempt.reason in UNCERTAIN
+        is_exhausted = attempt.reason is Suspension.EXHAUSTED
         reason = Suspension.UNKNOWN if is_unknown else Suspension.RETRY
         if attempt.child is None:  # else they number its children
             attempt.rare.failures = 0 if is_unknown else 1 - attempt.attempt
@@ -545,7 +548,7 @@ class AttemptMachine:
             detail = str(json.loads(detail or "{}").get("error", ""))
         attempt.waiting_since = now
         attempt.suspend(reason, now)
-        return Decision(Do.SUSPEND, SuspensionRow(reason, now, detail), timer=True)
+        return Decision(Do.SUSPEND, SuspensionRow(reason, now, detail), timer=not is_exhausted)
 
     def _give_up(self, attempt: Attempt, why: str, now: float, final: bool = False) -> Decision:
         if attempt.is_wait:

@@ -296,11 +296,14 @@ LINES: Mapping[AttemptEvent, Lines] = {
     ),
     E.ROW_STORED: _otherwise(
         [
-            (_suspended((S.TIMER, S.APPROVAL), PENDING), Rule(H.ANNOUNCE_WAIT, stays=True)),
+            (
+                _suspended((S.TIMER, S.APPROVAL, S.RETRY), PENDING),
+                Rule(H.ANNOUNCE_WAIT, stays=True),
+            ),
             (_suspended((S.WAIT_OVER,), PENDING), Rule(H.CALL, stays=True)),
             (_suspended((S.CHILD,), PENDING), Rule(H.ANNOUNCE_CHILD, stays=True)),
             (
-                _suspended({*PARKED, *LIMITED, S.BACKOFF, S.EXTERNAL}, PENDING),
+                _suspended({*PARKED - {S.RETRY}, *LIMITED, S.BACKOFF, S.EXTERNAL}, PENDING),
                 Rule(H.ANNOUNCE, stays=True),
             ),
         ]
