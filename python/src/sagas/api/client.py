@@ -49,6 +49,7 @@ from sagas.storage.postgresql import (
     saga_requests,
     schema,
 )
+from sagas.storage.postgresql.application_name import Purpose
 from sagas.storage.record_file import RecordFile, record_path
 
 if TYPE_CHECKING:
@@ -110,7 +111,7 @@ class Client(SharedCalls):
             )
         arguments.count("connections", connections)
         self._url, self.path = connections_module.hosts_of(url), connections_module.named(url)
-        self._asker = connections_module.Asker(self._url, self.path, connections)
+        self._asker = connections_module.Asker(self._url, self.path, connections, Purpose.CLIENT)
         self._asker.late = self._look_at_hosts
         self._reader = AsyncStoreReader(self._read, self._read)
         self._opened = OpenState("the client")
@@ -161,7 +162,7 @@ class Client(SharedCalls):
             ...
 
     async def _open(self) -> None:
-        await connections_module.check_access(self._url, self.path)
+        await connections_module.check_access(self._url, self.path, Purpose.CLIENT)
         await self._asker.open()
         try:
             version = (await self._asker.read("SELECT to_regclass('sagas.store') IS NOT NULL"))[0][
@@ -192,7 +193,7 @@ class Client(SharedCalls):
 
     async def _choose_host(self) -> None:
         before = self._url.turn
-        await self._url.choose(connections_module.address(self._url))
+        await self._url.choose(connections_module.address(self._url, Purpose.HOSTS))
         if self._url.turn != before and self._notifier is not None:
             await self._asker.renew(cuts=True)
 

@@ -20,6 +20,7 @@ from sagas.definition.serialization import cleaned
 from sagas.storage import queries, store_name
 from sagas.storage.filters import Filter
 from sagas.storage.operator_requests import ANSWER, ASK, ASK_START, WITHDRAW
+from sagas.storage.postgresql.application_name import Purpose
 from sagas.storage.sqlite import store_file
 from sagas.storage.sqlite.schema import VERSION
 
@@ -303,7 +304,7 @@ class DatabaseSource:
         self.name = connections.named(url)
         self._translating_errors = functools.partial(connections.translate_errors, self.name)
         with self._translating_errors():
-            self.connection = connections.connect_now(url)
+            self.connection = connections.connect_now(url, Purpose.ADMIN)
             version = schema.version_of(self.connection)
         if not 0 < version <= schema.VERSION:
             self.connection.close()

@@ -9,6 +9,7 @@ from collections.abc import Iterator
 from typing import TYPE_CHECKING, Any
 
 from sagas.base.errors import InvalidStore
+from sagas.storage.postgresql.application_name import Purpose
 
 if TYPE_CHECKING:
     import psycopg
@@ -63,7 +64,9 @@ class PostgresBlobStore:
 
         from sagas.storage.postgresql import connections
 
-        connection = connections.connect_now(self._url, f"{connections.DURABLE}; {LIMITED}")
+        connection = connections.connect_now(
+            self._url, Purpose.BLOBS, f"{connections.DURABLE}; {LIMITED}"
+        )
         with self._lock:
             if self._is_made:
                 return connection

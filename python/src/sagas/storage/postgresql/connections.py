@@ -32,6 +32,7 @@ from psycopg_pool import AsyncConnectionPool, PoolTimeout
 
 from sagas.base.errors import InvalidStore, StoreUnavailable
 from sagas.storage.postgresql import replication
+from sagas.storage.postgresql.application_name import Purpose, application_name
 from sagas.storage.postgresql.replication import (
     NotReplicated,
     PlainStoreConnection,
@@ -58,7 +59,6 @@ libpq does not return a code for them.
 """
 DEFAULTS: dict[str, Any] = {
     "connect_timeout": CONNECT,
-    "application_name": "sagas",
     "keepalives_idle": 5,
     "keepalives_interval": 2,
     "keepalives_count": 3,
@@ -188,23 +188,33 @@ def has_unescaped_at(url: str) -> bool:
     return "@" in after_user.partition("?")[0]
 
 
-def address(url: str) -> str:
-    """Return the URL with defaults for what it leaves open.
+def address(url: str, purpose: Purpose) -> str:
+    """Return the URL with defaults for what it leaves open, and the name of the connection.
 
     The defaults say how soon a dead connection is noticed, and that the server must accept writes.
-    A URL of `Hosts` has the hosts in the order in which they are tried.
+    A URL of `Hosts` has the hosts in the order in which they are tried, and the name of the node.
     """
     parameters = read(url)
-    defaults = {word: value for word, value in DEFAULTS.items() if word not in parameters}
+    options = {word: value for word, value in DEFAULTS.items() if word not in parameters}
+    node = url.node if isinstance(url, Hosts) else None
+    name = application_name(parameters.get("application_name"), node, purpose)
     if isinstance(url, Hosts) and url.are_several:
-        defaults |= url.parameters()
-    return conninfo.make_conninfo(url, **defaults)
+        options |= url.parameters()
+    return conninfo.make_conninfo(url, **options, application_name=name)
 
 
-def hosts_of(url: str) -> Hosts:
-    """Return the URL with its hosts in this program's own order. Raises `InvalidStore`."""
+def hosts_of(url: str, node: str | None = None) -> Hosts:
+    """Return the URL with its hosts in this program's own order.
+
+    Args:
+        url: The URL.
+        node: The name of the node whose connections it is for (default: they are of no node).
+
+    Raises:
+        InvalidStore: It is not a valid URL.
+    """
     read(url)
-    return Hosts(url)
+    return Hosts(url, node)
 
 
 def named(url: str) -> str:
@@ -233,7 +243,13 @@ class Hosts(str):
     For all other uses it is the given URL.
     """
 
-    def __init__(self, url: str) -> None:
+    def __new__(cls, url: str, node: str | None = None) -> Hosts:
+        """Make the text of the URL."""
+        return super().__new__(cls, url)
+
+    def __init__(self, url: str, node: str | None = None) -> None:
+        self.node = node
+        """The name of the node whose connections these are, if they are of one."""
         self._hosts = host_parameters(conninfo.conninfo_to_dict(url))
         self._order = [*range(len(self._hosts))]
         self._asking = asyncio.Lock()
@@ -431,12 +447,12 @@ def was_cut(error: StoreUnavailable) -> bool:
 # -- connections, and a pool of them
 
 
-async def connect(url: str, settings: str = SETTINGS) -> Link:
+async def connect(url: str, purpose: Purpose, settings: str = SETTINGS) -> Link:
     """Return a connection of the store's own, which commits each statement."""
-    connection = await Link.connect(address(url), autocommit=True, prepare_threshold=1)
+    connection = await Link.connect(address(url, purpose), autocommit=True, prepare_threshold=1)
     assert isinstance(connection, Link)
     try:
-        await check_sessions(connection, address(url))
+        await check_sessions(connection, address(url, Purpose.HOSTS))
         await connection.execute(settings, prepare=False)
     except BaseException:
         await connection.close()
@@ -444,14 +460,14 @@ async def connect(url: str, settings: str = SETTINGS) -> Link:
     return connection
 
 
-async def check_access(url: str, store_name: str) -> None:
+async def check_access(url: str, store_name: str, purpose: Purpose) -> None:
     """Raise `InvalidStore` if the server permanently refuses the login.
 
     A pool would retry. Any other error may be temporary.
     """
     try:
         async with asyncio.timeout(LOGIN_TIMEOUT):
-            await (await connect(url)).close()
+            await (await connect(url, purpose)).close()
     except TransactionPooled as error:
         raise InvalidStore(f"{store_name}: {error}") from error
     except CLIENT_ERRORS as error:
@@ -469,12 +485,14 @@ async def timeline_of(connection: Link) -> str:
     return str(rows[0][0])
 
 
-def connect_now(url: str, settings: str = f"{SETTINGS}; {LIMITED}") -> PlainStoreConnection:
+def connect_now(
+    url: str, purpose: Purpose, settings: str = f"{SETTINGS}; {LIMITED}"
+) -> PlainStoreConnection:
     """See `connect`, for a connection of a thread."""
-    connection = PlainStoreConnection.connect(address(url), autocommit=True)
+    connection = PlainStoreConnection.connect(address(url, purpose), autocommit=True)
     assert isinstance(connection, PlainStoreConnection)
     try:
-        check_sessions_now(connection, address(url))
+        check_sessions_now(connection, address(url, Purpose.HOSTS))
         connection.execute(settings, prepare=False)
     except BaseException:
         connection.close()
@@ -487,7 +505,7 @@ async def _configure(address: str, connection: psycopg.AsyncConnection[Any]) -> 
     await connection.execute(f"{SETTINGS}; {LIMITED}; {ABANDONED}", prepare=False)
 
 
-def pool(url: str, max_size: int) -> AsyncConnectionPool:
+def pool(url: str, max_size: int, purpose: Purpose) -> AsyncConnectionPool:
     """Return a pool for short statements, each a transaction of its own.
 
     It is not open yet.
@@ -499,13 +517,13 @@ def pool(url: str, max_size: int) -> AsyncConnectionPool:
     """
     arguments = {"autocommit": True, "prepare_threshold": 2}
     return AsyncConnectionPool(
-        address(url),
+        address(url, purpose),
         connection_class=Link,
         min_size=1,
         max_size=max_size,
         open=False,
         kwargs=arguments,
-        configure=functools.partial(_configure, address(url)),
+        configure=functools.partial(_configure, address(url, Purpose.HOSTS)),
         timeout=PATIENCE / 4,
         reconnect_timeout=2.0,
         name="sagas",
@@ -525,9 +543,10 @@ class Attached(Protocol):
 class Asker:
     """Executes short statements over a pool."""
 
-    def __init__(self, url: str, store_name: str, max_size: int) -> None:
+    def __init__(self, url: str, store_name: str, max_size: int, purpose: Purpose) -> None:
         self.store_name, self._url, self._max_size = store_name, url, max_size
-        self.pool = pool(url, max_size)
+        self._purpose = purpose
+        self.pool = pool(url, max_size, purpose)
         self._attached: list[Attached] = []
         self._under_way: set[asyncio.Task[Any]] = set()
         self._used: set[Link] = set()
@@ -541,7 +560,9 @@ class Asker:
             try:
                 await self.pool.open(wait=True, timeout=2 * CONNECT)
             except PoolTimeout:
-                await (await connect(self._url)).close()  # raises the error that the pool hides
+                await (
+                    await connect(self._url, self._purpose)
+                ).close()  # raises the error that the pool hides
                 raise
 
     def attach(self, *attached: Attached) -> None:
@@ -556,7 +577,7 @@ class Asker:
         """
         for attached in self._attached:
             attached.cut()
-        old, self.pool = self.pool, pool(self._url, self._max_size)
+        old, self.pool = self.pool, pool(self._url, self._max_size, self._purpose)
         used = [*self._used] if cuts else []
         await self.pool.open()
         for connection in used:

@@ -33,6 +33,7 @@ from sagas.storage.external import (
     earlier,
 )
 from sagas.storage.postgresql import connections, notifications, wire
+from sagas.storage.postgresql.application_name import Purpose
 from sagas.storage.postgresql.connections import Asker
 
 CHANNEL = "sagas_reports"
@@ -220,7 +221,7 @@ class PostgreSQLExternalAttempts:
 
     def __init__(self, url: str, asker: Asker) -> None:
         self._asker = asker
-        self._own_wire = wire.ReconnectingWire(url, asker.store_name)
+        self._own_wire = wire.ReconnectingWire(url, asker.store_name, Purpose.CLAIM)
         asker.attach(self._own_wire)
         # claims that wait for other nodes hold a connection of the pool
         self._locking = asyncio.Lock()

@@ -18,6 +18,7 @@ from sagas.core.shard.batch import SagaRow, StoredSaga
 from sagas.definition.serialization import clean, cleaned
 from sagas.storage import queries
 from sagas.storage.postgresql import connections, wire
+from sagas.storage.postgresql.application_name import Purpose
 from sagas.storage.postgresql.connections import Asker, Hosts
 
 # -- by keys
@@ -42,7 +43,7 @@ class KeyFinder:
         self, url: str, store_name: str, spawn: Callable[[Coroutine[Any, Any, None]], object]
     ) -> None:
         self._connection, self._store_name, self._spawn = (
-            wire.ReconnectingWire(url, store_name),
+            wire.ReconnectingWire(url, store_name, Purpose.KEYS),
             store_name,
             spawn,
         )
@@ -295,7 +296,7 @@ class Reader:
                 self._follow()
                 with connections.translate_errors(self._path):
                     if self._connection is None or self._connection.closed:
-                        self._connection = connections.connect_now(self._url)
+                        self._connection = connections.connect_now(self._url, Purpose.READS)
                     return self._connection.execute(
                         queries.for_postgresql(query), arguments
                     ).fetchall()

@@ -15,6 +15,7 @@ import psycopg
 
 from sagas.base.pauses import doubling_pauses
 from sagas.storage.postgresql import connections
+from sagas.storage.postgresql.application_name import Purpose
 from sagas.storage.postgresql.wire import Wire
 
 if TYPE_CHECKING:
@@ -90,7 +91,9 @@ class Listener:
         pauses = doubling_pauses(FIRST_PAUSE, MAX_PAUSE)
         while True:
             try:
-                wire = self.wire = Wire(await connections.connect(self._url), self._heard)
+                wire = self.wire = Wire(
+                    await connections.connect(self._url, Purpose.LISTEN), self._heard
+                )
                 try:
                     for channel in self._channels:
                         await wire.rows(f"LISTEN {channel}")

@@ -16,6 +16,7 @@ from psycopg import errors, sql
 from sagas.base.errors import InvalidStore, StoreSchemaTooNew, StoreUnavailable
 from sagas.base.logger import logger
 from sagas.storage.postgresql import connections
+from sagas.storage.postgresql.application_name import Purpose
 from sagas.storage.postgresql.connections import RIGHTS
 
 LOCK = 5_777_001
@@ -477,7 +478,9 @@ class MissingTables:
 
     def _make(self) -> None:
         with connections.translate_errors(self._path):
-            with contextlib.closing(connections.connect_now(self._url)) as connection:
+            with contextlib.closing(
+                connections.connect_now(self._url, Purpose.ADMIN)
+            ) as connection:
                 (timeline,) = connection.execute(f"SELECT {connections.TIMELINE}").fetchone() or (
                     "",
                 )

@@ -26,7 +26,7 @@ from sagas.core.shard.batch import (
 from sagas.definition.payloads import Payloads
 from sagas.definition.serialization import cleaned
 from sagas.definition.call_options import Bounds
-from sagas.storage import queries
+from sagas.storage import queries, store_name
 from sagas.storage.external import ExternalAttempts
 from sagas.storage.interface import (
     CommitCallback,
@@ -44,6 +44,7 @@ from sagas.storage.postgresql import (
     schema,
     shard_moves,
 )
+from sagas.storage.postgresql.application_name import Purpose
 from sagas.storage.postgresql.commit_statement import Commit
 from sagas.storage.postgresql.connections import Asker
 from sagas.storage.postgresql.external_attempts import PostgreSQLExternalAttempts
@@ -134,8 +135,8 @@ class PostgreSQL(queries.Questions):
             record: The file of the record, if there is one.
             encodes: Whether there is a codec.
         """
-        self.url = url = connections.hosts_of(url)
-        self.asker = connections.Asker(url, connections.named(url), 2)
+        self.url = url = connections.hosts_of(url, store_name.node_name(node))
+        self.asker = connections.Asker(url, connections.named(url), 2, Purpose.LEASE)
         self.lease = Lease(self.asker, node, lease, version, kinds, encodes)
         self._sagas = list(sagas)
         self.external: ExternalAttempts = PostgreSQLExternalAttempts(url, self.asker)
@@ -165,7 +166,7 @@ class PostgreSQL(queries.Questions):
             else None
         )
         self._keys = KeyFinder(url, self.path, self._spawn)
-        self._questions = connections.Asker(url, self.path, 1)
+        self._questions = connections.Asker(url, self.path, 1, Purpose.READS)
         self.asker.late = self._questions.late = self._look_at_hosts
         self._lookups = Lookups(self._questions, self._spawn)
         self._continuity = Continuity(
@@ -237,7 +238,7 @@ class PostgreSQL(queries.Questions):
     def _migrate(self) -> None:
         try:
             with connections.translate_errors(self.path):
-                connection = connections.connect_now(self.url)
+                connection = connections.connect_now(self.url, Purpose.ADMIN)
                 with contextlib.closing(connection):
                     schema.migrate(connection, self.path)
         except StoreUnavailable as error:
@@ -380,7 +381,7 @@ class PostgreSQL(queries.Questions):
             self._spawn(self._choose_host())
 
     async def _choose_host(self) -> None:
-        timeline = await self.url.choose(connections.address(self.url))
+        timeline = await self.url.choose(connections.address(self.url, Purpose.HOSTS))
         if timeline is not None and timeline > self._timeline and not self._closing:
             self._is_known(timeline, cuts=True)
             self._writer.cut()

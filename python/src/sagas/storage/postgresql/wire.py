@@ -18,6 +18,7 @@ from typing import TYPE_CHECKING, Optional
 from psycopg import errors, pq
 
 from sagas.storage.postgresql import connections
+from sagas.storage.postgresql.application_name import Purpose
 from sagas.storage.postgresql.replication import NotReplicated
 
 if TYPE_CHECKING:
@@ -266,8 +267,8 @@ def read(result: PGresult) -> list[Values]:
 class ReconnectingWire:
     """A wire for short statements that is made again when it breaks."""
 
-    def __init__(self, url: str, store_name: str) -> None:
-        self._url, self._store_name = url, store_name
+    def __init__(self, url: str, store_name: str, purpose: Purpose) -> None:
+        self._url, self._store_name, self._purpose = url, store_name, purpose
         self._wire: Wire | None = None
         self._making = asyncio.Lock()
         self._is_over = False
@@ -313,7 +314,7 @@ class ReconnectingWire:
                 raise errors.OperationalError("the connection is closed")
             if self._wire is None or self._wire.closed:
                 connection = await connections.connect(
-                    self._url, f"{connections.REPEATED}; {connections.LIMITED}"
+                    self._url, self._purpose, f"{connections.REPEATED}; {connections.LIMITED}"
                 )
                 if self._is_over:  # it was closed during the connect
                     await connection.close()
