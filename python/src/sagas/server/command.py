@@ -80,7 +80,7 @@ Exit status:
   0    stopped by SIGTERM or Ctrl-C
   1    a definition is invalid
   2    invalid arguments, the address is in use, or sagas[server] is not installed
-  4    the store, the token file or the webhook file cannot be used
+  4    the store, the token file or the webhook file cannot be used, also after --wait
   5    the stop took too long
   130  interrupted while it starts"""
 TOKEN_ENDING = """\
@@ -118,6 +118,13 @@ def parser() -> argparse.ArgumentParser:
         metavar="SECONDS",
         help="PostgreSQL only: seconds without a heartbeat before other services take over its "
         f"sagas ({OF_APP} or 10)",
+    )
+    result.add_argument(
+        "--wait",
+        type=positive,
+        metavar="SECONDS",
+        help="PostgreSQL only: wait this long for the database at the start (default: 0, it must "
+        "answer at once)",
     )
     result.add_argument(
         "--record",
@@ -419,8 +426,9 @@ def settings_of(parsed: argparse.Namespace) -> Settings:
     except InvalidStore as error:
         raise Trouble(str(error)) from error
     if not store_name.supports_nodes(parsed.path):
-        if parsed.record:
-            raise Trouble("--record requires a postgresql:// URL")
+        for option, value in (("--record", parsed.record), ("--wait", parsed.wait)):
+            if value:
+                raise Trouble(f"{option} requires a postgresql:// URL")
         file = pathlib.Path(parsed.path)
         if file.is_dir():
             raise Trouble(f"{file} is a directory; pass the path of a file")
@@ -449,6 +457,7 @@ def settings_of(parsed: argparse.Namespace) -> Settings:
             parsed.kept_connections,
         ),
         rate=parsed.rate,
+        wait=parsed.wait or 0.0,
         quota=Quota(parsed.open_sagas, parsed.open_bytes),
         trusted_proxies=parsed.trusted_proxies,
         store=StoreSettings(options, on_event),
@@ -492,6 +501,11 @@ def serve(options: argparse.Namespace) -> int:
         listening.listen(2048)
         host, port = listening.getsockname()[:2]
 
+        address = f"http://{f'[{host}]' if ':' in host else host}:{port}/"
+
+        def waits() -> None:
+            print(f"sagas serve: {address} waits for the database", flush=True)
+
         def opened() -> None:
             if settings.tokens is None:
                 print(
@@ -499,12 +513,12 @@ def serve(options: argparse.Namespace) -> int:
                     "user has full access. Remote connections are refused",
                     file=sys.stderr,
                 )
-            print(f"sagas serve: http://{f'[{host}]' if ':' in host else host}:{port}/", flush=True)
+            print(f"sagas serve: {address}", flush=True)
 
         gc.set_threshold(GARBAGE)
         sys.setswitchinterval(SWITCH)
         reopen = None if log_file is None else log_file.reopen
-        asyncio.run(run(settings, listening, opened, overdue, reopen))
+        asyncio.run(run(settings, listening, opened, overdue, reopen, waits=waits))
     return GOOD
 
 

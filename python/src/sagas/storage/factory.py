@@ -70,6 +70,25 @@ def make(
     )
 
 
+async def reach(name: str) -> None:
+    """Connect to the server of a store once, so that a caller can wait for it.
+
+    It does nothing for a file. If it is cancelled, nothing remains.
+
+    Raises:
+        StoreUnavailable: The server does not answer, or does not accept connections yet.
+        InvalidStore: The server refuses this user permanently.
+        ImportError: The driver is not installed.
+    """
+    if not is_url(name):
+        return
+    try:
+        from sagas.storage.postgresql import connections
+    except ImportError as error:
+        raise missing_client(error) from error
+    await connections.reach(name)
+
+
 def definition_names(definitions: DefinitionRegistry) -> list[str]:
     """Return the definitions of a program, as saga/version/digest."""
     texts = {f"{kind.name}/{kind.version}": kind.text for kind in definitions.kinds}

@@ -460,6 +460,24 @@ async def connect(url: str, purpose: Purpose, settings: str = SETTINGS) -> Link:
     return connection
 
 
+async def reach(url: str) -> None:
+    """Connect once.
+
+    Raises:
+        StoreUnavailable: The server does not answer, or does not accept connections yet.
+        InvalidStore: The server refuses this user permanently.
+    """
+    store_name = named(url)
+    try:
+        with translate_errors(store_name):
+            await (await connect(url, Purpose.HOSTS)).close()
+    except StoreUnavailable as error:
+        cause = error.__cause__
+        if isinstance(cause, Exception) and FINAL.search(str(cause)):
+            raise refused_login(store_name, cause) from error
+        raise
+
+
 async def check_access(url: str, store_name: str, purpose: Purpose) -> None:
     """Raise `InvalidStore` if the server permanently refuses the login.
 
