@@ -258,6 +258,7 @@ class Client(SharedCalls):
         Raises:
             StoreUnavailable: The connection is closed or failed. Or the server, or a synchronous
                 standby, does not answer in 21 seconds: start it again, with the same key.
+            TransactionConflict: The transaction of `connection` met another one: repeat all of it.
             ValueError: The connection has no open transaction, or is to another database.
             TypeError: The connection is of another kind, for example one that blocks its thread.
             Closed: The client is closed.

@@ -31,7 +31,7 @@ from psycopg import conninfo, errors
 from psycopg_pool import AsyncConnectionPool, PoolTimeout
 
 from sagas.base.errors import InvalidStore, StoreUnavailable
-from sagas.storage.postgresql import replication
+from sagas.storage.postgresql import conflicts, replication
 from sagas.storage.postgresql.application_name import Purpose, application_name
 from sagas.storage.postgresql.replication import (
     NotReplicated,
@@ -75,12 +75,14 @@ The database's own setting is ignored.
 """
 SETTINGS = (
     "SET client_encoding = 'UTF8'; SET search_path = sagas; SET jit = off; SET enable_seqscan = "
-    f"off; SET enable_hashjoin = off; SET enable_mergejoin = off; {DURABLE}"
+    "off; SET enable_hashjoin = off; SET enable_mergejoin = off; SET default_transaction_isolation "
+    f"= 'read committed'; {DURABLE}"
 )
 """The settings of a connection.
 
 Plans are made once, for tables that are empty then and full later. So the planner has to use
-indexes.
+indexes. A statement that waits for a lock sees what was committed before it got the lock. The
+database's own isolation level is ignored, because no higher one has this property.
 """
 
 LIMITED = f"SET statement_timeout = '{int(PATIENCE)}s'"
@@ -644,10 +646,17 @@ class Asker:
         if not work.cancelled():
             work.exception()  # a caller that was not cancelled has the error
 
-    async def _execute(self, text: str, parameters: Mapping[str, Any] | Sequence[Any]) -> list[Row]:
-        async with self.connection() as connection:
-            cursor = await connection.execute(text, parameters)
-            return await cursor.fetchall() if cursor.pgresult and cursor.pgresult.nfields else []
+    async def _execute(
+        self, text: str, parameters: Mapping[str, Any] | Sequence[Any], turn: int = 0
+    ) -> list[Row]:
+        try:
+            async with self.connection() as connection:
+                cursor = await connection.execute(text, parameters)
+                has_rows = cursor.pgresult and cursor.pgresult.nfields
+                return await cursor.fetchall() if has_rows else []
+        except StoreUnavailable as error:
+            await conflicts.pause(error, turn)
+        return await self._execute(text, parameters, turn + 1)
 
     @contextlib.asynccontextmanager
     async def connection(self) -> AsyncIterator[Link]:

@@ -17,7 +17,7 @@ from typing import TYPE_CHECKING, Optional
 
 from psycopg import errors, pq
 
-from sagas.storage.postgresql import connections
+from sagas.storage.postgresql import conflicts, connections
 from sagas.storage.postgresql.application_name import Purpose
 from sagas.storage.postgresql.replication import NotReplicated
 
@@ -72,6 +72,7 @@ class Wire:
         # one timer for all statements, which checks `_until`
         self._timer: asyncio.TimerHandle | None = None
         self._until = 0.0
+        self._conflict: tuple[Job, int] | None = None
         self.closed = False
         self.gone = asyncio.Event()
         """Set when it is closed."""
@@ -191,6 +192,8 @@ class Wire:
         preparing, self._preparing = self._preparing, None
         assert result
         failure = None if result.status in GOOD else errors.error_from_result(result)
+        if failure is not None and conflicts.is_conflict(failure) and self._repeats():
+            return
         if failure is None and self._connection.warned:
             self._connection.warned, failure = False, NotReplicated()
         is_deallocating, self._is_deallocating = self._is_deallocating, False
@@ -209,6 +212,21 @@ class Wire:
         then(rows, failure)
 
     # -- errors
+
+    def _repeats(self) -> bool:
+        """Whether the statement is repeated, after a conflict that has rolled it back."""
+        job, turn = self._jobs[0], 0
+        if self._conflict is not None and self._conflict[0] is job:
+            turn = self._conflict[1] + 1
+        if turn >= conflicts.MAX_TURNS:
+            return False
+        self._conflict = job, turn
+        self._loop.call_later(conflicts.pause_before(turn), self._repeat, job)
+        return True
+
+    def _repeat(self, job: Job) -> None:
+        if self._jobs and self._jobs[0] is job and not self.closed:
+            self._begin()
 
     def _look(self) -> None:
         """Check whether the statement under way is late."""

@@ -19,7 +19,7 @@ from sagas.definition import awaitables
 from sagas.definition.call_options import Function
 from sagas.definition.task import Task
 from sagas.storage.external import REPORT_COUNTS
-from sagas.storage.postgresql import connections
+from sagas.storage.postgresql import conflicts, connections
 from sagas.storage.postgresql.application_name import Purpose
 from sagas.storage.postgresql.external_attempts import NOTIFY_REPORTED, REPORT
 from sagas.storage.postgresql.step_connections import AS_MADE, AsyncStepLink, StepLink, check_whole
@@ -45,6 +45,9 @@ class PostgreSQLWorkerSession:
         self._for_functions: StepLink | None = None  # for functions that are transactions
 
     def _ask(self, text: str, parameters: Any) -> list[Any]:
+        return conflicts.repeated_now(lambda: self._ask_once(text, parameters))
+
+    def _ask_once(self, text: str, parameters: Any) -> list[Any]:
         try:
             with connections.translate_errors(self.path):
                 if self._connection is None or self._connection.closed:
