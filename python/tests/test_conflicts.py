@@ -95,13 +95,13 @@ def test_a_conflict_at_each_table(url: str, code: str) -> None:
         async with store, sagas.Client(url) as client:
             await client.start(kind, "k")
             await store.start(kind, "other")
+            for _ in range(2):
+                (task,) = await store.workers.claim([("kind", "sends", "run")], wait=60)
+                await store.workers.report(task.attempt_id, task.lease, "sent")
             for key in ("k", "other"):
-                (task,) = await store.workers.claim(["kind/sends"], wait=60)
-                await store.workers.complete(task.attempt_id, task.lease, key)
                 await until_reported(client, key)
                 assert (await client.wait(key)).ok
-            await client.start(kind, "aborted")
-            await until(lambda: store.active_attempts("aborted") is not None)
+            await store.start(kind, "aborted")
             await client.abort("aborted")
             await client.wait("aborted")
             assert all(verdict.startswith("yes") for verdict in (await store.audit()).values())

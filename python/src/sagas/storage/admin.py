@@ -20,6 +20,7 @@ from sagas.definition.serialization import cleaned
 from sagas.storage import queries, store_name
 from sagas.storage.filters import Filter
 from sagas.storage.operator_requests import ANSWER, ASK, ASK_START, WITHDRAW
+from sagas.storage.postgresql import conflicts
 from sagas.storage.postgresql.application_name import Purpose
 from sagas.storage.sqlite import store_file
 from sagas.storage.sqlite.schema import VERSION
@@ -307,12 +308,11 @@ class DatabaseSource:
 
     def __init__(self, url: str, mode: str) -> None:
         try:
-            from sagas.storage.postgresql import conflicts, connections, schema
+            from sagas.storage.postgresql import connections, schema
         except ImportError as error:
             raise Trouble(str(store_name.missing_client(error)), CANNOT) from error
 
         self.name = connections.named(url)
-        self._repeated = conflicts.repeated_now
         self._translating_errors = functools.partial(connections.translate_errors, self.name)
         with self._translating_errors():
             self.connection = connections.connect_now(url, Purpose.ADMIN)
@@ -346,7 +346,7 @@ class DatabaseSource:
             with self.transaction():
                 return work()
 
-        return self._repeated(whole)
+        return conflicts.repeated_now(whole)
 
     def _alone(self, work: Callable[[], T]) -> T:
         """Execute a statement. If it is a transaction of its own, it is repeated after conflicts.
@@ -354,7 +354,7 @@ class DatabaseSource:
         In a transaction, its caller repeats all of it.
         """
         is_alone = self.connection.info.transaction_status.name == "IDLE"
-        return self._repeated(work) if is_alone else work()
+        return conflicts.repeated_now(work) if is_alone else work()
 
     def now(self) -> float:
         return float(self.ask("SELECT extract(epoch FROM now())")[0][0])
@@ -364,11 +364,11 @@ class DatabaseSource:
 
     def ask(self, text: str, *parameters: Any) -> list[Row]:
         form, values = queries.for_postgresql(text), cleaned(parameters)
-        return self._alone(lambda: self._executed(form, values).fetchall())
+        return self._alone(lambda: [*self._executed(form, values).fetchall()])
 
     def changed(self, text: str, *parameters: Any) -> int:
         form, values = text.replace("?", "%s"), cleaned(parameters)
-        return self._alone(lambda: self._executed(form, values).rowcount)
+        return self._alone(lambda: int(self._executed(form, values).rowcount))
 
     def notify(self, message: str) -> None:
         from sagas.storage.postgresql import notifications
