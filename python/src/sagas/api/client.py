@@ -46,6 +46,7 @@ from sagas.storage.postgresql import (
     lookups,
     node_lease,
     notifications,
+    pooler_urls,
     saga_requests,
     schema,
 )
@@ -90,6 +91,7 @@ class Client(SharedCalls):
         codec: Codec | None = None,
         blobs: BlobStore | None = None,
         record: str | os.PathLike[str] | None = None,
+        direct_url: str | None = None,
     ) -> None:
         """Make a client, to be entered by `async with`.
 
@@ -100,6 +102,9 @@ class Client(SharedCalls):
             codec: As for `sagas.open` (default: values are stored as JSON).
             blobs: As for `sagas.open`: where large results are read (default: in the database).
             record: As for `sagas.open`: a file that records the ends that this client has seen.
+            direct_url: The URL of the server itself, for notifications, if `url` is that of a
+                pooler that pools transactions (default: over such a pooler, a call that waits asks
+                each second).
 
         Raises:
             InvalidStore: It is not a URL of PostgreSQL.
@@ -113,6 +118,8 @@ class Client(SharedCalls):
         self._url, self.path = connections_module.hosts_of(url), connections_module.named(url)
         self._asker = connections_module.Asker(self._url, self.path, connections, Purpose.CLIENT)
         self._asker.late = self._look_at_hosts
+        direct_url = arguments.url("direct_url", direct_url)
+        self._direct_url = connections_module.hosts_of(direct_url) if direct_url else None
         self._reader = AsyncStoreReader(self._read, self._read)
         self._opened = OpenState("the client")
         self._notifier: notifications.Notifications | None = None
@@ -140,7 +147,7 @@ class Client(SharedCalls):
             StoreUnavailable: The server does not answer.
             InvalidStore: The database does not exist, or refuses this user. Or it has no tables of
                 the store: a node or `sagas store URL init` makes them. Or the URL is that of a
-                pooler that pools transactions.
+                pooler that pools statements, or `direct_url` one that pools transactions.
             StoreSchemaTooNew: The tables are of a later version.
             MissingCodec: The store's values are encoded, and this client has no codec.
             StoreLocked: This client has a codec, and a node without one has the store open.
@@ -162,7 +169,10 @@ class Client(SharedCalls):
             ...
 
     async def _open(self) -> None:
-        await connections_module.check_access(self._url, self.path, Purpose.CLIENT)
+        if self._direct_url is None:
+            await connections_module.check_access(self._url, self.path, Purpose.CLIENT)
+        else:
+            await pooler_urls.check(self._url, self._direct_url)
         await self._asker.open()
         try:
             version = (await self._asker.read("SELECT to_regclass('sagas.store') IS NOT NULL"))[0][
@@ -180,7 +190,9 @@ class Client(SharedCalls):
         except BaseException:
             await self._asker.close()
             raise
-        self._notifier = notifications.Notifications(self._url, lambda message: None)
+        polls = self._url.is_pooled and self._direct_url is None
+        listen_url = None if polls else self._direct_url or self._url
+        self._notifier = notifications.Notifications(listen_url, lambda message: None)
         self._asker.attach(self._notifier.listener)
 
     def _look_at_hosts(self) -> None:

@@ -120,6 +120,12 @@ def parser() -> argparse.ArgumentParser:
         f"sagas ({OF_APP} or 10)",
     )
     result.add_argument(
+        "--direct-url",
+        metavar="URL",
+        help="PostgreSQL only: URL of the server itself, if STORE is a pooler that pools "
+        f"transactions ({OF_APP} or none)",
+    )
+    result.add_argument(
         "--wait",
         type=positive,
         metavar="SECONDS",
@@ -391,6 +397,7 @@ def options_of(parsed: argparse.Namespace, app: App | None) -> dict[str, Any]:
         "node": parsed.node,
         "lease": parsed.lease,
         "record": parsed.record,
+        "direct_url": parsed.direct_url,
     }
     result |= {name: value for name, value in set_options.items() if value is not None}
     try:
@@ -426,7 +433,12 @@ def settings_of(parsed: argparse.Namespace) -> Settings:
     except InvalidStore as error:
         raise Trouble(str(error)) from error
     if not store_name.supports_nodes(parsed.path):
-        for option, value in (("--record", parsed.record), ("--wait", parsed.wait)):
+        only_server = {
+            "--record": parsed.record,
+            "--wait": parsed.wait,
+            "--direct-url": parsed.direct_url,
+        }
+        for option, value in only_server.items():
             if value:
                 raise Trouble(f"{option} requires a postgresql:// URL")
         file = pathlib.Path(parsed.path)

@@ -104,7 +104,7 @@ class ServiceStart:
         until, pauses = loop.time() + settings.wait, doubling_pauses(FIRST_PAUSE, MAX_PAUSE)
         while True:
             try:
-                await factory.reach(settings.path)
+                await factory.reach(settings.store.options.get("direct_url") or settings.path)
                 await self.open()
                 return
             except (StoreUnavailable, InvalidStore) as error:

@@ -4,9 +4,8 @@ A server that a standby has replaced may still accept writes, and its commits th
 standby. A program that waits too long asks all hosts: the one with the highest timeline is the
 primary.
 
-A pooler whose transactions run in different sessions of the server is refused. With such a pooler,
-connections share settings with strangers, and a listener gets no notification. The check is made
-before anything is set.
+A pooler whose transactions run in different sessions of the server is refused before anything is
+set, unless the URL is known to be one: `poolers` has the connections to it.
 """
 
 from __future__ import annotations
@@ -33,6 +32,14 @@ from psycopg_pool import AsyncConnectionPool, PoolTimeout
 from sagas.base.errors import InvalidStore, StoreUnavailable
 from sagas.storage.postgresql import conflicts, replication
 from sagas.storage.postgresql.application_name import Purpose, application_name
+from sagas.storage.postgresql.poolers import (
+    PooledConnection,
+    PooledPlainConnection,
+    StatementPooled,
+    TransactionPooled,
+    check_sessions,
+    check_sessions_now,
+)
 from sagas.storage.postgresql.replication import (
     NotReplicated,
     PlainStoreConnection,
@@ -202,7 +209,14 @@ def address(url: str, purpose: Purpose) -> str:
     name = application_name(parameters.get("application_name"), node, purpose)
     if isinstance(url, Hosts) and url.are_several:
         options |= url.parameters()
+    if is_pooled(url):
+        options["client_encoding"] = "UTF8"
     return conninfo.make_conninfo(url, **options, application_name=name)
+
+
+def is_pooled(url: str) -> bool:
+    """Whether a URL is known to be that of a pooler of transactions."""
+    return isinstance(url, Hosts) and url.is_pooled
 
 
 def hosts_of(url: str, node: str | None = None) -> Hosts:
@@ -252,6 +266,8 @@ class Hosts(str):
     def __init__(self, url: str, node: str | None = None) -> None:
         self.node = node
         """The name of the node whose connections these are, if they are of one."""
+        self.is_pooled = False
+        """Whether it is a pooler of transactions. It is found out when the store is opened."""
         self._hosts = host_parameters(conninfo.conninfo_to_dict(url))
         self._order = [*range(len(self._hosts))]
         self._asking = asyncio.Lock()
@@ -310,83 +326,6 @@ async def timeline_of_host(address: str, host: Mapping[str, str]) -> str | None:
                 return str(rows[0][0])
     except (psycopg.Error, OSError, TimeoutError):
         return None
-
-
-# -- poolers
-
-SESSION = "SELECT pg_backend_pid()"
-SESSION_PATIENCE = 2.0
-"""Seconds for a second session: a pooler that has none left pools sessions."""
-STATEMENT_POOLING = "statement pooling"
-"""PgBouncer's error for BEGIN if each statement may have another session."""
-
-
-class TransactionPooled(errors.OperationalError):
-    """The transactions of one connection run in several sessions."""
-
-    def __init__(self) -> None:
-        super().__init__(
-            "this is a connection pooler that pools transactions, as PgBouncer does with "
-            "pool_mode=transaction. A store needs sessions of its own. Nothing was written or set. "
-            "Name the server itself, or a pooler that pools sessions"
-        )
-
-
-async def check_sessions(connection: psycopg.AsyncConnection[Any], address: str) -> None:
-    """Raise `TransactionPooled` if the connection is one of such a pooler.
-
-    A pooler has its own session numbers, so most connections need no second one.
-
-    Args:
-        connection: A new connection that commits each statement.
-        address: Its address, for another connection.
-    """
-
-    async def session(of: psycopg.AsyncConnection[Any]) -> int:
-        rows = await (await of.execute(SESSION, prepare=False)).fetchall()
-        return int(rows[0][0])
-
-    first = await session(connection)
-    if first == connection.info.backend_pid:
-        return
-    other = await psycopg.AsyncConnection.connect(address, autocommit=True)
-    try:
-        async with asyncio.timeout(SESSION_PATIENCE):
-            await other.execute("BEGIN")
-            is_shared = await session(other) == first or await session(connection) != first
-    except TimeoutError:
-        is_shared = False
-    except errors.OperationalError as error:
-        if STATEMENT_POOLING not in str(error):
-            raise
-        is_shared = True
-    finally:
-        await other.close()
-    if is_shared:
-        raise TransactionPooled
-
-
-def check_sessions_now(connection: psycopg.Connection[Any], address: str) -> None:
-    """See `check_sessions`, for a connection of a thread."""
-
-    def session(of: psycopg.Connection[Any]) -> int:
-        return int(of.execute(SESSION, prepare=False).fetchall()[0][0])
-
-    first = session(connection)
-    if first == connection.info.backend_pid:
-        return
-    other = psycopg.connect(address, autocommit=True)
-    try:
-        other.execute("BEGIN")
-        is_shared = session(other) == first or session(connection) != first
-    except errors.OperationalError as error:
-        if STATEMENT_POOLING not in str(error):
-            raise
-        is_shared = True
-    finally:
-        other.close()
-    if is_shared:
-        raise TransactionPooled
 
 
 # -- errors
@@ -450,7 +389,16 @@ def was_cut(error: StoreUnavailable) -> bool:
 
 
 async def connect(url: str, purpose: Purpose, settings: str = SETTINGS) -> Link:
-    """Return a connection of the store's own, which commits each statement."""
+    """Return a connection of the store's own, which commits each statement.
+
+    A pooler of transactions gets no settings here: each transaction has its own.
+    """
+    if is_pooled(url):
+        pooled = await PooledConnection.connect(
+            address(url, purpose), autocommit=True, prepare_threshold=None
+        )
+        assert isinstance(pooled, Link)
+        return pooled
     connection = await Link.connect(address(url, purpose), autocommit=True, prepare_threshold=1)
     assert isinstance(connection, Link)
     try:
@@ -480,16 +428,21 @@ async def reach(url: str) -> None:
         raise
 
 
-async def check_access(url: str, store_name: str, purpose: Purpose) -> None:
-    """Raise `InvalidStore` if the server permanently refuses the login.
+async def check_access(url: Hosts, store_name: str, purpose: Purpose) -> None:
+    """Find out whether it is a pooler of transactions, and whether the login is accepted.
 
-    A pool would retry. Any other error may be temporary.
+    A pool would retry a login. Any other error may be temporary.
+
+    Raises:
+        InvalidStore: The server permanently refuses the login, or pools statements.
     """
     try:
         async with asyncio.timeout(LOGIN_TIMEOUT):
             await (await connect(url, purpose)).close()
-    except TransactionPooled as error:
+    except StatementPooled as error:
         raise InvalidStore(f"{store_name}: {error}") from error
+    except TransactionPooled:
+        url.is_pooled = True
     except CLIENT_ERRORS as error:
         # otherwise the error keeps the connection open, and the server waits for a password
         if isinstance(error, psycopg.Error) and error.pgconn:
@@ -509,6 +462,12 @@ def connect_now(
     url: str, purpose: Purpose, settings: str = f"{SETTINGS}; {LIMITED}"
 ) -> PlainStoreConnection:
     """See `connect`, for a connection of a thread."""
+    if is_pooled(url):
+        pooled = PooledPlainConnection.connect(
+            address(url, purpose), autocommit=True, prepare_threshold=None
+        )
+        assert isinstance(pooled, PlainStoreConnection)
+        return pooled
     connection = PlainStoreConnection.connect(address(url, purpose), autocommit=True)
     assert isinstance(connection, PlainStoreConnection)
     try:
@@ -535,15 +494,15 @@ def pool(url: str, max_size: int, purpose: Purpose) -> AsyncConnectionPool:
     3.1). The pool stops connecting soon, so that the next caller makes it retry at once, for any
     duration of the outage.
     """
-    arguments = {"autocommit": True, "prepare_threshold": 2}
+    configure = functools.partial(_configure, address(url, Purpose.HOSTS))
     return AsyncConnectionPool(
         address(url, purpose),
-        connection_class=Link,
+        connection_class=PooledConnection if is_pooled(url) else Link,
         min_size=1,
         max_size=max_size,
         open=False,
-        kwargs=arguments,
-        configure=functools.partial(_configure, address(url, Purpose.HOSTS)),
+        kwargs={"autocommit": True, "prepare_threshold": None if is_pooled(url) else 2},
+        configure=None if is_pooled(url) else configure,
         timeout=PATIENCE / 4,
         reconnect_timeout=2.0,
         name="sagas",
@@ -576,6 +535,8 @@ class Asker:
 
     async def open(self) -> None:
         """Connect. Raises `StoreUnavailable`."""
+        if is_pooled(self._url):
+            self.pool = pool(self._url, self._max_size, self._purpose)
         with translate_errors(self.store_name):
             try:
                 await self.pool.open(wait=True, timeout=2 * CONNECT)

@@ -220,6 +220,12 @@ class PostgreSQLExternalAttempts:
     """
 
     def __init__(self, url: str, asker: Asker) -> None:
+        """Create the table's part of a node.
+
+        Args:
+            url: The URL for the connection of its own, which may be that of a pooler.
+            asker: The node's connections.
+        """
         self._asker = asker
         self._own_wire = wire.ReconnectingWire(url, asker.store_name, Purpose.CLAIM)
         asker.attach(self._own_wire)

@@ -255,6 +255,51 @@ class Wire:
             then([], error)
 
 
+LOCAL = (
+    "SELECT set_config('search_path', 'sagas', true), set_config('jit', 'off', true), "
+    "set_config('enable_seqscan', 'off', true), set_config('enable_hashjoin', 'off', true), "
+    "set_config('enable_mergejoin', 'off', true), set_config('synchronous_commit', CASE WHEN "
+    "current_setting('synchronous_commit') IN ('off', 'local') THEN 'on' "
+    "ELSE current_setting('synchronous_commit') END, true), "
+    f"set_config('statement_timeout', '{int(connections.PATIENCE)}s', true)"
+).encode()
+"""The settings of one transaction, over a pooler of transactions."""
+
+
+class PooledWire(Wire):
+    """A wire over a pooler of transactions: nothing is prepared, and nothing remains set.
+
+    The settings and the statement are sent together, as one transaction.
+    """
+
+    def _begin(self) -> None:
+        text, parameters, _ = self._jobs[0]
+        try:
+            if self._pgconn.pipeline_status == pq.PipelineStatus.OFF:
+                self._pgconn.enter_pipeline_mode()
+            self._pgconn.send_query_params(LOCAL, None)
+            self._pgconn.send_query_params(text.encode(), parameters)
+            self._pgconn.pipeline_sync()
+            self._flush()
+        except Exception as error:
+            self._loop.call_soon(self._break, error)
+
+    def _receive(self) -> bool:
+        self._pgconn.consume_input()
+        is_between = True
+        while self._jobs and not self._pgconn.is_busy():
+            result = self._pgconn.get_result()
+            if result is None:
+                if is_between:
+                    return False
+            elif result.status == pq.ExecStatus.PIPELINE_SYNC:
+                return True
+            elif self._result is None or self._result.status in GOOD:
+                self._result = result
+            is_between = result is None
+        return False
+
+
 def array(texts: Iterable[str]) -> bytes:
     """Return an array of texts, as a parameter. The texts have no zero bytes."""
     escaped = [
@@ -338,7 +383,8 @@ class ReconnectingWire:
                     await connection.close()
                     raise errors.OperationalError("the connection is closed")
                 # the server times out first
-                self._wire = Wire(connection, patience=connections.PATIENCE + 1)
+                kind = PooledWire if connections.is_pooled(self._url) else Wire
+                self._wire = kind(connection, patience=connections.PATIENCE + 1)
             return self._wire
 
     def cut(self) -> None:
