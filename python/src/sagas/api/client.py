@@ -439,7 +439,7 @@ class Client(SharedCalls):
 
     def _location(self) -> str:
         self._open_notifier
-        return self._url
+        return self._direct_url or self._url
 
     async def resolve(self, key: str, note: str, *, by: str | None = None) -> None:
         """Mark a saga as resolved. See `Store.resolve`."""

@@ -232,6 +232,10 @@ class Store(Operators):
         """The file of the store, or its database without the password."""
         return self._access.path
 
+    def _location(self) -> str:
+        location = super()._location()
+        return self._server_options["direct_url"] or location
+
     @property
     def sagas(self) -> builtins.list[Saga[Any]]:
         """The definitions that the store was opened with."""
