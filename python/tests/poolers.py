@@ -15,7 +15,8 @@ from server import Server, free_port
 @contextlib.contextmanager
 def pooled(server: Server, mode: str, *more: str) -> Iterator[int]:
     """Run PgBouncer before a server, in one of its modes; return its port."""
-    port, settings = free_port(), server.folder.parent / "pgbouncer.ini"
+    port = free_port()
+    settings = server.folder.parent / f"pgbouncer-{port}.ini"
     lines = [
         "[databases]",
         f"* = host=127.0.0.1 port={server.port} user=owner",
