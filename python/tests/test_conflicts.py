@@ -214,11 +214,11 @@ def test_a_database_whose_transactions_are_serializable(url: str) -> None:
 
     async def main() -> None:
         (kind,), (same,) = declared(), declared()
-        async with sagas.open(url, [kind], node="one", concurrency=4) as one:
-            async with sagas.open(url, [same], node="two", concurrency=4) as two:
+        async with sagas.open(url, [kind], node="one", concurrency=4) as first:
+            async with sagas.open(url, [same], node="two", concurrency=4) as second:
                 async with sagas.Client(url) as client:
                     keys = [f"k{number}" for number in range(60)]
-                    starters: list[Any] = [(one, kind), (two, same), (client, kind)]
+                    starters: list[Any] = [(first, kind), (second, same), (client, kind)]
                     runs = await asyncio.gather(
                         *(
                             starters[n % 3][0].start(starters[n % 3][1], k)

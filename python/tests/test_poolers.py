@@ -16,6 +16,7 @@ from serving import DEFINITIONS, Served, all_done, start
 
 import sagas
 from sagas.cli import store_command
+from sagas.storage.postgresql.worker_session import PostgreSQLWorkerSession
 
 SETTINGS = {
     "search_path": '"$user", public',
@@ -69,6 +70,10 @@ def test_a_pooler_of_sessions(postgresql: Server, url: str) -> None:
         pooler = over(postgresql, url, port)
         with sagas.open_sync(pooler, [kind]), sagas.SyncClient(pooler) as client:
             assert client.start(kind, "k").wait(60).ok
+            with psycopg.connect(pooler) as link:
+                started = client.start(kind, "other", connection=link)
+            assert started.wait(60).ok
+        assert store_command.main([pooler, "stats"]) == 0
 
 
 def test_a_pooler_of_statements(postgresql: Server, url: str) -> None:
@@ -91,7 +96,7 @@ def test_a_pooler_of_statements(postgresql: Server, url: str) -> None:
 
 
 def test_what_needs_the_server_itself(there: str) -> None:
-    """A node, the command and a blob store are refused before they set anything."""
+    """A node, the command, a blob store and a Celery worker are refused, and set nothing."""
     kind = simple(lambda task: "done")
     for opens in (
         sagas.open_sync(there, [kind]),
@@ -103,6 +108,8 @@ def test_what_needs_the_server_itself(there: str) -> None:
     assert store_command.main([there, "stats"]) == 4
     with pytest.raises(psycopg.OperationalError, match="pools transactions"):
         sagas.PostgresBlobStore(there).put("a", b"one")
+    with pytest.raises(sagas.InvalidStore, match="pools transactions"):
+        PostgreSQLWorkerSession(there).say()
     check_untouched(there)
 
 
@@ -187,8 +194,8 @@ def test_a_node(url: str, there: str) -> None:
             await asyncio.to_thread(read_in_a_thread, store)
             assert all(verdict.startswith("yes") for verdict in (await store.audit()).values())
             with psycopg.connect(url, autocommit=True) as link:
-                found = {name for (name,) in link.execute(names)}
-            assert {"sagas/one lease", "sagas/one commit", "sagas/one step"} <= found, found
+                names_now = {name for (name,) in link.execute(names)}
+            assert {"sagas/one lease", "sagas/one commit", "sagas/one step"} <= names_now, names_now
 
     run(main())
     check_untouched(there)

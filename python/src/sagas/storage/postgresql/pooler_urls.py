@@ -23,7 +23,7 @@ async def check(url: Hosts, direct_url: Hosts) -> None:
     if here != there:
         raise InvalidStore(
             f"{store_name}: direct_url leads to another database, "
-            f"{connections.named(direct_url)}. Name the server behind the pooler, and the same "
+            f"{connections.named(direct_url)}. Name the server of the pooler, and the same "
             "database"
         )
 

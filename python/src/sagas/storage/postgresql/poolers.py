@@ -1,6 +1,6 @@
 """Connection poolers: which kind one is, and connections to one that pools transactions.
 
-A pooler of sessions is like the server. A pooler of transactions gives each transaction any of its
+A pooler of sessions is like the server. A pooler of transactions executes each one in any of its
 sessions. So nothing may be left in a session: no setting, no prepared statement, no lock and no
 LISTEN. The connections of this module set what a transaction needs within it, and prepare nothing.
 """
