@@ -106,6 +106,33 @@ def parser() -> argparse.ArgumentParser:
     add_sagas(result)
     add_access(result)
     add_limits(result)
+    add_nodes(result)
+    result.add_argument(
+        "--log",
+        choices=["json", "text"],
+        default="json",
+        help="format of the log (default: json)",
+    )
+    result.add_argument(
+        "--log-file",
+        type=pathlib.Path,
+        metavar="FILE",
+        help="file for the log, opened again at SIGHUP (default: standard error)",
+    )
+    result.add_argument(
+        "--log-level",
+        choices=["debug", "info", "warning", "error"],
+        default="info",
+        help="least severity that is logged (default: info)",
+    )
+    return result
+
+
+OF_APP = "default: that of a store of --app,"
+
+
+def add_nodes(result: argparse.ArgumentParser) -> None:
+    """Add the options of a store over PostgreSQL."""
     result.add_argument(
         "--node",
         metavar="NAME",
@@ -138,28 +165,6 @@ def parser() -> argparse.ArgumentParser:
         help="PostgreSQL only: file for a record of commits and acknowledgements, "
         "for `sagas store URL record` (default: $SAGAS_RECORD, or none)",
     )
-    result.add_argument(
-        "--log",
-        choices=["json", "text"],
-        default="json",
-        help="format of the log (default: json)",
-    )
-    result.add_argument(
-        "--log-file",
-        type=pathlib.Path,
-        metavar="FILE",
-        help="file for the log, opened again at SIGHUP (default: standard error)",
-    )
-    result.add_argument(
-        "--log-level",
-        choices=["debug", "info", "warning", "error"],
-        default="info",
-        help="least severity that is logged (default: info)",
-    )
-    return result
-
-
-OF_APP = "default: that of a store of --app,"
 
 
 def add_sagas(result: argparse.ArgumentParser) -> None:
@@ -404,9 +409,27 @@ def options_of(parsed: argparse.Namespace, app: App | None) -> dict[str, Any]:
         payloads.checked(result.get("codec"))
         check_blobs(result.get("blobs"), result.get("blob_threshold", MIN_THRESHOLD))
         arguments.keeping(result.get("retention"), result.get("archive_dir"))
+        arguments.url("--direct-url", result.get("direct_url"))
     except (TypeError, ValueError) as error:
         raise Trouble(str(error)) from error
     return result
+
+
+def check_file(parsed: argparse.Namespace) -> None:
+    """Raise `Trouble` if the store is no file that can be opened with these options."""
+    only_server = {
+        "--record": parsed.record,
+        "--wait": parsed.wait,
+        "--direct-url": parsed.direct_url,
+    }
+    for option, value in only_server.items():
+        if value:
+            raise Trouble(f"{option} requires a postgresql:// URL")
+    file = pathlib.Path(parsed.path)
+    if file.is_dir():
+        raise Trouble(f"{file} is a directory; pass the path of a file")
+    if not file.absolute().parent.is_dir():
+        raise Trouble(f"directory {file.parent} does not exist; create it first")
 
 
 def settings_of(parsed: argparse.Namespace) -> Settings:
@@ -433,19 +456,7 @@ def settings_of(parsed: argparse.Namespace) -> Settings:
     except InvalidStore as error:
         raise Trouble(str(error)) from error
     if not store_name.supports_nodes(parsed.path):
-        only_server = {
-            "--record": parsed.record,
-            "--wait": parsed.wait,
-            "--direct-url": parsed.direct_url,
-        }
-        for option, value in only_server.items():
-            if value:
-                raise Trouble(f"{option} requires a postgresql:// URL")
-        file = pathlib.Path(parsed.path)
-        if file.is_dir():
-            raise Trouble(f"{file} is a directory; pass the path of a file")
-        if not file.absolute().parent.is_dir():
-            raise Trouble(f"directory {file.parent} does not exist; create it first")
+        check_file(parsed)
     options = options_of(parsed, app)
     seconds, on_event = options.pop("shutdown_timeout", None), options.pop("on_event", None)
     more: dict[str, Any] = {}

@@ -13,7 +13,7 @@ import pathlib
 import sqlite3
 import time
 from collections.abc import Callable, Iterator
-from typing import TYPE_CHECKING, Any, Protocol, TypeVar
+from typing import Any, Protocol, TypeVar
 
 from sagas.base.errors import SagasError, StoreUnavailable
 from sagas.definition.serialization import cleaned
@@ -24,9 +24,6 @@ from sagas.storage.postgresql import conflicts
 from sagas.storage.postgresql.application_name import Purpose
 from sagas.storage.sqlite import store_file
 from sagas.storage.sqlite.schema import VERSION
-
-if TYPE_CHECKING:
-    import psycopg
 
 T = TypeVar("T")
 Row = tuple[Any, ...]
@@ -376,9 +373,12 @@ class DatabaseSource:
     def notify(self, message: str) -> None:
         from sagas.storage.postgresql import notifications
 
-        self._alone(lambda: self._executed(notifications.NOTIFY, {"messages": [message]}))
+        def send() -> None:
+            self._executed(notifications.NOTIFY, {"messages": [message]})
 
-    def _executed(self, text: str, parameters: Any) -> psycopg.Cursor[Row]:
+        self._alone(send)
+
+    def _executed(self, text: str, parameters: Any) -> Any:
         """Return the cursor of a statement."""
         with self._translating_errors():
             return self.connection.execute(text, parameters)

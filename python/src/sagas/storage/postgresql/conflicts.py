@@ -1,7 +1,8 @@
-"""Conflicts: the server ends a transaction because of a concurrent one, and it is tried again.
+"""Conflicts: the server ends a transaction because of a concurrent one.
 
-PostgreSQL reports a serialization failure or a deadlock. Then the transaction is rolled back, so a
-repetition is safe if all of its statements are repeated. A single statement is a transaction.
+PostgreSQL reports a serialization failure or a deadlock. Then the transaction is rolled back, and it
+is tried again. That is safe if all of its statements are repeated. A single statement is a
+transaction.
 """
 
 from __future__ import annotations

@@ -1,4 +1,4 @@
-"""Connection poolers: which kind one is, and connections to one that pools transactions.
+"""Connection poolers, and connections to one that pools transactions.
 
 A pooler of sessions is like the server. A pooler of transactions executes each one in any of its
 sessions. So nothing may be left in a session: no setting, no prepared statement, no lock and no
@@ -70,6 +70,8 @@ async def check_sessions(connection: psycopg.AsyncConnection[Any], address: str)
         async with asyncio.timeout(SESSION_PATIENCE):
             await other.execute("BEGIN")
             is_shared = await session(other) == first or await session(connection) != first
+            await other.execute("COMMIT")  # its session is the one that is free last
+            is_shared = is_shared or await session(connection) != first
     except TimeoutError:
         is_shared = False
     except errors.OperationalError as error:
@@ -95,6 +97,8 @@ def check_sessions_now(connection: psycopg.Connection[Any], address: str) -> Non
     try:
         other.execute("BEGIN")
         is_shared = session(other) == first or session(connection) != first
+        other.execute("COMMIT")  # its session is the one that is free last
+        is_shared = is_shared or session(connection) != first
     except errors.OperationalError as error:
         if STATEMENT_POOLING not in str(error):
             raise
