@@ -1,6 +1,6 @@
 """Conflicts: the server ends a transaction because of a concurrent one.
 
-PostgreSQL reports a serialization failure or a deadlock. Then the transaction is rolled back, and it
+PostgreSQL reports a serialization failure or a deadlock. Then the transaction is rolled back, and
 is tried again. That is safe if all of its statements are repeated. A single statement is a
 transaction.
 """
