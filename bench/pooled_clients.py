@@ -6,8 +6,9 @@
 
 A node is connected to the server itself. One client starts N sagas of one step, as many at once as
 it has connections, and then waits for their ends. The client is connected to the server, to a
-pooler of sessions, or to a pooler of transactions, in turns. The table has the medians of starts a
-second, of the milliseconds of a single start, and of the seconds until all sagas have ended.
+pooler of sessions, or to a pooler of transactions, in turns. The rows have the median, the lowest
+and the highest value of starts a second, of the milliseconds of a single start, and of the seconds
+until all sagas have ended.
 """
 
 from __future__ import annotations
@@ -24,6 +25,8 @@ from server import Server, serving
 
 import sagas
 
+UNITS = "a second", "ms", "s"
+"""The units of a `Figure`."""
 ALONE = 50
 """The number of starts one after another."""
 
@@ -84,7 +87,7 @@ def measure(server: Server, options: argparse.Namespace) -> dict[str, list[Figur
                 ("server", None),
                 ("sessions", of_sessions),
                 ("transactions", of_transactions),
-                ("transactions, no direct_url", of_transactions),
+                ("transactions without direct_url", of_transactions),
             ):
                 url = server.create()
                 there = url if port is None else server.url(url.rpartition("/")[2], port=port)
@@ -107,10 +110,12 @@ def main() -> None:
     print(f"load before: {os.getloadavg()[0]:.1f}, processors: {os.cpu_count()}")
     with serving({"fsync": "on"}) as server:
         figures = measure(server, options)
-    print(f"{'way':<30}{'starts/s':>10}{'ms alone':>10}{'s to end':>10}")
+    print(f"load after: {os.getloadavg()[0]:.1f}")
+    print("measurement,condition,median,low,high,unit")
     for way, turns in figures.items():
-        medians = [statistics.median(values) for values in zip(*turns)]
-        print(f"{way:<30}{medians[0]:>10.0f}{medians[1]:>10.2f}{medians[2]:>10.1f}")
+        for name, unit, values in zip(Figure._fields, UNITS, zip(*turns)):
+            row = (statistics.median(values), min(values), max(values))
+            print(f"{name},{way},{','.join(f'{value:.1f}' for value in row)},{unit}")
 
 
 if __name__ == "__main__":
