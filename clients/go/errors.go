@@ -58,6 +58,7 @@ const (
 	ErrTooManyRequests      ProblemName = "TooManyRequests"
 	ErrInternalError        ProblemName = "InternalError"
 	ErrTooManyStreams       ProblemName = "TooManyStreams"
+	ErrStarting             ProblemName = "Starting"
 	ErrStopping             ProblemName = "Stopping"
 	ErrClosed               ProblemName = "Closed"
 	ErrRightsChanged        ProblemName = "RightsChanged"

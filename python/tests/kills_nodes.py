@@ -133,7 +133,7 @@ class NodeStriker(Striker):
         with psycopg.connect(self.url, autocommit=True) as link:
             link.execute(
                 "SELECT pg_terminate_backend(pid) FROM pg_stat_activity WHERE datname ="
-                " current_database() AND pid <> pg_backend_pid() AND application_name = 'sagas'"
+                " current_database() AND pid <> pg_backend_pid() AND application_name LIKE 'sagas%'"
             )
         self.kills["sessions"] += 1
 

@@ -167,7 +167,7 @@ class Served:
         if "http://" not in line:
             self.stop()
             raise AssertionError(f"it did not start: {self.errors.read_text()[-3000:]}")
-        self.address = line.split("http://")[1].strip().rstrip("/")
+        self.address = line.split("http://")[1].partition("/")[0]
 
     def kill(self) -> None:
         """Kill it."""

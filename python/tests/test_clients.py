@@ -55,7 +55,8 @@ def inbox(url: str) -> int:
 
 
 LOCKED = """
-SELECT count(*) FROM pg_stat_activity WHERE wait_event_type = 'Lock' AND application_name = 'sagas'
+SELECT count(*) FROM pg_stat_activity
+WHERE wait_event_type = 'Lock' AND starts_with(application_name, 'sagas')
 """
 
 

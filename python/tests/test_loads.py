@@ -15,6 +15,7 @@ import sagas
 from sagas.base.errors import StoreUnavailable
 from sagas.core.shard.batch import Batch, LoadedShard
 from sagas.storage.postgresql import connections
+from sagas.storage.postgresql.application_name import Purpose
 from sagas.storage.postgresql.shard_loader import ShardLoader
 from sagas.storage.postgresql.writer import Writer
 
@@ -66,7 +67,7 @@ def logs(url: str, monkeypatch: pytest.MonkeyPatch) -> list[int]:
 @contextlib.asynccontextmanager
 async def loading(url: str) -> AsyncIterator[ShardLoader]:
     """Return a loader, as the node `me` uses it."""
-    asker = connections.Asker(url, url, 3)
+    asker = connections.Asker(url, url, 3, Purpose.LEASE)
     await asker.open()
     yield ShardLoader(asker, "me", asyncio.get_running_loop().create_task)
     await asker.close()

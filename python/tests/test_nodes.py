@@ -36,6 +36,7 @@ from server import Server
 import sagas
 from sagas.core.states import ShardState
 from sagas.storage.postgresql import commit_statement, connections, node_lease, notifications
+from sagas.storage.postgresql.application_name import Purpose
 
 HERE = pathlib.Path(__file__).resolve().parent
 
@@ -999,7 +1000,7 @@ def test_a_log_that_could_not_be_returned(url: str, monkeypatch: pytest.MonkeyPa
             await store.start(kind, "k")
             await until(lambda: calls)
         monkeypatch.setattr(connections.Asker, "ask", loses)
-        asker = connections.Asker(url, url, 1)
+        asker = connections.Asker(url, url, 1, Purpose.LEASE)
         await asker.open()
         lease = node_lease.Lease(asker, "n", 10.0, "")
         await lease.begin()

@@ -11,6 +11,7 @@ from cases import run, until
 from server import serving
 
 import sagas
+from sagas.storage.postgresql.application_name import Purpose
 from sagas.storage.postgresql.connections import Asker
 from sagas.storage.postgresql.wire import ReconnectingWire, array, numbered
 
@@ -29,7 +30,8 @@ async def are_gone(asker: Asker) -> bool:
 
 async def opened(url: str) -> tuple[Asker, ReconnectingWire]:
     """Return a pool, and a connection that is attached to it."""
-    asker, kept = Asker(url, "here", 2), ReconnectingWire(url, "here")
+    asker = Asker(url, "here", 2, Purpose.LEASE)
+    kept = ReconnectingWire(url, "here", Purpose.CLAIM)
     asker.attach(kept)
     await asker.open()
     return asker, kept

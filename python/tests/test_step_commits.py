@@ -814,7 +814,7 @@ def test_plans_for_small_tables_are_not_kept(url: str) -> None:
     def sessions() -> bool:
         """Return whether any is left: each adds its counts at its end."""
         with psycopg.connect(url, autocommit=True) as link:
-            text = "SELECT 1 FROM pg_stat_activity WHERE application_name = 'sagas'"
+            text = "SELECT 1 FROM pg_stat_activity WHERE application_name LIKE 'sagas/%'"
             return bool(link.execute(f"{text} AND datname = current_database()").fetchall())
 
     async def main() -> None:

@@ -949,7 +949,7 @@ class Count:
     def _look(self) -> None:
         text = (
             "SELECT count(*) FROM pg_stat_activity "
-            "WHERE datname = current_database() AND application_name = %s"
+            "WHERE datname = current_database() AND starts_with(application_name, %s)"
         )
         with psycopg.connect(self._url, autocommit=True) as link:
             while not self._is_over.wait(0.002):

@@ -22,6 +22,7 @@ from server import Server
 import sagas
 from sagas.cli import store_command
 from sagas.storage.postgresql import connections
+from sagas.storage.postgresql.application_name import Purpose
 
 
 def test_a_program_that_is_older_than_the_tables(
@@ -345,14 +346,14 @@ def test_commits_wait_for_the_disk(url: str, setting: str) -> None:
         link.execute(f"ALTER DATABASE {name} SET synchronous_commit = {setting}".encode())
 
     async def settings_of_commits() -> list[str]:
-        async with connections.pool(url, 1) as some, some.connection() as pooled:
-            own_connection = await connections.connect(url)
+        async with connections.pool(url, 1, Purpose.LEASE) as some, some.connection() as pooled:
+            own_connection = await connections.connect(url, Purpose.LEASE)
             shown = [
                 await (await link.execute("SHOW synchronous_commit")).fetchone()
                 for link in (pooled, own_connection)
             ]
             await own_connection.close()
-        with connections.connect_now(url) as now:
+        with connections.connect_now(url, Purpose.ADMIN) as now:
             shown.append(now.execute("SHOW synchronous_commit").fetchone())
         return [str(row[0]) for row in shown if row]
 

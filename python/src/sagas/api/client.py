@@ -46,9 +46,11 @@ from sagas.storage.postgresql import (
     lookups,
     node_lease,
     notifications,
+    pooler_urls,
     saga_requests,
     schema,
 )
+from sagas.storage.postgresql.application_name import Purpose
 from sagas.storage.record_file import RecordFile, record_path
 
 if TYPE_CHECKING:
@@ -89,6 +91,7 @@ class Client(SharedCalls):
         codec: Codec | None = None,
         blobs: BlobStore | None = None,
         record: str | os.PathLike[str] | None = None,
+        direct_url: str | None = None,
     ) -> None:
         """Make a client, to be entered by `async with`.
 
@@ -99,6 +102,9 @@ class Client(SharedCalls):
             codec: As for `sagas.open` (default: values are stored as JSON).
             blobs: As for `sagas.open`: where large results are read (default: in the database).
             record: As for `sagas.open`: a file that records the ends that this client has seen.
+            direct_url: The URL of the server itself, for notifications, if `url` is that of a
+                pooler that pools transactions (default: over such a pooler, a call that waits asks
+                each second).
 
         Raises:
             InvalidStore: It is not a URL of PostgreSQL.
@@ -110,8 +116,10 @@ class Client(SharedCalls):
             )
         arguments.count("connections", connections)
         self._url, self.path = connections_module.hosts_of(url), connections_module.named(url)
-        self._asker = connections_module.Asker(self._url, self.path, connections)
+        self._asker = connections_module.Asker(self._url, self.path, connections, Purpose.CLIENT)
         self._asker.late = self._look_at_hosts
+        direct_url = arguments.url("direct_url", direct_url)
+        self._direct_url = connections_module.hosts_of(direct_url) if direct_url else None
         self._reader = AsyncStoreReader(self._read, self._read)
         self._opened = OpenState("the client")
         self._notifier: notifications.Notifications | None = None
@@ -139,7 +147,7 @@ class Client(SharedCalls):
             StoreUnavailable: The server does not answer.
             InvalidStore: The database does not exist, or refuses this user. Or it has no tables of
                 the store: a node or `sagas store URL init` makes them. Or the URL is that of a
-                pooler that pools transactions.
+                pooler that pools statements, or `direct_url` one that pools transactions.
             StoreSchemaTooNew: The tables are of a later version.
             MissingCodec: The store's values are encoded, and this client has no codec.
             StoreLocked: This client has a codec, and a node without one has the store open.
@@ -161,7 +169,10 @@ class Client(SharedCalls):
             ...
 
     async def _open(self) -> None:
-        await connections_module.check_access(self._url, self.path)
+        if self._direct_url is None:
+            await connections_module.check_access(self._url, self.path, Purpose.CLIENT)
+        else:
+            await pooler_urls.check(self._url, self._direct_url)
         await self._asker.open()
         try:
             version = (await self._asker.read("SELECT to_regclass('sagas.store') IS NOT NULL"))[0][
@@ -179,7 +190,9 @@ class Client(SharedCalls):
         except BaseException:
             await self._asker.close()
             raise
-        self._notifier = notifications.Notifications(self._url, lambda message: None)
+        polls = self._url.is_pooled and self._direct_url is None
+        listen_url = None if polls else self._direct_url or self._url
+        self._notifier = notifications.Notifications(listen_url, lambda message: None)
         self._asker.attach(self._notifier.listener)
 
     def _look_at_hosts(self) -> None:
@@ -192,7 +205,7 @@ class Client(SharedCalls):
 
     async def _choose_host(self) -> None:
         before = self._url.turn
-        await self._url.choose(connections_module.address(self._url))
+        await self._url.choose(connections_module.address(self._url, Purpose.HOSTS))
         if self._url.turn != before and self._notifier is not None:
             await self._asker.renew(cuts=True)
 
@@ -257,6 +270,7 @@ class Client(SharedCalls):
         Raises:
             StoreUnavailable: The connection is closed or failed. Or the server, or a synchronous
                 standby, does not answer in 21 seconds: start it again, with the same key.
+            TransactionConflict: The transaction of `connection` met another one: repeat all of it.
             ValueError: The connection has no open transaction, or is to another database.
             TypeError: The connection is of another kind, for example one that blocks its thread.
             Closed: The client is closed.
@@ -425,7 +439,7 @@ class Client(SharedCalls):
 
     def _location(self) -> str:
         self._open_notifier
-        return self._url
+        return self._direct_url or self._url
 
     async def resolve(self, key: str, note: str, *, by: str | None = None) -> None:
         """Mark a saga as resolved. See `Store.resolve`."""

@@ -31,7 +31,13 @@ from sagas.definition.start_options import Deadline, deadline_at
 from sagas.runtime import instances
 from sagas.runtime.declared_calls import DefinitionCaller
 from sagas.storage import codec_note
-from sagas.storage.postgresql import caller_connection, connections, notifications, replication
+from sagas.storage.postgresql import (
+    caller_connection,
+    conflicts,
+    connections,
+    notifications,
+    replication,
+)
 from sagas.storage.postgresql.caller_connection import Work
 from sagas.storage.postgresql.connection_adapters import (
     AsyncAdapter,
@@ -319,18 +325,21 @@ class ClientStarter(CallerStarter):
     async def start_alone(self, request: dict[str, Any]) -> bool:
         """Write a start in its own transaction.
 
-        It retries over connections that the server has ended, up to the size of the pool. A
-        repeated start has no further effect, because of its key.
+        It retries over connections that the server has ended, up to the size of the pool, and after
+        conflicts. A repeated start has no further effect, because of its key.
         """
-        for left in reversed(range(self._max_connections + 1)):
+        left, turn = self._max_connections, 0
+        while True:
             try:
                 return await self._asker.whole(self._begin(request))
             except StoreUnavailable as error:
                 if isinstance(error.__cause__, (TimeoutError, psycopg.errors.QueryCanceled)):
                     raise StoreUnavailable(f"{error}. {UNSURE}") from error.__cause__
-                if not (left and connections.was_cut(error)):
-                    raise
-        raise AssertionError
+                if left and connections.was_cut(error):
+                    left -= 1
+                    continue
+                await conflicts.pause(error, turn)
+            turn += 1
 
     async def _begin(self, request: dict[str, Any]) -> bool:
         async with self._asker.connection() as link, link.transaction():

@@ -79,6 +79,7 @@ def open(
     blobs: BlobStore | None = None,
     blob_threshold: int = 65_536,
     record: str | os.PathLike[str] | None = None,
+    direct_url: str | None = None,
     settings: Settings = DEFAULTS,
 ) -> Store:
     """Open a store: `async with sagas.open("trips.db", [trip]) as store`.
@@ -115,6 +116,9 @@ def open(
         record: PostgreSQL only: a file to which the node adds the replies to its commits and its
             acknowledgements, for `sagas store URL record` (default: the one that the
             environment variable `SAGAS_RECORD` names, if any).
+        direct_url: PostgreSQL only: the URL of the server itself, if `path` is that of a pooler
+            that pools transactions. Questions and claims use the pooler, and all else the server
+            (default: `path`, which has to be the server or a pooler of sessions).
         settings: For tests and tuning (default: `Settings()`).
 
     Returns:
@@ -177,6 +181,7 @@ class Store(Operators):
         blobs: BlobStore | None,
         blob_threshold: int,
         record: str | os.PathLike[str] | None,
+        direct_url: str | None,
         settings: Settings,
     ) -> None:
         threads = concurrency if threads is None else threads
@@ -194,7 +199,10 @@ class Store(Operators):
         self._retention, self._archive_dir = retention, archive_dir
         check_blobs(blobs, blob_threshold)
         self._blobs = blobs, blob_threshold
-        self._record = arguments.record(record)
+        self._server_options = {
+            "record": arguments.record(record),
+            "direct_url": arguments.url("direct_url", direct_url),
+        }
         self._registry = DefinitionRegistry(sagas, payloads.checked(codec, blobs is not None))
         self._options: dict[str, Any] = {
             **counts,
@@ -223,6 +231,10 @@ class Store(Operators):
     def path(self) -> str:
         """The file of the store, or its database without the password."""
         return self._access.path
+
+    def _location(self) -> str:
+        location = super()._location()
+        return self._server_options["direct_url"] or location
 
     @property
     def sagas(self) -> builtins.list[Saga[Any]]:
@@ -261,7 +273,13 @@ class Store(Operators):
         program_path = program_module.path(self._program)
         limit: Any = self._options["concurrency"]
         database = factory.make(
-            self._name, self._registry, self._node, self._lease, limit, transactions, self._record
+            self._name,
+            self._registry,
+            self._node,
+            self._lease,
+            limit,
+            transactions,
+            **self._server_options,
         )
         database = BlobDatabase.over(database, *self._blobs, self._registry.payloads)
         self._access.path = database.path

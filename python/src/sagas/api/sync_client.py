@@ -60,9 +60,17 @@ class SyncClient(Facade[Client]):
         codec: Codec | None = None,
         blobs: BlobStore | None = None,
         record: str | os.PathLike[str] | None = None,
+        direct_url: str | None = None,
     ) -> None:
         """Make a client, to be entered by `with`. See `Client`."""
-        client = Client(url, connections=connections, codec=codec, blobs=blobs, record=record)
+        client = Client(
+            url,
+            connections=connections,
+            codec=codec,
+            blobs=blobs,
+            record=record,
+            direct_url=direct_url,
+        )
         remedy = "is not open. Use `with sagas.SyncClient(...) as client`"
         super().__init__(client, Loop(client.path, "the client", remedy))
 

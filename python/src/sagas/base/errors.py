@@ -4,6 +4,7 @@ SagasError
 |-- TemporaryError            try again: what failed may succeed later
 |   |-- StoreLocked           another program has the file
 |   |-- StoreUnavailable      the file or the server does not answer
+|   |   `-- TransactionConflict  the caller's transaction met another one: repeat it as a whole
 |   |-- OwnerUnavailable      the node that drives the saga does not answer
 |   |-- ServiceUnavailable    no HTTP service answers in time
 |   |-- StartsPaused          an operator has paused new sagas of the definition
@@ -85,6 +86,14 @@ class StoreUnavailable(TemporaryError):
 
     Nothing was started, unless the message says that this is unknown. Make room, or wait, and
     repeat the call with the same key.
+    """
+
+
+class TransactionConflict(StoreUnavailable):
+    """The server ended the caller's transaction because of a concurrent one.
+
+    It is a serialization failure or a deadlock, in a start with `connection=`. Nothing of the
+    transaction is kept. Roll it back, and repeat all of it: only its program knows its statements.
     """
 
 

@@ -467,9 +467,10 @@ def resolve(path: str, options: argparse.Namespace) -> int:
             done = batch.resolve(options.note, user_of(options)).done
             warn_of(path, sagas, is_needed=not done)
         else:
-            with link.transaction():
-                user = user_of(options)
-                done = [key for key in options.key if resolve_one(link, key, options.note, user)]
+            note, user = options.note, user_of(options)
+            done = link.atomically(
+                lambda: [key for key in options.key if resolve_one(link, key, note, user)]
+            )
     if options.json:
         entries = [{"key": key, "note": options.note} for key in done]
         show_json(entries[0] if len(options.key) == 1 and entries else entries)

@@ -16,6 +16,7 @@ from sagas.storage import admin, store_name
 from sagas.storage.admin import Trouble
 from sagas.storage.blob_layer import Blobs
 from sagas.storage.folder_blobs import blobs_of
+from sagas.storage.postgresql.application_name import Purpose
 from sagas.storage.sqlite import storage
 
 
@@ -51,7 +52,7 @@ def create_tables(name: str, role: str | None) -> str:
         raise Trouble(str(store_name.missing_client(error)), CANNOT) from error
     database = connections.named(name)
     with connections.translate_errors(database):
-        link = connections.connect_now(name)
+        link = connections.connect_now(name, Purpose.ADMIN)
         try:
             before = schema.migrate(link, database)
             if role:

@@ -151,6 +151,24 @@ def record(value: Any) -> str | None:
     return os.fspath(value)
 
 
+def url(name: str, value: Any) -> str | None:
+    """Return an argument that is the URL of a PostgreSQL server, or None.
+
+    Messages do not have it, because of its password.
+
+    Raises:
+        TypeError: It is not a text.
+        ValueError: It is not such a URL.
+    """
+    if value is None:
+        return None
+    if not isinstance(value, str):
+        raise TypeError(f"{name}: must be a text, not a {type(value).__name__}")
+    if not value.startswith(("postgresql://", "postgres://")):
+        raise ValueError(f"{name}: must be a URL that begins with postgresql://")
+    return value
+
+
 def keeping(retention: Any, archive_dir: Any) -> None:
     """Check the arguments `retention` and `archive_dir`.
 

@@ -164,22 +164,31 @@ def _delete(link: Source, log: int, blobs: list[str] | None) -> bool:
     Returns:
         False if another program has deleted it.
     """
-    ids = log * SHARD_CAPACITY, (log + 1) * SHARD_CAPACITY
-    with link.transaction():
-        if not link.changed("DELETE FROM shards WHERE shard = ? AND closed = 1", log):
-            return False
-        left = (
-            []
-            if blobs is None
-            else blob_layer.referred(link.ask(blob_layer.REFERRED, *blob_layer.within(*ids)))
-        )
-        for text in OF_SAGAS:
-            link.changed(text, *ids)
-        for text in OF_LOG:
-            link.changed(text, log)
-    if blobs is not None:
+    left = link.atomically(lambda: _delete_rows(link, log, blobs is not None))
+    if blobs is not None and left:
         blobs += left
-    return True
+    return left is not None
+
+
+def _delete_rows(link: Source, log: int, has_blobs: bool) -> list[str] | None:
+    """Delete a shard in a transaction of the caller.
+
+    Returns:
+        The keys of its blobs; None if another program has deleted it.
+    """
+    if not link.changed("DELETE FROM shards WHERE shard = ? AND closed = 1", log):
+        return None
+    ids = log * SHARD_CAPACITY, (log + 1) * SHARD_CAPACITY
+    left = (
+        blob_layer.referred(link.ask(blob_layer.REFERRED, *blob_layer.within(*ids)))
+        if has_blobs
+        else []
+    )
+    for text in OF_SAGAS:
+        link.changed(text, *ids)
+    for text in OF_LOG:
+        link.changed(text, log)
+    return [*left]
 
 
 def delete_damaged(name: str, log: int, export: str | os.PathLike[str] | None) -> int:
@@ -188,7 +197,6 @@ def delete_damaged(name: str, log: int, export: str | os.PathLike[str] | None) -
     A shard is damaged if no program can open it, or if its audit failed. Raises `Trouble` if the
     shard is not damaged, and the errors of `prune`.
     """
-    ids = log * SHARD_CAPACITY, (log + 1) * SHARD_CAPACITY
     with admin.writing(name) as link:
         if not link.ask(f"SELECT 1 FROM shards WHERE shard = ? AND {IS_DAMAGED}", log):
             raise admin.Trouble(
@@ -196,15 +204,21 @@ def delete_damaged(name: str, log: int, export: str | os.PathLike[str] | None) -
             )
         if export is not None:
             archive.write(link, log, pathlib.Path(export))
-        with link.transaction():
-            if not link.changed(f"DELETE FROM shards WHERE shard = ? AND {IS_DAMAGED}", log):
-                raise admin.Trouble(f"shard {log} is not damaged any more")
-            count = link.ask("SELECT count(*) FROM sagas WHERE id >= ? AND id < ?", *ids)[0][0]
-            for text in OF_SAGAS:
-                link.changed(text, *ids)
-            for text in OF_LOG:
-                link.changed(text, log)
+        count = link.atomically(lambda: _delete_damaged_rows(link, log))
         link.drop_definitions()
+    return count
+
+
+def _delete_damaged_rows(link: Source, log: int) -> int:
+    """Delete a damaged shard in a transaction of the caller; return the number of its sagas."""
+    if not link.changed(f"DELETE FROM shards WHERE shard = ? AND {IS_DAMAGED}", log):
+        raise admin.Trouble(f"shard {log} is not damaged any more")
+    ids = log * SHARD_CAPACITY, (log + 1) * SHARD_CAPACITY
+    count = link.ask("SELECT count(*) FROM sagas WHERE id >= ? AND id < ?", *ids)[0][0]
+    for text in OF_SAGAS:
+        link.changed(text, *ids)
+    for text in OF_LOG:
+        link.changed(text, log)
     return int(count)
 
 

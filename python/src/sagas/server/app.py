@@ -10,7 +10,7 @@ from sagas.server import openapi, problems
 from sagas.server.auth import Permission
 from sagas.server.connections import Connections
 from sagas.server.dashboard import refused
-from sagas.server.middleware import DASHBOARD, LOGIN, REQUEST_ID, App, Guard, Receive, Scope, Send
+from sagas.server.middleware import DASHBOARD, LOGIN, REQUEST_ID, Guard, Receive, Scope, Send
 from sagas.server.operations import Operation, path_not_found, resources
 from sagas.server.problems import Problem
 from sagas.server.routes import (
@@ -95,7 +95,9 @@ async def no_such_path(scope: Scope, receive: Receive, send: Send) -> None:
     await problems.response(path_not_found(), scope.get(REQUEST_ID))(scope, receive, send)
 
 
-def application(settings: Settings, connections: Connections | None = None) -> tuple[App, Service]:
+def application(
+    settings: Settings, connections: Connections | None = None
+) -> tuple[Guard, Service]:
     """Return the application over a store. The server opens and closes the store."""
     service, routes = Service(settings), resources([*API, *PAGES], answered, refused)
     service.pages = {route.path: route.path_regex for route in routes if is_shown(route)}

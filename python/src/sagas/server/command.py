@@ -80,7 +80,7 @@ Exit status:
   0    stopped by SIGTERM or Ctrl-C
   1    a definition is invalid
   2    invalid arguments, the address is in use, or sagas[server] is not installed
-  4    the store, the token file or the webhook file cannot be used
+  4    the store, the token file or the webhook file cannot be used, also after --wait
   5    the stop took too long
   130  interrupted while it starts"""
 TOKEN_ENDING = """\
@@ -106,25 +106,7 @@ def parser() -> argparse.ArgumentParser:
     add_sagas(result)
     add_access(result)
     add_limits(result)
-    result.add_argument(
-        "--node",
-        metavar="NAME",
-        help="PostgreSQL only: name of this service; a restart under the same name continues its "
-        "sagas at once (default: made of host and process)",
-    )
-    result.add_argument(
-        "--lease",
-        type=positive,
-        metavar="SECONDS",
-        help="PostgreSQL only: seconds without a heartbeat before other services take over its "
-        f"sagas ({OF_APP} or 10)",
-    )
-    result.add_argument(
-        "--record",
-        metavar="FILE",
-        help="PostgreSQL only: file for a record of commits and acknowledgements, "
-        "for `sagas store URL record` (default: $SAGAS_RECORD, or none)",
-    )
+    add_nodes(result)
     result.add_argument(
         "--log",
         choices=["json", "text"],
@@ -147,6 +129,42 @@ def parser() -> argparse.ArgumentParser:
 
 
 OF_APP = "default: that of a store of --app,"
+
+
+def add_nodes(result: argparse.ArgumentParser) -> None:
+    """Add the options of a store over PostgreSQL."""
+    result.add_argument(
+        "--node",
+        metavar="NAME",
+        help="PostgreSQL only: name of this service; a restart under the same name continues its "
+        "sagas at once (default: made of host and process)",
+    )
+    result.add_argument(
+        "--lease",
+        type=positive,
+        metavar="SECONDS",
+        help="PostgreSQL only: seconds without a heartbeat before other services take over its "
+        f"sagas ({OF_APP} or 10)",
+    )
+    result.add_argument(
+        "--direct-url",
+        metavar="URL",
+        help="PostgreSQL only: URL of the server itself, if STORE is a pooler that pools "
+        f"transactions ({OF_APP} or none)",
+    )
+    result.add_argument(
+        "--wait",
+        type=positive,
+        metavar="SECONDS",
+        help="PostgreSQL only: wait this long for the database at the start (default: 0, it must "
+        "answer at once)",
+    )
+    result.add_argument(
+        "--record",
+        metavar="FILE",
+        help="PostgreSQL only: file for a record of commits and acknowledgements, "
+        "for `sagas store URL record` (default: $SAGAS_RECORD, or none)",
+    )
 
 
 def add_sagas(result: argparse.ArgumentParser) -> None:
@@ -384,15 +402,34 @@ def options_of(parsed: argparse.Namespace, app: App | None) -> dict[str, Any]:
         "node": parsed.node,
         "lease": parsed.lease,
         "record": parsed.record,
+        "direct_url": parsed.direct_url,
     }
     result |= {name: value for name, value in set_options.items() if value is not None}
     try:
         payloads.checked(result.get("codec"))
         check_blobs(result.get("blobs"), result.get("blob_threshold", MIN_THRESHOLD))
         arguments.keeping(result.get("retention"), result.get("archive_dir"))
+        arguments.url("--direct-url", result.get("direct_url"))
     except (TypeError, ValueError) as error:
         raise Trouble(str(error)) from error
     return result
+
+
+def check_file(parsed: argparse.Namespace) -> None:
+    """Raise `Trouble` if the store is no file that can be opened with these options."""
+    only_server = {
+        "--record": parsed.record,
+        "--wait": parsed.wait,
+        "--direct-url": parsed.direct_url,
+    }
+    for option, value in only_server.items():
+        if value:
+            raise Trouble(f"{option} requires a postgresql:// URL")
+    file = pathlib.Path(parsed.path)
+    if file.is_dir():
+        raise Trouble(f"{file} is a directory; pass the path of a file")
+    if not file.absolute().parent.is_dir():
+        raise Trouble(f"directory {file.parent} does not exist; create it first")
 
 
 def settings_of(parsed: argparse.Namespace) -> Settings:
@@ -419,13 +456,7 @@ def settings_of(parsed: argparse.Namespace) -> Settings:
     except InvalidStore as error:
         raise Trouble(str(error)) from error
     if not store_name.supports_nodes(parsed.path):
-        if parsed.record:
-            raise Trouble("--record requires a postgresql:// URL")
-        file = pathlib.Path(parsed.path)
-        if file.is_dir():
-            raise Trouble(f"{file} is a directory; pass the path of a file")
-        if not file.absolute().parent.is_dir():
-            raise Trouble(f"directory {file.parent} does not exist; create it first")
+        check_file(parsed)
     options = options_of(parsed, app)
     seconds, on_event = options.pop("shutdown_timeout", None), options.pop("on_event", None)
     more: dict[str, Any] = {}
@@ -449,6 +480,7 @@ def settings_of(parsed: argparse.Namespace) -> Settings:
             parsed.kept_connections,
         ),
         rate=parsed.rate,
+        wait=parsed.wait or 0.0,
         quota=Quota(parsed.open_sagas, parsed.open_bytes),
         trusted_proxies=parsed.trusted_proxies,
         store=StoreSettings(options, on_event),
@@ -492,6 +524,11 @@ def serve(options: argparse.Namespace) -> int:
         listening.listen(2048)
         host, port = listening.getsockname()[:2]
 
+        address = f"http://{f'[{host}]' if ':' in host else host}:{port}/"
+
+        def waits() -> None:
+            print(f"sagas serve: {address} waits for the database", flush=True)
+
         def opened() -> None:
             if settings.tokens is None:
                 print(
@@ -499,12 +536,12 @@ def serve(options: argparse.Namespace) -> int:
                     "user has full access. Remote connections are refused",
                     file=sys.stderr,
                 )
-            print(f"sagas serve: http://{f'[{host}]' if ':' in host else host}:{port}/", flush=True)
+            print(f"sagas serve: {address}", flush=True)
 
         gc.set_threshold(GARBAGE)
         sys.setswitchinterval(SWITCH)
         reopen = None if log_file is None else log_file.reopen
-        asyncio.run(run(settings, listening, opened, overdue, reopen))
+        asyncio.run(run(settings, listening, opened, overdue, reopen, waits=waits))
     return GOOD
 
 

@@ -38,6 +38,7 @@ ALWAYS = (
     "TooManyRequests",
     "InternalError",
     "TooManyConnections",
+    "Starting",
     "InvalidRequest",
 )
 """Problems that any call may have."""

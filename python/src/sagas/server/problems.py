@@ -70,6 +70,7 @@ PROBLEMS = {
     "TooManyConnections": Kind(503, "There are too many connections", repeat=True),
     "TooManyWaits": Kind(503, "There are too many requests that wait", repeat=True),
     "TooManyStreams": Kind(503, "There are too many event streams", repeat=True),
+    "Starting": Kind(503, "The service waits for its database", repeat=True),
     "Stopping": Kind(503, "The service is stopping", repeat=True),
     "Closed": Kind(503, "The store is closed", repeat=True),
     "RightsChanged": Kind(503, "The rights of the token have changed", repeat=True),

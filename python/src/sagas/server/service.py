@@ -161,12 +161,19 @@ class Service:
 
     # -- life
 
-    async def begin(self) -> None:
-        """Open the store. Raises the errors of `Store`."""
+    def prepare(self) -> None:
+        """Prepare for requests and for a stop. Call it in the event loop, before `begin`."""
         self.stopping: asyncio.Future[None] = asyncio.get_running_loop().create_future()
+
+    async def begin(self) -> None:
+        """Open the store. Raises the errors of `Store`; then it can be called again."""
         await self.store.__aenter__()
-        self.store.workers.observe_claims(self.metrics.claimed)
-        await self._meet()
+        try:
+            self.store.workers.observe_claims(self.metrics.claimed)
+            await self._meet()
+        except BaseException:
+            await self.store.close(0.0)
+            raise
         self.webhooks.begin()
         self.threads = Threads(self.store._reader)
         self.figures.prime()

@@ -88,6 +88,8 @@ class Settings:
             two seconds' worth accumulate.
         quota: The default quota of each token.
         trusted_proxies: The networks of proxies whose forwarding headers are trusted.
+        wait: Seconds that the service waits for its database at the start. 0: it ends at once if
+            the database does not answer.
     """
 
     path: str
@@ -108,6 +110,7 @@ class Settings:
     session_time: float = 12 * 3600.0
     shutdown_timeout: float = 20.0
     patience: float = 20.0  # for an answer of another node
+    wait: float = 0.0
     store: StoreSettings = dataclasses.field(default_factory=StoreSettings)
 
 

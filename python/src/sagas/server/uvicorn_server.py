@@ -14,7 +14,7 @@ import signal
 import socket
 import threading
 from collections.abc import Callable
-from typing import Any
+from typing import Any, NamedTuple
 
 import uvicorn  # type: ignore[import]
 from uvicorn.protocols.http.auto import AutoHTTPProtocol  # type: ignore[import]
@@ -22,6 +22,7 @@ from uvicorn.protocols.http.auto import AutoHTTPProtocol  # type: ignore[import]
 from sagas.server.app import application
 from sagas.server.connections import SPARE, Connection, Connections
 from sagas.server.service import Service
+from sagas.server.service_start import ServiceStart
 from sagas.server.settings import Settings
 
 FOR_STORE = 200  # descriptors that connections leave to the store and its children
@@ -75,6 +76,13 @@ def config_of(app: Any, connections: Connections) -> uvicorn.Config:
     )
 
 
+class StartCallbacks(NamedTuple):
+    """What is called when the server answers: with its store open, or before."""
+
+    opened: Callable[[], None]
+    waits: Callable[[], None]
+
+
 class Serving:
     """A running server. When it is stopped, it ends streams and long waits."""
 
@@ -93,32 +101,39 @@ class Serving:
     async def run(
         self,
         listening: socket.socket,
-        opened: Callable[[], None],
+        start: ServiceStart,
+        callbacks: StartCallbacks,
         until: asyncio.Future[None] | None,
     ) -> None:
-        """Serve until a signal, or until this future is done.
-
-        `opened` is called when the server answers.
-        """
+        """Serve until a signal, or until this future is done. Raises the errors of `Store`."""
         work = asyncio.ensure_future(self._server.serve(sockets=[listening]))
         try:
             while not self._server.started and not work.done():
                 await asyncio.sleep(STARTED)
-            refusal = self._service.store._refusal
-            refusal.add_done_callback(lambda _: self.stop("the database refuses this node"))
             if until is not None:
                 until.add_done_callback(lambda _: self.stop("its program ends it"))
             with self._signals() if until is None else contextlib.nullcontext():
-                opened()
-                await work
-            if refusal.done():
-                raise refusal.result()
+                if not start.is_open:
+                    callbacks.waits()
+                if start.is_open or await start.wait():
+                    await self._opened(work, callbacks)
+                else:
+                    await work
         finally:
             for timer in self._deadline:
                 timer.cancel()
             work.cancel()
             with contextlib.suppress(asyncio.CancelledError):
                 await work
+
+    async def _opened(self, work: asyncio.Future[None], callbacks: StartCallbacks) -> None:
+        """Serve with an open store. Raises `InvalidStore` if the database refuses this node."""
+        refusal = self._service.store._refusal
+        refusal.add_done_callback(lambda _: self.stop("the database refuses this node"))
+        callbacks.opened()
+        await work
+        if refusal.done():
+            raise refusal.result()
 
     @contextlib.contextmanager
     def _signals(self) -> Any:
@@ -174,16 +189,18 @@ async def run(
     overdue: Callable[[], None] | None = None,
     hung_up: Callable[[], None] | None = None,
     until: asyncio.Future[None] | None = None,
+    waits: Callable[[], None] = lambda: None,
 ) -> None:
     """Serve at a socket until the server is stopped. Raises the errors of `Store`.
 
     Args:
         settings: The settings of the service.
         listening: The socket.
-        opened: It is called when the server answers.
+        opened: It is called when the server answers, with its store open.
         overdue: It is called in a thread if the stop takes too long (default: none).
         hung_up: It is called at `SIGHUP` (default: `SIGHUP` ends the process).
         until: The server stops when this future is done (default: at `SIGTERM` or `SIGINT`).
+        waits: It is called when the server answers, and waits for its database.
     """
     connections = Connections(
         allowed_connections(settings.concurrency.connections),
@@ -192,11 +209,15 @@ async def run(
         settings.concurrency,
         settings.trusted_proxies,
     )
-    app, service = application(settings, connections)
-    await service.begin()
+    guard, service = application(settings, connections)
+    service.prepare()
+    start = ServiceStart(guard, service)
+    if not settings.wait:
+        await start.open()
     try:
-        server = uvicorn.Server(config_of(app, connections))
+        server = uvicorn.Server(config_of(guard, connections))
         serving = Serving(server, service, connections, overdue, hung_up)
-        await serving.run(listening, opened, until)
+        await serving.run(listening, start, StartCallbacks(opened, waits), until)
     finally:
-        await service.end()
+        if start.is_open:
+            await service.end()

@@ -12,17 +12,20 @@ import os
 import pathlib
 import sqlite3
 import time
-from collections.abc import Iterator
-from typing import Any, Protocol
+from collections.abc import Callable, Iterator
+from typing import Any, Protocol, TypeVar
 
 from sagas.base.errors import SagasError, StoreUnavailable
 from sagas.definition.serialization import cleaned
 from sagas.storage import queries, store_name
 from sagas.storage.filters import Filter
 from sagas.storage.operator_requests import ANSWER, ASK, ASK_START, WITHDRAW
+from sagas.storage.postgresql import conflicts
+from sagas.storage.postgresql.application_name import Purpose
 from sagas.storage.sqlite import store_file
 from sagas.storage.sqlite.schema import VERSION
 
+T = TypeVar("T")
 Row = tuple[Any, ...]
 CANNOT = 4
 LEAVE = """
@@ -69,6 +72,12 @@ class Source(Protocol):
 
     def transaction(self) -> contextlib.AbstractContextManager[object]:
         """Write all that is written within the block, or nothing."""
+
+    def atomically(self, work: Callable[[], T]) -> T:
+        """Return the value of `work`, whose writes are all made, or none of them.
+
+        After a conflict with another transaction, `work` is called again.
+        """
 
     def now(self) -> float:
         """Return the time by the store's own clock, in seconds."""
@@ -213,6 +222,10 @@ class FileSource:
                 self.connection.execute("ROLLBACK")
             raise
 
+    def atomically(self, work: Callable[[], T]) -> T:
+        with self.transaction():
+            return work()
+
     def now(self) -> float:
         return time.time()
 
@@ -295,15 +308,14 @@ class DatabaseSource:
 
     def __init__(self, url: str, mode: str) -> None:
         try:
-            from sagas.storage.postgresql import connections
-            from sagas.storage.postgresql import schema as schema
+            from sagas.storage.postgresql import connections, schema
         except ImportError as error:
             raise Trouble(str(store_name.missing_client(error)), CANNOT) from error
 
         self.name = connections.named(url)
         self._translating_errors = functools.partial(connections.translate_errors, self.name)
         with self._translating_errors():
-            self.connection = connections.connect_now(url)
+            self.connection = connections.connect_now(url, Purpose.ADMIN)
             version = schema.version_of(self.connection)
         if not 0 < version <= schema.VERSION:
             self.connection.close()
@@ -329,6 +341,21 @@ class DatabaseSource:
         with self._translating_errors(), self.connection.transaction():
             yield
 
+    def atomically(self, work: Callable[[], T]) -> T:
+        def whole() -> T:
+            with self.transaction():
+                return work()
+
+        return conflicts.repeated_now(whole)
+
+    def _alone(self, work: Callable[[], T]) -> T:
+        """Execute a statement. If it is a transaction of its own, it is repeated after conflicts.
+
+        In a transaction, its caller repeats all of it.
+        """
+        is_alone = self.connection.info.transaction_status.name == "IDLE"
+        return conflicts.repeated_now(work) if is_alone else work()
+
     def now(self) -> float:
         return float(self.ask("SELECT extract(epoch FROM now())")[0][0])
 
@@ -336,20 +363,25 @@ class DatabaseSource:
         return bool(self.ask("SELECT pg_try_advisory_lock(?)", PRUNE_LOCK)[0][0])
 
     def ask(self, text: str, *parameters: Any) -> list[Row]:
-        with self._translating_errors():
-            return self.connection.execute(
-                queries.for_postgresql(text), cleaned(parameters)
-            ).fetchall()
+        form, values = queries.for_postgresql(text), cleaned(parameters)
+        return self._alone(lambda: [*self._executed(form, values).fetchall()])
 
     def changed(self, text: str, *parameters: Any) -> int:
-        with self._translating_errors():
-            return self.connection.execute(text.replace("?", "%s"), cleaned(parameters)).rowcount
+        form, values = text.replace("?", "%s"), cleaned(parameters)
+        return self._alone(lambda: int(self._executed(form, values).rowcount))
 
     def notify(self, message: str) -> None:
         from sagas.storage.postgresql import notifications
 
+        def send() -> None:
+            self._executed(notifications.NOTIFY, {"messages": [message]})
+
+        self._alone(send)
+
+    def _executed(self, text: str, parameters: Any) -> Any:
+        """Return the cursor of a statement."""
         with self._translating_errors():
-            self.connection.execute(notifications.NOTIFY, {"messages": [message]})
+            return self.connection.execute(text, parameters)
 
     def is_driven(self) -> bool:
         return bool(self.ask("SELECT 1 FROM nodes WHERE lease > now() LIMIT 1"))
@@ -407,9 +439,12 @@ class DatabaseSource:
         return has_saga or has_start, answer
 
     def drop_definitions(self) -> None:
-        with self.transaction():  # a commit that makes a shard has written both rows, or waits
+        def drop() -> None:
+            # a commit that makes a shard has written both rows, or waits
             self.changed("LOCK TABLE definitions IN SHARE ROW EXCLUSIVE MODE")
             self.changed(UNUSED)
+
+        self.atomically(drop)
 
     def drop_refused(self, before: float) -> int:
         return self.changed(REFUSED, before)

@@ -9,11 +9,12 @@ continues with the rest.
 from __future__ import annotations
 
 import dataclasses
+import functools
 import json
 import threading
 import time
 from collections.abc import Callable, Iterator, Sequence
-from typing import Any, TypeVar
+from typing import Any, Optional, TypeVar
 
 from sagas.base.pauses import doubling_pauses
 from sagas.core.decisions import request_fields, request_text
@@ -101,23 +102,28 @@ class Batch:
             timeout: Maximum number of seconds to wait for the answers. With None, wait as long
                 as a program has the store open.
         """
-        value, after, requests = request_text(command), -1, dict[int, str]()
+        value, after = request_text(command), -1
         for key in self._connection.waiting_starts(self._filter):
             if self._connection.withdraw(key):
                 self._result.done.append(key)
         until = None if timeout is None else time.monotonic() + timeout
         while not self._stop.is_set():
-            with self._connection.transaction():
-                rows = self._next_rows(ABORTABLE, after, UNDOING_KEYS)
-                left = [(self._connection.add_request(id, "abort", value), key) for id, key in rows]
+            rows, requests = self._connection.atomically(
+                functools.partial(self._request_aborts, after, value)
+            )
             if not rows:
                 break
             after = rows[-1][0]
-            requests = {number: key for number, key in left if number is not None}
             self._connection.notify("requests")
             self._result.waiting += self._await(requests, until, self._answered).values()
         self._result.undoing += self._undoing()
         return self._result
+
+    def _request_aborts(self, after: int, value: str) -> tuple[Sequence[Row], dict[int, str]]:
+        """Add requests to the next sagas; return these, and the keys of the requests."""
+        rows = self._next_rows(ABORTABLE, after, UNDOING_KEYS)
+        left = [(self._connection.add_request(id, "abort", value), key) for id, key in rows]
+        return rows, {number: key for number, key in left if number is not None}
 
     def _undoing(self) -> Iterator[str]:
         """Return the keys of the sagas that `abort` leaves out."""
@@ -141,19 +147,27 @@ class Batch:
         answers: list[Any] = [None] * len(values)
         requests_of_batches: list[dict[int, int]] = []
         for first in range(0, len(values), MAX_SAGAS):
+            batch = values[first : first + MAX_SAGAS]
+            numbers = self._connection.atomically(
+                functools.partial(self._add_requests, command, batch)
+            )
             requests_of_batches.append({})
-            with self._connection.transaction():
-                for index, (id, value) in enumerate(values[first : first + MAX_SAGAS], first):
-                    number = self._connection.add_request(id, command, request_text(value))
-                    if number is None:
-                        answers[index] = False
-                    else:
-                        requests_of_batches[-1][number] = index
+            for index, number in enumerate(numbers, first):
+                if number is None:
+                    answers[index] = False
+                else:
+                    requests_of_batches[-1][number] = index
             self._connection.notify("requests")
         until = time.monotonic() + timeout
         for requests in requests_of_batches:
             self._await(requests, until, answers.__setitem__)
         return answers
+
+    def _add_requests(self, command: str, values: Sequence[tuple[int, Any]]) -> list[Optional[int]]:
+        """Return the number of each request; None if the saga does not exist."""
+        return [
+            self._connection.add_request(id, command, request_text(value)) for id, value in values
+        ]
 
     def resolve(self, note: str, by: str | None) -> BatchResult:
         """Mark the sagas as resolved.
@@ -163,14 +177,18 @@ class Batch:
             by: The operator who did it.
         """
         while not self._stop.is_set():
-            with self._connection.transaction():
-                rows = self._next_rows(TO_RESOLVE, -1)
-                for _, key in rows:
-                    resolve_one(self._connection, key, note, by)
-            if not rows:
+            keys = self._connection.atomically(lambda: self._resolve_next(note, by))
+            if not keys:
                 break
-            self._result.done += [key for _, key in rows]
+            self._result.done += keys
         return self._result
+
+    def _resolve_next(self, note: str, by: str | None) -> list[str]:
+        """Mark the next sagas as resolved; return their keys."""
+        keys = [str(key) for _, key in self._next_rows(TO_RESOLVE, -1)]
+        for key in keys:
+            resolve_one(self._connection, key, note, by)
+        return keys
 
     def _count(self, condition: str, *condition_parameters: Any) -> int:
         matches, parameters = self._filter.condition()

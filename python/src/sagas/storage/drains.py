@@ -31,9 +31,12 @@ def put(connection: Source, node: str, note: str, by: str | None) -> None:
     if not connection.ask(NODE, node, node):
         raise NoSuchNode(f"no node has the name {node!r}. `nodes` lists them")
     at = connection.now()
-    with connection.transaction():
+
+    def write() -> None:
         connection.changed(PUT, node, note, None if by is None else str(by), at)
         store_decisions.put(connection, Decision.DRAIN, subject_of(node), at, by, note)
+
+    connection.atomically(write)
     connection.notify(DRAINED)
 
 
@@ -44,11 +47,14 @@ def remove(connection: Source, node: str, note: str | None, by: str | None) -> N
         NoSuchNode: The node is not drained.
     """
     _check(connection, node)
-    with connection.transaction():
+
+    def delete() -> None:
         if not connection.changed("DELETE FROM drains WHERE name = ?", node):
             raise NoSuchNode(f"node {node!r} is not drained. `nodes` lists which are")
         at = connection.now()
         store_decisions.put(connection, Decision.UNDRAIN, subject_of(node), at, by, note)
+
+    connection.atomically(delete)
     connection.notify(DRAINED)
 
 

@@ -82,16 +82,20 @@ def erase(connection: Source, key: str, by: str | None) -> Erased:
             was not called yet; or it is a child.
     """
     connection.overwrite_deleted()
-    with connection.transaction():
-        rows = _tree(connection, key)
-        erased = Erased([str(row_key) for _, row_key, *_ in rows])
-        erasure = Erasure(connection.now(), by)
-        for id, row_key, *_ in rows:
-            if _erase_one(connection, int(id), str(row_key), erasure, erased.blobs):
-                value = request_text(request_fields(by, None))
-                connection.changed(NOTED, row_key, value, erasure.at)
-                erased.is_new = True
+    erased = connection.atomically(lambda: _erase_all(connection, key, by))
     connection.drop_journal()
+    return erased
+
+
+def _erase_all(connection: Source, key: str, by: str | None) -> Erased:
+    rows = _tree(connection, key)
+    erased = Erased([str(row_key) for _, row_key, *_ in rows])
+    erasure = Erasure(connection.now(), by)
+    for id, row_key, *_ in rows:
+        if _erase_one(connection, int(id), str(row_key), erasure, erased.blobs):
+            value = request_text(request_fields(by, None))
+            connection.changed(NOTED, row_key, value, erasure.at)
+            erased.is_new = True
     return erased
 
 

@@ -24,11 +24,12 @@ def make(
     max_connections: int,
     transactions: Callable[..., Any],
     record: str | None = None,
+    direct_url: str | None = None,
 ) -> Database:
     """Return the database of that name, not yet opened.
 
-    `transactions` and `record` are those of `PostgreSQL`. Without `record`, the environment names
-    the file.
+    `transactions`, `record` and `direct_url` are those of `PostgreSQL`. Without `record`, the
+    environment names the file.
 
     Raises `ImportError` if something that it needs is not installed, `InvalidStore` and
     `DefinitionError`.
@@ -39,6 +40,10 @@ def make(
             raise InvalidStore(
                 f"record={record!r}: {name} is a SQLite file, and a record is of a store over "
                 "PostgreSQL. Open the file without it"
+            )
+        if direct_url:
+            raise InvalidStore(
+                f"direct_url: {name} is a SQLite file, and no server. Open the file without it"
             )
         for step in (
             step
@@ -67,7 +72,27 @@ def make(
         transactions=transactions,
         record=record_path(record),
         encodes=definitions.payloads.codec is not None,
+        direct_url=direct_url,
     )
+
+
+async def reach(name: str) -> None:
+    """Connect to the server of a store once, so that a caller can wait for it.
+
+    It does nothing for a file. If it is cancelled, nothing remains.
+
+    Raises:
+        StoreUnavailable: The server does not answer, or does not accept connections yet.
+        InvalidStore: The server refuses this user permanently.
+        ImportError: The driver is not installed.
+    """
+    if not is_url(name):
+        return
+    try:
+        from sagas.storage.postgresql import connections
+    except ImportError as error:
+        raise missing_client(error) from error
+    await connections.reach(name)
 
 
 def definition_names(definitions: DefinitionRegistry) -> list[str]:

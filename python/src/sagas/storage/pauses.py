@@ -38,9 +38,12 @@ def put(connection: Source, pause: Pause, by: str | None) -> None:
     """
     flags, name = (int(pause.forward_only), int(pause.refuse_starts)), pause.scope.name
     values: tuple[Any, ...] = *pause.scope, *flags, pause.note, pause.by, pause.at
-    with connection.transaction():
+
+    def write() -> None:
         connection.changed(PUT, name, *values)
         store_decisions.put(connection, Decision.PAUSE, name, pause.at, by, pause.note)
+
+    connection.atomically(write)
     connection.notify(PAUSED)
 
 
@@ -56,8 +59,11 @@ def remove(connection: Source, scope: PauseScope, at: float, by: str | None) -> 
     Raises:
         NoSuchPause: The scope is not paused.
     """
-    with connection.transaction():
+
+    def delete() -> None:
         if not connection.changed("DELETE FROM pauses WHERE scope = ?", scope.name):
             raise NoSuchPause(f"{scope.text} is not paused. `pauses` lists what is")
         store_decisions.put(connection, Decision.RESUME, scope.name, at, by)
+
+    connection.atomically(delete)
     connection.notify(PAUSED)

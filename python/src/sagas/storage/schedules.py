@@ -121,11 +121,14 @@ class Schedules:
         stored = payloads.encode(input)
         timing_values = timing.cron, timing.every, timing.timezone, timing.policy
         parameters = (name, *saga, stored, labels, *timing_values, timing.next_after(now))
-        with self._connection.transaction():
+
+        def write() -> None:
             codec_note.check(self._connection, payloads)
             if payloads.codec is not None:
                 self._encode_again(name, input, stored, payloads)
             self._connection.changed(PUT, *parameters)
+
+        self._connection.atomically(write)
         self._connection.notify("requests")
 
     def _encode_again(self, name: str, input: str, stored: str, payloads: Payloads) -> None:
@@ -145,14 +148,18 @@ class Schedules:
         The missed times are not started, and the schedule's `error` says so. Raises
         `NoSuchSchedule`.
         """
-        missed, now = None, self._connection.now() if now is None else now
-        with self._connection.transaction():
+        pause_time = self._connection.now() if now is None else now
+
+        def write() -> str | None:
+            missed = None
             for (_,) in self._connection.ask(LOCK, name):
                 schedule = of_row(self._connection.ask(BY_NAME, name)[0])
-                missed = None if schedule.paused else missed_before_pause(schedule, now)
+                missed = None if schedule.paused else missed_before_pause(schedule, pause_time)
             text = "UPDATE schedules SET paused = 1, error = coalesce(?, error) WHERE name = ?"
             self._changed(name, text, missed, name)
-        return missed
+            return missed
+
+        return self._connection.atomically(write)
 
     def resume(self, name: str, now: float) -> None:
         """Start its sagas again, from the next time on. Raises `NoSuchSchedule`."""

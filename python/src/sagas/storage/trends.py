@@ -25,10 +25,13 @@ TOTAL = f"CASE WHEN measure = '{OLDEST_TASK}' THEN max(count) ELSE sum(count) EN
 
 def add(connection: Source, rows: Sequence[TrendRow], now: float) -> None:
     """Add counts to the stored ones, and delete those that no range has any more."""
-    with connection.transaction():
-        for begin in range(0, len(rows), BATCH):
-            batch = rows[begin : begin + BATCH]
-            text = ADD.format(rows=", ".join(["(?, ?, ?, ?, ?)"] * len(batch)), oldest=OLDEST_TASK)
-            connection.changed(text, *(value for row in batch for value in row))
-        for seconds, width in RANGES.values():
-            connection.changed(PRUNE, width, int(now) - seconds - width)
+    connection.atomically(lambda: _add(connection, rows, now))
+
+
+def _add(connection: Source, rows: Sequence[TrendRow], now: float) -> None:
+    for begin in range(0, len(rows), BATCH):
+        batch = rows[begin : begin + BATCH]
+        text = ADD.format(rows=", ".join(["(?, ?, ?, ?, ?)"] * len(batch)), oldest=OLDEST_TASK)
+        connection.changed(text, *(value for row in batch for value in row))
+    for seconds, width in RANGES.values():
+        connection.changed(PRUNE, width, int(now) - seconds - width)

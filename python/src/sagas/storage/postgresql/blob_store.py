@@ -9,6 +9,8 @@ from collections.abc import Iterator
 from typing import TYPE_CHECKING, Any
 
 from sagas.base.errors import InvalidStore
+from sagas.storage.postgresql.application_name import Purpose
+from sagas.storage.postgresql.conflicts import is_conflict, repeated_now
 
 if TYPE_CHECKING:
     import psycopg
@@ -63,7 +65,9 @@ class PostgresBlobStore:
 
         from sagas.storage.postgresql import connections
 
-        connection = connections.connect_now(self._url, f"{connections.DURABLE}; {LIMITED}")
+        connection = connections.connect_now(
+            self._url, Purpose.BLOBS, f"{connections.DURABLE}; {LIMITED}"
+        )
         with self._lock:
             if self._is_made:
                 return connection
@@ -88,8 +92,11 @@ class PostgresBlobStore:
         """Execute a statement.
 
         If the server has closed the connection, or no longer accepts writes, the statement is
-        executed again over a new connection.
+        executed again over a new connection. After a conflict it is repeated as well.
         """
+        return repeated_now(lambda: self._do_once(text, parameters))
+
+    def _do_once(self, text: str, parameters: tuple[Any, ...]) -> list[tuple[Any, ...]]:
         import psycopg
 
         for is_last in (False, True):
@@ -97,8 +104,8 @@ class PostgresBlobStore:
                 with self._connection() as connection:
                     cursor = connection.execute(text.format(self._table), parameters)
                     return cursor.fetchall() if cursor.description else []
-            except (psycopg.OperationalError, psycopg.errors.ReadOnlySqlTransaction):
-                if is_last:
+            except (psycopg.OperationalError, psycopg.errors.ReadOnlySqlTransaction) as error:
+                if is_last or is_conflict(error):
                     raise
                 self.close()
         raise AssertionError

@@ -9,8 +9,8 @@ import contextlib
 from collections.abc import Generator, Iterator, Mapping, Sequence
 from typing import Any, TypeVar
 
-from sagas.base.errors import StoreUnavailable
-from sagas.storage.postgresql import connections
+from sagas.base.errors import StoreUnavailable, TransactionConflict
+from sagas.storage.postgresql import conflicts, connections
 from sagas.storage.postgresql.connection_adapters import (
     POSTGRESQL,
     Adapter,
@@ -115,6 +115,7 @@ def run_in_savepoint(adapter: BlockingAdapter, work: Work[T], path: str) -> T:
 
     Raises:
         StoreUnavailable: The connection is closed or failed, or the server refuses a statement.
+        TransactionConflict: The server ended the transaction because of a concurrent one.
         ValueError: The connection has no transaction, or is to another database.
     """
     with translate_errors(adapter, path):
@@ -199,7 +200,8 @@ def driver_error(error: Exception) -> BaseException:
 def translate_errors(adapter: Adapter, path: str) -> Iterator[None]:
     """Raise errors of a connection as `StoreUnavailable` that names the given connection.
 
-    Raises `ValueError` if the connection has no open transaction.
+    Raises `ValueError` if the connection has no open transaction, and `TransactionConflict` if it
+    met another one.
     """
     try:
         yield
@@ -210,6 +212,11 @@ def translate_errors(adapter: Adapter, path: str) -> Iterator[None]:
             raise _error_of(adapter, PROBLEMS[code], path) from cause
         text = str(cause).strip()
         message = text.splitlines()[0] if text else type(cause).__name__
+        if code in conflicts.CODES:
+            raise TransactionConflict(
+                f"{path}, by the given connection: {message}. Roll the transaction back, and "
+                "repeat all of it"
+            ) from cause
         if code == NO_RIGHT:
             message += f": {connections.RIGHTS.format(role='NAME')}"
         raise StoreUnavailable(f"{path}, by the given connection: {message}") from cause

@@ -4,9 +4,8 @@ A server that a standby has replaced may still accept writes, and its commits th
 standby. A program that waits too long asks all hosts: the one with the highest timeline is the
 primary.
 
-A pooler whose transactions run in different sessions of the server is refused. With such a pooler,
-connections share settings with strangers, and a listener gets no notification. The check is made
-before anything is set.
+A pooler whose transactions run in different sessions of the server is refused before anything is
+set, unless the URL is known to be one: `poolers` has the connections to it.
 """
 
 from __future__ import annotations
@@ -31,7 +30,16 @@ from psycopg import conninfo, errors
 from psycopg_pool import AsyncConnectionPool, PoolTimeout
 
 from sagas.base.errors import InvalidStore, StoreUnavailable
-from sagas.storage.postgresql import replication
+from sagas.storage.postgresql import conflicts, replication
+from sagas.storage.postgresql.application_name import Purpose, application_name
+from sagas.storage.postgresql.poolers import (
+    PooledConnection,
+    PooledPlainConnection,
+    StatementPooled,
+    TransactionPooled,
+    check_sessions,
+    check_sessions_now,
+)
 from sagas.storage.postgresql.replication import (
     NotReplicated,
     PlainStoreConnection,
@@ -58,7 +66,6 @@ libpq does not return a code for them.
 """
 DEFAULTS: dict[str, Any] = {
     "connect_timeout": CONNECT,
-    "application_name": "sagas",
     "keepalives_idle": 5,
     "keepalives_interval": 2,
     "keepalives_count": 3,
@@ -75,12 +82,14 @@ The database's own setting is ignored.
 """
 SETTINGS = (
     "SET client_encoding = 'UTF8'; SET search_path = sagas; SET jit = off; SET enable_seqscan = "
-    f"off; SET enable_hashjoin = off; SET enable_mergejoin = off; {DURABLE}"
+    "off; SET enable_hashjoin = off; SET enable_mergejoin = off; SET default_transaction_isolation "
+    f"= 'read committed'; {DURABLE}"
 )
 """The settings of a connection.
 
 Plans are made once, for tables that are empty then and full later. So the planner has to use
-indexes.
+indexes. A statement that waits for a lock sees what was committed before it got the lock. The
+database's own isolation level is ignored, because no higher one has this property.
 """
 
 LIMITED = f"SET statement_timeout = '{int(PATIENCE)}s'"
@@ -188,23 +197,40 @@ def has_unescaped_at(url: str) -> bool:
     return "@" in after_user.partition("?")[0]
 
 
-def address(url: str) -> str:
-    """Return the URL with defaults for what it leaves open.
+def address(url: str, purpose: Purpose) -> str:
+    """Return the URL with defaults for what it leaves open, and the name of the connection.
 
     The defaults say how soon a dead connection is noticed, and that the server must accept writes.
-    A URL of `Hosts` has the hosts in the order in which they are tried.
+    A URL of `Hosts` has the hosts in the order in which they are tried, and the name of the node.
     """
     parameters = read(url)
-    defaults = {word: value for word, value in DEFAULTS.items() if word not in parameters}
+    options = {word: value for word, value in DEFAULTS.items() if word not in parameters}
+    node = url.node if isinstance(url, Hosts) else None
+    name = application_name(parameters.get("application_name"), node, purpose)
     if isinstance(url, Hosts) and url.are_several:
-        defaults |= url.parameters()
-    return conninfo.make_conninfo(url, **defaults)
+        options |= url.parameters()
+    if is_pooled(url):
+        options["client_encoding"] = "UTF8"
+    return conninfo.make_conninfo(url, **options, application_name=name)
 
 
-def hosts_of(url: str) -> Hosts:
-    """Return the URL with its hosts in this program's own order. Raises `InvalidStore`."""
+def is_pooled(url: str) -> bool:
+    """Whether a URL is known to be that of a pooler of transactions."""
+    return isinstance(url, Hosts) and url.is_pooled
+
+
+def hosts_of(url: str, node: str | None = None) -> Hosts:
+    """Return the URL with its hosts in this program's own order.
+
+    Args:
+        url: The URL.
+        node: The name of the node whose connections it is for (default: they are of no node).
+
+    Raises:
+        InvalidStore: It is not a valid URL.
+    """
     read(url)
-    return Hosts(url)
+    return Hosts(url, node)
 
 
 def named(url: str) -> str:
@@ -233,7 +259,15 @@ class Hosts(str):
     For all other uses it is the given URL.
     """
 
-    def __init__(self, url: str) -> None:
+    def __new__(cls, url: str, node: str | None = None) -> Hosts:
+        """Make the text of the URL."""
+        return super().__new__(cls, url)
+
+    def __init__(self, url: str, node: str | None = None) -> None:
+        self.node = node
+        """The name of the node whose connections these are, if they are of one."""
+        self.is_pooled = False
+        """Whether it is a pooler of transactions. It is found out when the store is opened."""
         self._hosts = host_parameters(conninfo.conninfo_to_dict(url))
         self._order = [*range(len(self._hosts))]
         self._asking = asyncio.Lock()
@@ -292,83 +326,6 @@ async def timeline_of_host(address: str, host: Mapping[str, str]) -> str | None:
                 return str(rows[0][0])
     except (psycopg.Error, OSError, TimeoutError):
         return None
-
-
-# -- poolers
-
-SESSION = "SELECT pg_backend_pid()"
-SESSION_PATIENCE = 2.0
-"""Seconds for a second session: a pooler that has none left pools sessions."""
-STATEMENT_POOLING = "statement pooling"
-"""PgBouncer's error for BEGIN if each statement may have another session."""
-
-
-class TransactionPooled(errors.OperationalError):
-    """The transactions of one connection run in several sessions."""
-
-    def __init__(self) -> None:
-        super().__init__(
-            "this is a connection pooler that pools transactions, as PgBouncer does with "
-            "pool_mode=transaction. A store needs sessions of its own. Nothing was written or set. "
-            "Name the server itself, or a pooler that pools sessions"
-        )
-
-
-async def check_sessions(connection: psycopg.AsyncConnection[Any], address: str) -> None:
-    """Raise `TransactionPooled` if the connection is one of such a pooler.
-
-    A pooler has its own session numbers, so most connections need no second one.
-
-    Args:
-        connection: A new connection that commits each statement.
-        address: Its address, for another connection.
-    """
-
-    async def session(of: psycopg.AsyncConnection[Any]) -> int:
-        rows = await (await of.execute(SESSION, prepare=False)).fetchall()
-        return int(rows[0][0])
-
-    first = await session(connection)
-    if first == connection.info.backend_pid:
-        return
-    other = await psycopg.AsyncConnection.connect(address, autocommit=True)
-    try:
-        async with asyncio.timeout(SESSION_PATIENCE):
-            await other.execute("BEGIN")
-            is_shared = await session(other) == first or await session(connection) != first
-    except TimeoutError:
-        is_shared = False
-    except errors.OperationalError as error:
-        if STATEMENT_POOLING not in str(error):
-            raise
-        is_shared = True
-    finally:
-        await other.close()
-    if is_shared:
-        raise TransactionPooled
-
-
-def check_sessions_now(connection: psycopg.Connection[Any], address: str) -> None:
-    """See `check_sessions`, for a connection of a thread."""
-
-    def session(of: psycopg.Connection[Any]) -> int:
-        return int(of.execute(SESSION, prepare=False).fetchall()[0][0])
-
-    first = session(connection)
-    if first == connection.info.backend_pid:
-        return
-    other = psycopg.connect(address, autocommit=True)
-    try:
-        other.execute("BEGIN")
-        is_shared = session(other) == first or session(connection) != first
-    except errors.OperationalError as error:
-        if STATEMENT_POOLING not in str(error):
-            raise
-        is_shared = True
-    finally:
-        other.close()
-    if is_shared:
-        raise TransactionPooled
 
 
 # -- errors
@@ -431,12 +388,21 @@ def was_cut(error: StoreUnavailable) -> bool:
 # -- connections, and a pool of them
 
 
-async def connect(url: str, settings: str = SETTINGS) -> Link:
-    """Return a connection of the store's own, which commits each statement."""
-    connection = await Link.connect(address(url), autocommit=True, prepare_threshold=1)
+async def connect(url: str, purpose: Purpose, settings: str = SETTINGS) -> Link:
+    """Return a connection of the store's own, which commits each statement.
+
+    A pooler of transactions gets no settings here: each transaction has its own.
+    """
+    if is_pooled(url):
+        pooled = await PooledConnection.connect(
+            address(url, purpose), autocommit=True, prepare_threshold=None
+        )
+        assert isinstance(pooled, Link)
+        return pooled
+    connection = await Link.connect(address(url, purpose), autocommit=True, prepare_threshold=1)
     assert isinstance(connection, Link)
     try:
-        await check_sessions(connection, address(url))
+        await check_sessions(connection, address(url, Purpose.HOSTS))
         await connection.execute(settings, prepare=False)
     except BaseException:
         await connection.close()
@@ -444,16 +410,39 @@ async def connect(url: str, settings: str = SETTINGS) -> Link:
     return connection
 
 
-async def check_access(url: str, store_name: str) -> None:
-    """Raise `InvalidStore` if the server permanently refuses the login.
+async def reach(url: str) -> None:
+    """Connect once.
 
-    A pool would retry. Any other error may be temporary.
+    Raises:
+        StoreUnavailable: The server does not answer, or does not accept connections yet.
+        InvalidStore: The server refuses this user permanently.
+    """
+    store_name = named(url)
+    try:
+        with translate_errors(store_name):
+            await (await connect(url, Purpose.HOSTS)).close()
+    except StoreUnavailable as error:
+        cause = error.__cause__
+        if isinstance(cause, Exception) and FINAL.search(str(cause)):
+            raise refused_login(store_name, cause) from error
+        raise
+
+
+async def check_access(url: Hosts, store_name: str, purpose: Purpose) -> None:
+    """Find out whether it is a pooler of transactions, and whether the login is accepted.
+
+    A pool would retry a login. Any other error may be temporary.
+
+    Raises:
+        InvalidStore: The server permanently refuses the login, or pools statements.
     """
     try:
         async with asyncio.timeout(LOGIN_TIMEOUT):
-            await (await connect(url)).close()
-    except TransactionPooled as error:
+            await (await connect(url, purpose)).close()
+    except StatementPooled as error:
         raise InvalidStore(f"{store_name}: {error}") from error
+    except TransactionPooled:
+        url.is_pooled = True
     except CLIENT_ERRORS as error:
         # otherwise the error keeps the connection open, and the server waits for a password
         if isinstance(error, psycopg.Error) and error.pgconn:
@@ -469,12 +458,20 @@ async def timeline_of(connection: Link) -> str:
     return str(rows[0][0])
 
 
-def connect_now(url: str, settings: str = f"{SETTINGS}; {LIMITED}") -> PlainStoreConnection:
+def connect_now(
+    url: str, purpose: Purpose, settings: str = f"{SETTINGS}; {LIMITED}"
+) -> PlainStoreConnection:
     """See `connect`, for a connection of a thread."""
-    connection = PlainStoreConnection.connect(address(url), autocommit=True)
+    if is_pooled(url):
+        pooled = PooledPlainConnection.connect(
+            address(url, purpose), autocommit=True, prepare_threshold=None
+        )
+        assert isinstance(pooled, PlainStoreConnection)
+        return pooled
+    connection = PlainStoreConnection.connect(address(url, purpose), autocommit=True)
     assert isinstance(connection, PlainStoreConnection)
     try:
-        check_sessions_now(connection, address(url))
+        check_sessions_now(connection, address(url, Purpose.HOSTS))
         connection.execute(settings, prepare=False)
     except BaseException:
         connection.close()
@@ -487,7 +484,7 @@ async def _configure(address: str, connection: psycopg.AsyncConnection[Any]) -> 
     await connection.execute(f"{SETTINGS}; {LIMITED}; {ABANDONED}", prepare=False)
 
 
-def pool(url: str, max_size: int) -> AsyncConnectionPool:
+def pool(url: str, max_size: int, purpose: Purpose) -> AsyncConnectionPool:
     """Return a pool for short statements, each a transaction of its own.
 
     It is not open yet.
@@ -497,15 +494,15 @@ def pool(url: str, max_size: int) -> AsyncConnectionPool:
     3.1). The pool stops connecting soon, so that the next caller makes it retry at once, for any
     duration of the outage.
     """
-    arguments = {"autocommit": True, "prepare_threshold": 2}
+    configure = functools.partial(_configure, address(url, Purpose.HOSTS))
     return AsyncConnectionPool(
-        address(url),
-        connection_class=Link,
+        address(url, purpose),
+        connection_class=PooledConnection if is_pooled(url) else Link,
         min_size=1,
         max_size=max_size,
         open=False,
-        kwargs=arguments,
-        configure=functools.partial(_configure, address(url)),
+        kwargs={"autocommit": True, "prepare_threshold": None if is_pooled(url) else 2},
+        configure=None if is_pooled(url) else configure,
         timeout=PATIENCE / 4,
         reconnect_timeout=2.0,
         name="sagas",
@@ -525,9 +522,10 @@ class Attached(Protocol):
 class Asker:
     """Executes short statements over a pool."""
 
-    def __init__(self, url: str, store_name: str, max_size: int) -> None:
+    def __init__(self, url: str, store_name: str, max_size: int, purpose: Purpose) -> None:
         self.store_name, self._url, self._max_size = store_name, url, max_size
-        self.pool = pool(url, max_size)
+        self._purpose = purpose
+        self.pool = pool(url, max_size, purpose)
         self._attached: list[Attached] = []
         self._under_way: set[asyncio.Task[Any]] = set()
         self._used: set[Link] = set()
@@ -537,11 +535,15 @@ class Asker:
 
     async def open(self) -> None:
         """Connect. Raises `StoreUnavailable`."""
+        if is_pooled(self._url):
+            self.pool = pool(self._url, self._max_size, self._purpose)
         with translate_errors(self.store_name):
             try:
                 await self.pool.open(wait=True, timeout=2 * CONNECT)
             except PoolTimeout:
-                await (await connect(self._url)).close()  # raises the error that the pool hides
+                await (
+                    await connect(self._url, self._purpose)
+                ).close()  # raises the error that the pool hides
                 raise
 
     def attach(self, *attached: Attached) -> None:
@@ -556,7 +558,7 @@ class Asker:
         """
         for attached in self._attached:
             attached.cut()
-        old, self.pool = self.pool, pool(self._url, self._max_size)
+        old, self.pool = self.pool, pool(self._url, self._max_size, self._purpose)
         used = [*self._used] if cuts else []
         await self.pool.open()
         for connection in used:
@@ -605,10 +607,17 @@ class Asker:
         if not work.cancelled():
             work.exception()  # a caller that was not cancelled has the error
 
-    async def _execute(self, text: str, parameters: Mapping[str, Any] | Sequence[Any]) -> list[Row]:
-        async with self.connection() as connection:
-            cursor = await connection.execute(text, parameters)
-            return await cursor.fetchall() if cursor.pgresult and cursor.pgresult.nfields else []
+    async def _execute(
+        self, text: str, parameters: Mapping[str, Any] | Sequence[Any], turn: int = 0
+    ) -> list[Row]:
+        try:
+            async with self.connection() as connection:
+                cursor = await connection.execute(text, parameters)
+                has_rows = cursor.pgresult and cursor.pgresult.nfields
+                return await cursor.fetchall() if has_rows else []
+        except StoreUnavailable as error:
+            await conflicts.pause(error, turn)
+        return await self._execute(text, parameters, turn + 1)
 
     @contextlib.asynccontextmanager
     async def connection(self) -> AsyncIterator[Link]:

@@ -32,7 +32,8 @@ from sagas.storage.external import (
     Row,
     earlier,
 )
-from sagas.storage.postgresql import connections, notifications, wire
+from sagas.storage.postgresql import conflicts, connections, notifications, wire
+from sagas.storage.postgresql.application_name import Purpose
 from sagas.storage.postgresql.connections import Asker
 
 CHANNEL = "sagas_reports"
@@ -219,8 +220,14 @@ class PostgreSQLExternalAttempts:
     """
 
     def __init__(self, url: str, asker: Asker) -> None:
+        """Create the table's part of a node.
+
+        Args:
+            url: The URL for the connection of its own, which may be that of a pooler.
+            asker: The node's connections.
+        """
         self._asker = asker
-        self._own_wire = wire.ReconnectingWire(url, asker.store_name)
+        self._own_wire = wire.ReconnectingWire(url, asker.store_name, Purpose.CLAIM)
         asker.attach(self._own_wire)
         # claims that wait for other nodes hold a connection of the pool
         self._locking = asyncio.Lock()
@@ -344,18 +351,25 @@ class PostgreSQLExternalAttempts:
         if not claiming.cancelled() and not claiming.exception():
             self._dropped(wanted, claiming.result())
 
-    async def _claim_limited(self, limited: Sequence[str], wanted: ClaimRequest) -> list[list[Any]]:
+    async def _claim_limited(
+        self, limited: Sequence[str], wanted: ClaimRequest, turn: int = 0
+    ) -> list[list[Any]]:
         """Return the rows of a claim of tasks with a concurrency limit.
 
         No other node claims them at the same time.
         """
         workers = [wanted.worker] * wanted.limit
         parameters = {"tasks": [*wanted.tasks], "limit": wanted.limit, "workers": workers}
-        async with self._locking, self._asker.connection() as connection, connection.transaction():
-            await connection.execute(LOCK, {"limited": list(limited)})
-            seconds = {"seconds": [wanted.seconds] * wanted.limit}
-            row = await (await connection.execute(CLAIM, parameters | seconds)).fetchone()
-            return rows_of(row[0]) if row else []
+        asker = self._asker
+        try:
+            async with self._locking, asker.connection() as connection, connection.transaction():
+                await connection.execute(LOCK, {"limited": list(limited)})
+                seconds = {"seconds": [wanted.seconds] * wanted.limit}
+                row = await (await connection.execute(CLAIM, parameters | seconds)).fetchone()
+                return rows_of(row[0]) if row else []
+        except StoreUnavailable as error:
+            await conflicts.pause(error, turn)
+        return await self._claim_limited(limited, wanted, turn + 1)
 
     async def heartbeat(self, attempt: str, lease: int, seconds: float) -> Heartbeat | None:
         rows = await self._asker.ask(HEARTBEAT, attempt=attempt, lease=lease, seconds=seconds)

@@ -17,7 +17,8 @@ from sagas.base.errors import Closed, NoSuchSaga, SagasError, StoreUnavailable
 from sagas.core.shard.batch import SagaRow, StoredSaga
 from sagas.definition.serialization import clean, cleaned
 from sagas.storage import queries
-from sagas.storage.postgresql import connections, wire
+from sagas.storage.postgresql import conflicts, connections, wire
+from sagas.storage.postgresql.application_name import Purpose
 from sagas.storage.postgresql.connections import Asker, Hosts
 
 # -- by keys
@@ -42,7 +43,7 @@ class KeyFinder:
         self, url: str, store_name: str, spawn: Callable[[Coroutine[Any, Any, None]], object]
     ) -> None:
         self._connection, self._store_name, self._spawn = (
-            wire.ReconnectingWire(url, store_name),
+            wire.ReconnectingWire(url, store_name, Purpose.KEYS),
             store_name,
             spawn,
         )
@@ -292,17 +293,20 @@ class Reader:
         arguments = cleaned(parameters)
         for turn in (0, 1):
             try:
-                self._follow()
-                with connections.translate_errors(self._path):
-                    if self._connection is None or self._connection.closed:
-                        self._connection = connections.connect_now(self._url)
-                    return self._connection.execute(
-                        queries.for_postgresql(query), arguments
-                    ).fetchall()
-            except StoreUnavailable:
+                return self._rows(queries.for_postgresql(query), arguments)
+            except StoreUnavailable as error:
+                if conflicts.is_conflict(error):
+                    break
                 if turn or (self._connection and not self._connection.closed):
                     raise
-        raise AssertionError
+        return conflicts.repeated_now(lambda: self._rows(queries.for_postgresql(query), arguments))
+
+    def _rows(self, text: str, arguments: Sequence[Any]) -> list[tuple[Any, ...]]:
+        self._follow()
+        with connections.translate_errors(self._path):
+            if self._connection is None or self._connection.closed:
+                self._connection = connections.connect_now(self._url, Purpose.READS)
+            return self._connection.execute(text, arguments).fetchall()
 
     def _follow(self) -> None:
         """Leave a server that another one has replaced."""

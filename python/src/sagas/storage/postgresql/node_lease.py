@@ -32,7 +32,7 @@ from sagas.definition.capacity import SHARD_CAPACITY
 from sagas.definition.definition_text import version_of
 from sagas.storage import store_name
 from sagas.storage.codec_note import NOTE, NOTED, missing
-from sagas.storage.postgresql import notifications
+from sagas.storage.postgresql import conflicts, notifications
 from sagas.storage.postgresql.connections import RAISED, TIMELINE, Asker, translate_errors
 from sagas.storage.postgresql.shard_moves import FORGET, IS_DRAINED, SEEN
 from sagas.storage.queries import COMPLETED_CHILDREN, OPENED
@@ -64,7 +64,7 @@ async def agree_on_encoding(asker: Asker, encodes: bool) -> None:
         if not encodes:
             raise missing(asker.store_name)
     elif encodes:
-        await asker.whole(_note_encoding(asker))
+        await asker.whole(conflicts.repeated(lambda: _note_encoding(asker)))
 
 
 async def _note_encoding(asker: Asker) -> None:

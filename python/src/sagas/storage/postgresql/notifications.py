@@ -15,6 +15,7 @@ import psycopg
 
 from sagas.base.pauses import doubling_pauses
 from sagas.storage.postgresql import connections
+from sagas.storage.postgresql.application_name import Purpose
 from sagas.storage.postgresql.wire import Wire
 
 if TYPE_CHECKING:
@@ -41,6 +42,8 @@ NOTIFY_WIRED = NOTIFY.replace("%(messages)s", "$1")
 """The same for a wire. `array_of` returns its parameter."""
 MAX_IDS = 400  # ids per message: PostgreSQL accepts 8,000 bytes
 FIRST_LOOK, MAX_LOOK = 0.5, 30.0  # seconds
+POLL = 1.0
+"""Maximum number of seconds between two looks without a connection that listens."""
 RECENT = 10_000
 FIRST_PAUSE, MAX_PAUSE = 0.1, 2.0  # seconds
 
@@ -90,7 +93,9 @@ class Listener:
         pauses = doubling_pauses(FIRST_PAUSE, MAX_PAUSE)
         while True:
             try:
-                wire = self.wire = Wire(await connections.connect(self._url), self._heard)
+                wire = self.wire = Wire(
+                    await connections.connect(self._url, Purpose.LISTEN), self._heard
+                )
                 try:
                     for channel in self._channels:
                         await wire.rows(f"LISTEN {channel}")
@@ -109,16 +114,18 @@ class Notifications:
     """Listens on a connection of its own.
 
     `look` is called for each message without an id, and whenever messages may have been missed.
+    Without a URL it does not listen. Then callers that wait look each second.
     """
 
     def __init__(
-        self, url: str, look: Callable[[str], None], channels: Sequence[str] = (CHANNEL,)
+        self, url: str | None, look: Callable[[str], None], channels: Sequence[str] = (CHANNEL,)
     ) -> None:
-        self._look = look
-        self.listener = Listener(url, channels, self._heard, self._missed)
+        self._look, self._longest_wait = look, POLL if url is None else MAX_LOOK
+        self.listener = Listener(url or "", channels, self._heard, self._missed)
         self._waiting: dict[tuple[str, int], list[asyncio.Future[None]]] = {}
         self._recent: OrderedDict[tuple[str, int], None] = OrderedDict()
-        self._job = asyncio.get_running_loop().create_task(self.listener.run())
+        listening = self.listener.run() if url is not None else _nothing()
+        self._job = asyncio.get_running_loop().create_task(listening)
 
     async def close(self, messages: Sequence[str] = ()) -> None:
         """Send the last messages, and stop. Callers that wait look once more."""
@@ -177,11 +184,16 @@ class Notifications:
         future = asyncio.get_running_loop().create_future()
         self._waiting.setdefault(event_and_id, []).append(future)
         try:
-            await asyncio.wait([future], timeout=min(MAX_LOOK, FIRST_LOOK * 2.0 ** min(turn, 16)))
+            pause = min(self._longest_wait, FIRST_LOOK * 2.0 ** min(turn, 16))
+            await asyncio.wait([future], timeout=pause)
         finally:
             self._waiting[event_and_id].remove(future)
             if not self._waiting[event_and_id]:
                 del self._waiting[event_and_id]
+
+
+async def _nothing() -> None:
+    """Listen on no connection."""
 
 
 def _wake(futures: list[asyncio.Future[None]]) -> None:

@@ -15,7 +15,8 @@ from psycopg import errors, sql
 
 from sagas.base.errors import InvalidStore, StoreSchemaTooNew, StoreUnavailable
 from sagas.base.logger import logger
-from sagas.storage.postgresql import connections
+from sagas.storage.postgresql import conflicts, connections
+from sagas.storage.postgresql.application_name import Purpose
 from sagas.storage.postgresql.connections import RIGHTS
 
 LOCK = 5_777_001
@@ -330,6 +331,10 @@ def migrate(connection: psycopg.Connection[tuple[object, ...]], store_name: str)
     The connection commits each statement. Raises `StoreSchemaTooNew`, or `InvalidStore` if this
     user may not create the tables.
     """
+    return conflicts.repeated_now(lambda: _migrate(connection, store_name))
+
+
+def _migrate(connection: psycopg.Connection[tuple[object, ...]], store_name: str) -> int:
     try:
         version = version_of(connection)
         check(version, store_name)
@@ -406,6 +411,10 @@ def allow(connection: psycopg.Connection[tuple[object, ...]], role: str) -> None
 
     Raises `InvalidStore` if this user cannot grant them.
     """
+    conflicts.repeated_now(lambda: _allow(connection, role))
+
+
+def _allow(connection: psycopg.Connection[tuple[object, ...]], role: str) -> None:
     name = sql.Identifier(role)
     with connection.transaction():
         connection.execute(sql.SQL("GRANT USAGE ON SCHEMA sagas TO {}").format(name))
@@ -477,7 +486,9 @@ class MissingTables:
 
     def _make(self) -> None:
         with connections.translate_errors(self._path):
-            with contextlib.closing(connections.connect_now(self._url)) as connection:
+            with contextlib.closing(
+                connections.connect_now(self._url, Purpose.ADMIN)
+            ) as connection:
                 (timeline,) = connection.execute(f"SELECT {connections.TIMELINE}").fetchone() or (
                     "",
                 )

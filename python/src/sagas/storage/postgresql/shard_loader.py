@@ -24,7 +24,7 @@ from sagas.core.shard.batch import (
 )
 from sagas.definition.capacity import SHARD_CAPACITY
 from sagas.storage import queries
-from sagas.storage.postgresql import connections
+from sagas.storage.postgresql import conflicts, connections
 from sagas.storage.record_file import RecordFile
 
 MAX_LOADED = 64
@@ -215,7 +215,7 @@ class ShardLoader:
     async def _load_alone(self, request: LoadRequest) -> None:
         try:
             async with self._loading_alone:
-                loaded = await self._alone(request)
+                loaded = await conflicts.repeated(lambda: self._alone(request))
         except Exception as failure:
             request.resolve(None, failure)
         else:

@@ -23,6 +23,7 @@ from psycopg.rows import tuple_row
 
 from sagas.base.pauses import doubling_pauses
 from sagas.storage.postgresql import connections
+from sagas.storage.postgresql.application_name import Purpose
 from sagas.storage.postgresql.step_connections import (
     AsyncStepLink,
     Prepares,
@@ -242,7 +243,7 @@ class Pool:
         try:
             while connection is None and self._waiting:
                 try:
-                    made = await AsyncStepLink.connect(connections.address(self._url))
+                    made = await AsyncStepLink.connect(connections.address(self._url, Purpose.STEP))
                     assert isinstance(made, AsyncStepLink)
                     if self._prepares and self._prepares.works:
                         await made.prepare(self._prepares)

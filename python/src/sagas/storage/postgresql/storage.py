@@ -26,7 +26,7 @@ from sagas.core.shard.batch import (
 from sagas.definition.payloads import Payloads
 from sagas.definition.serialization import cleaned
 from sagas.definition.call_options import Bounds
-from sagas.storage import queries
+from sagas.storage import queries, store_name
 from sagas.storage.external import ExternalAttempts
 from sagas.storage.interface import (
     CommitCallback,
@@ -40,10 +40,12 @@ from sagas.storage.postgresql import (
     connections,
     external_attempts,
     notifications,
+    pooler_urls,
     saga_requests,
     schema,
     shard_moves,
 )
+from sagas.storage.postgresql.application_name import Purpose
 from sagas.storage.postgresql.commit_statement import Commit
 from sagas.storage.postgresql.connections import Asker
 from sagas.storage.postgresql.external_attempts import PostgreSQLExternalAttempts
@@ -118,6 +120,7 @@ class PostgreSQL(queries.Questions):
         transactions: MakesTransactions | None = None,
         record: str | None = None,
         encodes: bool = False,
+        direct_url: str | None = None,
     ) -> None:
         """Create the node's part. It is not open yet.
 
@@ -133,12 +136,17 @@ class PostgreSQL(queries.Questions):
             transactions: Makes what calls functions in transactions.
             record: The file of the record, if there is one.
             encodes: Whether there is a codec.
+            direct_url: The URL of the server itself, if `url` is that of a pooler. Questions and
+                claims use the pooler, and all other connections the server.
         """
-        self.url = url = connections.hosts_of(url)
-        self.asker = connections.Asker(url, connections.named(url), 2)
+        name = store_name.node_name(node)
+        self._pooler = connections.hosts_of(url, name) if direct_url else None
+        self.url = url = connections.hosts_of(direct_url or url, name)
+        shared_url = self._pooler or url
+        self.asker = connections.Asker(url, connections.named(url), 2, Purpose.LEASE)
         self.lease = Lease(self.asker, node, lease, version, kinds, encodes)
         self._sagas = list(sagas)
-        self.external: ExternalAttempts = PostgreSQLExternalAttempts(url, self.asker)
+        self.external: ExternalAttempts = PostgreSQLExternalAttempts(shared_url, self.asker)
         record_file = RecordFile.of(record, self.lease.node)
         self._loader = ShardLoader(self.asker, self.lease.node, self._spawn, record_file)
         self._timeline = ""
@@ -165,7 +173,7 @@ class PostgreSQL(queries.Questions):
             else None
         )
         self._keys = KeyFinder(url, self.path, self._spawn)
-        self._questions = connections.Asker(url, self.path, 1)
+        self._questions = connections.Asker(shared_url, self.path, 1, Purpose.READS)
         self.asker.late = self._questions.late = self._look_at_hosts
         self._lookups = Lookups(self._questions, self._spawn)
         self._continuity = Continuity(
@@ -214,6 +222,8 @@ class PostgreSQL(queries.Questions):
         if self.record:
             self.record.open()
         await asyncio.to_thread(self._migrate)
+        if self._pooler is not None:
+            await pooler_urls.check(self._pooler, self.url)
         await self.asker.open()
         await self._keys.open()  # now: later the server may have no connection left
         await self._questions.open()
@@ -237,7 +247,7 @@ class PostgreSQL(queries.Questions):
     def _migrate(self) -> None:
         try:
             with connections.translate_errors(self.path):
-                connection = connections.connect_now(self.url)
+                connection = connections.connect_now(self.url, Purpose.ADMIN)
                 with contextlib.closing(connection):
                     schema.migrate(connection, self.path)
         except StoreUnavailable as error:
@@ -380,7 +390,7 @@ class PostgreSQL(queries.Questions):
             self._spawn(self._choose_host())
 
     async def _choose_host(self) -> None:
-        timeline = await self.url.choose(connections.address(self.url))
+        timeline = await self.url.choose(connections.address(self.url, Purpose.HOSTS))
         if timeline is not None and timeline > self._timeline and not self._closing:
             self._is_known(timeline, cuts=True)
             self._writer.cut()
@@ -619,7 +629,7 @@ class PostgreSQL(queries.Questions):
 
     def reader(self) -> Reader:
         """Return another connection, for a thread that only reads."""
-        return Reader(self.url, self.path)
+        return Reader(self._pooler or self.url, self.path)
 
     def find_many(self, keys: Sequence[str]) -> dict[str, SagaRow]:
         """Raise an error: a database cannot answer at once."""

@@ -17,7 +17,8 @@ from typing import TYPE_CHECKING, Optional
 
 from psycopg import errors, pq
 
-from sagas.storage.postgresql import connections
+from sagas.storage.postgresql import conflicts, connections
+from sagas.storage.postgresql.application_name import Purpose
 from sagas.storage.postgresql.replication import NotReplicated
 
 if TYPE_CHECKING:
@@ -71,6 +72,7 @@ class Wire:
         # one timer for all statements, which checks `_until`
         self._timer: asyncio.TimerHandle | None = None
         self._until = 0.0
+        self._conflict: tuple[Job, int] | None = None
         self.closed = False
         self.gone = asyncio.Event()
         """Set when it is closed."""
@@ -190,6 +192,8 @@ class Wire:
         preparing, self._preparing = self._preparing, None
         assert result
         failure = None if result.status in GOOD else errors.error_from_result(result)
+        if failure is not None and conflicts.is_conflict(failure) and self._repeats():
+            return
         if failure is None and self._connection.warned:
             self._connection.warned, failure = False, NotReplicated()
         is_deallocating, self._is_deallocating = self._is_deallocating, False
@@ -208,6 +212,21 @@ class Wire:
         then(rows, failure)
 
     # -- errors
+
+    def _repeats(self) -> bool:
+        """Whether the statement is repeated, after a conflict that has rolled it back."""
+        job, turn = self._jobs[0], 0
+        if self._conflict is not None and self._conflict[0] is job:
+            turn = self._conflict[1] + 1
+        if turn >= conflicts.MAX_TURNS:
+            return False
+        self._conflict = job, turn
+        self._loop.call_later(conflicts.pause_before(turn), self._repeat, job)
+        return True
+
+    def _repeat(self, job: Job) -> None:
+        if self._jobs and self._jobs[0] is job and not self.closed:
+            self._begin()
 
     def _look(self) -> None:
         """Check whether the statement under way is late."""
@@ -234,6 +253,51 @@ class Wire:
         jobs, self._jobs = self._jobs, deque()
         for _, _, then in jobs:
             then([], error)
+
+
+LOCAL = (
+    "SELECT set_config('search_path', 'sagas', true), set_config('jit', 'off', true), "
+    "set_config('enable_seqscan', 'off', true), set_config('enable_hashjoin', 'off', true), "
+    "set_config('enable_mergejoin', 'off', true), set_config('synchronous_commit', CASE WHEN "
+    "current_setting('synchronous_commit') IN ('off', 'local') THEN 'on' "
+    "ELSE current_setting('synchronous_commit') END, true), "
+    f"set_config('statement_timeout', '{int(connections.PATIENCE)}s', true)"
+).encode()
+"""The settings of one transaction, over a pooler of transactions."""
+
+
+class PooledWire(Wire):
+    """A wire over a pooler of transactions: nothing is prepared, and nothing remains set.
+
+    The settings and the statement are sent together, as one transaction.
+    """
+
+    def _begin(self) -> None:
+        text, parameters, _ = self._jobs[0]
+        try:
+            if self._pgconn.pipeline_status == pq.PipelineStatus.OFF:
+                self._pgconn.enter_pipeline_mode()
+            self._pgconn.send_query_params(LOCAL, None)
+            self._pgconn.send_query_params(text.encode(), parameters)
+            self._pgconn.pipeline_sync()
+            self._flush()
+        except Exception as error:
+            self._loop.call_soon(self._break, error)
+
+    def _receive(self) -> bool:
+        self._pgconn.consume_input()
+        is_between = True
+        while self._jobs and not self._pgconn.is_busy():
+            result = self._pgconn.get_result()
+            if result is None:
+                if is_between:
+                    return False
+            elif result.status == pq.ExecStatus.PIPELINE_SYNC:
+                return True
+            elif self._result is None or self._result.status in GOOD:
+                self._result = result
+            is_between = result is None
+        return False
 
 
 def array(texts: Iterable[str]) -> bytes:
@@ -266,8 +330,8 @@ def read(result: PGresult) -> list[Values]:
 class ReconnectingWire:
     """A wire for short statements that is made again when it breaks."""
 
-    def __init__(self, url: str, store_name: str) -> None:
-        self._url, self._store_name = url, store_name
+    def __init__(self, url: str, store_name: str, purpose: Purpose) -> None:
+        self._url, self._store_name, self._purpose = url, store_name, purpose
         self._wire: Wire | None = None
         self._making = asyncio.Lock()
         self._is_over = False
@@ -313,13 +377,14 @@ class ReconnectingWire:
                 raise errors.OperationalError("the connection is closed")
             if self._wire is None or self._wire.closed:
                 connection = await connections.connect(
-                    self._url, f"{connections.REPEATED}; {connections.LIMITED}"
+                    self._url, self._purpose, f"{connections.REPEATED}; {connections.LIMITED}"
                 )
                 if self._is_over:  # it was closed during the connect
                     await connection.close()
                     raise errors.OperationalError("the connection is closed")
                 # the server times out first
-                self._wire = Wire(connection, patience=connections.PATIENCE + 1)
+                kind = PooledWire if connections.is_pooled(self._url) else Wire
+                self._wire = kind(connection, patience=connections.PATIENCE + 1)
             return self._wire
 
     def cut(self) -> None:

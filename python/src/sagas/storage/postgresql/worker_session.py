@@ -19,7 +19,8 @@ from sagas.definition import awaitables
 from sagas.definition.call_options import Function
 from sagas.definition.task import Task
 from sagas.storage.external import REPORT_COUNTS
-from sagas.storage.postgresql import connections
+from sagas.storage.postgresql import conflicts, connections
+from sagas.storage.postgresql.application_name import Purpose
 from sagas.storage.postgresql.external_attempts import NOTIFY_REPORTED, REPORT
 from sagas.storage.postgresql.step_connections import AS_MADE, AsyncStepLink, StepLink, check_whole
 from sagas.storage.postgresql.step_pool import is_good
@@ -44,10 +45,13 @@ class PostgreSQLWorkerSession:
         self._for_functions: StepLink | None = None  # for functions that are transactions
 
     def _ask(self, text: str, parameters: Any) -> list[Any]:
+        return conflicts.repeated_now(lambda: self._ask_once(text, parameters))
+
+    def _ask_once(self, text: str, parameters: Any) -> list[Any]:
         try:
             with connections.translate_errors(self.path):
                 if self._connection is None or self._connection.closed:
-                    self._connection = connections.connect_now(self.url)
+                    self._connection = connections.connect_now(self.url, Purpose.WORKER)
                 cursor = self._connection.execute(text, parameters)
                 return cursor.fetchall() if cursor.description else []
         except BaseException:
@@ -148,13 +152,13 @@ class PostgreSQLWorkerSession:
 
     def _function_connection(self) -> StepLink:
         if self._for_functions is None or self._for_functions.closed:
-            made = StepLink.connect(connections.address(self.url))
+            made = StepLink.connect(connections.address(self.url, Purpose.STEP))
             assert isinstance(made, StepLink)
             self._for_functions = made
         return self._for_functions
 
     async def _new_connection(self) -> AsyncStepLink:
-        made = await AsyncStepLink.connect(connections.address(self.url))
+        made = await AsyncStepLink.connect(connections.address(self.url, Purpose.STEP))
         assert isinstance(made, AsyncStepLink)
         return made
 

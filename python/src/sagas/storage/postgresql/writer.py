@@ -22,6 +22,7 @@ from sagas.base.logger import logger
 from sagas.core.shard.batch import Batch, Tail
 from sagas.storage.interface import CommitCallback
 from sagas.storage.postgresql import connections
+from sagas.storage.postgresql.application_name import Purpose
 from sagas.storage.postgresql.commit_statement import HAS_MOVED, Commit
 from sagas.storage.postgresql.wire import Values, Wire
 from sagas.storage.record_file import RecordFile
@@ -155,7 +156,7 @@ class Writer:
             self._write(wire, batches, functools.partial(self._came, batches, then))
 
     async def _connected(self) -> connections.Link:
-        connection = await connections.connect(self._url, connections.REPEATED)
+        connection = await connections.connect(self._url, Purpose.COMMIT, connections.REPEATED)
         try:
             await self._check(connection)
         except BaseException:
