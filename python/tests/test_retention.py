@@ -330,14 +330,14 @@ KILLED = """
         count += 1
         return right(self, text, *words)
     kind.changed = changed
-    synced, files = archive._synced, 0
+    synced, files = archive.write_synced, 0
     def written(path, text):
         global files
         files += 1
         if point < 0 and files == 3:
             os._exit(9)
         return synced(path, text)
-    archive._synced = written
+    archive.write_synced = written
     print(retention.prune(sys.argv[1], 30 * 86400.0, sys.argv[2]).sagas)
 """
 
@@ -426,7 +426,7 @@ def test_a_log_is_deleted_during_its_export(location: str, tmp_path: pathlib.Pat
 def test_a_forked_child_keeps_no_archive(tmp_path: pathlib.Path) -> None:
     """A process that forks while a log is written does not block a later one."""
     reader, writer = os.pipe()
-    with archive._locked(tmp_path):
+    with archive.locked(tmp_path):
         child = os.fork()
         if child == 0:
             os.close(writer)

@@ -21,7 +21,7 @@ from sagas.storage import queries, store_name
 from sagas.storage.filters import Filter
 from sagas.storage.operator_requests import ANSWER, ASK, ASK_START, WITHDRAW
 from sagas.storage.sqlite import store_file
-from sagas.storage.sqlite.schema import VERSION
+from sagas.storage.sqlite.schema import DELETED_SAGAS, VERSION
 
 Row = tuple[Any, ...]
 CANNOT = 4
@@ -69,6 +69,15 @@ class Source(Protocol):
 
     def transaction(self) -> contextlib.AbstractContextManager[object]:
         """Write all that is written within the block, or nothing."""
+
+    def migrate(self) -> None:
+        """Create the tables that a store of an older release does not have.
+
+        Raises `InvalidStore` if this user may not create them.
+        """
+
+    def has_table(self, name: str) -> bool:
+        """Return whether the store has a table: a store of an older release may not."""
 
     def now(self) -> float:
         """Return the time by the store's own clock, in seconds."""
@@ -213,6 +222,12 @@ class FileSource:
                 self.connection.execute("ROLLBACK")
             raise
 
+    def migrate(self) -> None:
+        self._run(DELETED_SAGAS)
+
+    def has_table(self, name: str) -> bool:
+        return bool(self.ask("SELECT 1 FROM sqlite_master WHERE type = 'table' AND name = ?", name))
+
     def now(self) -> float:
         return time.time()
 
@@ -328,6 +343,15 @@ class DatabaseSource:
     def transaction(self) -> Iterator[None]:
         with self._translating_errors(), self.connection.transaction():
             yield
+
+    def migrate(self) -> None:
+        from sagas.storage.postgresql import schema
+
+        with self._translating_errors():
+            schema.migrate(self.connection, self.name)
+
+    def has_table(self, name: str) -> bool:
+        return bool(self.ask("SELECT to_regclass('sagas.' || ?) IS NOT NULL", name)[0][0])
 
     def now(self) -> float:
         return float(self.ask("SELECT extract(epoch FROM now())")[0][0])
