@@ -124,7 +124,7 @@ class Run:
 
     link: Source
     before: float
-    export: pathlib.Path | None
+    export: str | os.PathLike[str] | None
     max_sagas: int
     has_blobs: bool
     stop: threading.Event
@@ -173,8 +173,7 @@ def prune(
             return pruned
         link.migrate()
         before = min(clock(), link.now()) - keep
-        folder = None if export is None else pathlib.Path(export)
-        run = Run(link, before, folder, max_sagas, has_blobs, stop, pruned)
+        run = Run(link, before, export, max_sagas, has_blobs, stop, pruned)
         prune_shards(run)
         prune_families(run)
         pruned.starts = link.drop_refused(before)
@@ -196,8 +195,9 @@ def prune_shards(run: Run) -> None:
         ((log, sagas),) = rows
         if not run.has_room(sagas):
             return
-        if run.export is not None and archive.write(link, shard, run.export) is None:
-            continue  # another program has deleted it
+        if run.export is not None:
+            if archive.write(link, shard, pathlib.Path(run.export)) is None:
+                continue  # another program has deleted it
         began = time.monotonic()
         if _delete(link, shard, run.blobs):
             pruned.logs.append(log)
@@ -244,7 +244,7 @@ def prune_families(run: Run) -> None:
 def _prune_batch(run: Run, batch: families.Batch) -> None:
     """Export and delete a batch of families."""
     if run.export is not None:
-        family_archive.append(run.link, batch.ids, run.export)
+        family_archive.append(run.link, batch.ids, pathlib.Path(run.export))
     began = time.monotonic()
     deleted = families.delete(run.link, batch, run.before, run.blobs)
     run.pruned.families += deleted.family_count
