@@ -154,7 +154,7 @@ def audit_shard(store: Snapshot, log: int) -> ShardAudit:
         if id not in keys and id not in deleted
     ]
     result.differences += compare_marks(marks, events, keys)
-    events.forget_attempts(deleted)
+    events.forget_attempts(deleted - keys.keys())
     result.differences += compare_attempts(store, log, events, keys, texts)
     return result
 
