@@ -54,6 +54,8 @@ THRESHOLD = 300
 EVERY = datetime.timedelta(seconds=1)
 RETENTION = datetime.timedelta(seconds=1.5)
 WORKER_LEASE = 1.0
+VISAS = 3
+"""Sagas that wait for approvals in a round with retention."""
 LATER = (sagas.TemporaryError, sagas.OwnerUnavailable)
 """The errors after which a call is repeated."""
 
@@ -67,6 +69,7 @@ class Node:
         self.has, self.note = self.shop.has, self.shop.note
         self.store = self._store()
         self.finished = self._finished_before()
+        self.are_callers_done = False
 
     @property
     def is_quiet(self) -> bool:
@@ -181,8 +184,21 @@ class Node:
             async with slots:
                 await self._run_saga(number)
 
+        if self.has("retention") and self.name == "one":
+            await self._start_visas()
         await asyncio.gather(*map(start_in_turn, numbers))
+        self.are_callers_done = True
         print("done", flush=True)
+
+    async def _start_visas(self) -> None:
+        """Start sagas whose approvals are given when the callers are done."""
+        for number in range(self.settings.count, self.settings.count + VISAS):
+            key, order = f"k{number}", order_of(number)
+            if key not in self.finished:
+                with contextlib.suppress(sagas.KeyConflict):  # it is erased
+                    start, options = self.store.start, {"labels": labels_of(number)}
+                    await self._surely(lambda: start(self.shop.visa, key, order, **options))
+                    self.note(what="started", key=key)
 
     async def _run_saga(self, number: int) -> None:
         """Run a saga to its end, and report each reply to the witness once it arrives."""
@@ -370,6 +386,8 @@ class Node:
 
     async def _answer(self, entry: sagas.Attention) -> None:
         """Resolve one attempt as an operator; note each decision before and after the call."""
+        if entry.why == "approval" and not self.are_callers_done:
+            return
         if entry.step is None or entry.why in ("stuck", "undo_failed"):
             await self.store.resolve(entry.key, "an operator saw to it")
             self.note(what="resolved", key=entry.key)
