@@ -1,4 +1,4 @@
-"""The verifier's checks of single sagas that retention deleted in a round of `kills_features.py`."""
+"""The verifier's checks of single sagas that retention deleted in a round of features."""
 
 from __future__ import annotations
 

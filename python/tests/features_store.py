@@ -23,6 +23,7 @@ from judge import Event, ends_of
 from records import LogRows
 
 Json = dict[str, Any]
+Row = tuple[Any, ...]
 STEP = re.compile(r'^name = "(.*)"\n(?:# of (.*)\n)?', re.M)
 VERSION = re.compile(r"^# version (\d+)$", re.M)
 CHILDREN = {"stay": "hotel", "rest": "spa", "parts": "parcel"}
@@ -71,6 +72,7 @@ class Instance:
     values: dict[tuple[str, str, int], tuple[str, Any]]
     """By step, `run` or `undo`, and attempt: the event, and the value."""
     is_archived: bool = False
+    started: float = 0.0
     ended: float | None = None
     events: list[tuple[float | None, Json]] = field(default_factory=list)
 
@@ -195,12 +197,14 @@ class FeatureStore:
         """Return the tokens of the children that a saga undoes.
 
         They are in its input. If the input was in the blob store and the saga is in an archive,
-        they are found by its key.
+        the child is found by its key: it is the last one that ended before.
         """
         if isinstance(instance.input, dict) and "token" in instance.input:
             return [instance.input["token"]]
         child = re.sub(r":undo(?:/\d+)?", "", instance.key)
-        return [other.token for other in self.of(child)]
+        ends = {other.ended or 0.0: other.token for other in self.of(child)}
+        before = [end for end in ends if end <= instance.started]
+        return [ends[max(before)]] if before else [*ends.values()]
 
     def of(self, key: str) -> list[Instance]:
         """Return the sagas that have, or had, a key."""
@@ -211,9 +215,9 @@ class FeatureStore:
         return rows_of(self.settings.direct, query)
 
     def _stored(self) -> Iterator[Instance]:
-        stored, more = self.records, dict[int, tuple[float | None, str | None, float | None]]()
-        for id, *columns in self.rows("SELECT id, deadline, note, ended FROM sagas"):
-            more[id] = columns[0], columns[1], columns[2]
+        stored, more = self.records, dict[int, Row]()
+        for id, *columns in self.rows("SELECT id, deadline, note, at, ended FROM sagas"):
+            more[id] = (*columns,)
         labels: dict[int, dict[str, str]] = {}
         for id, name, value in self.rows("SELECT id, name, value FROM labels"):
             labels.setdefault(id, {})[name] = value
@@ -233,7 +237,7 @@ class FeatureStore:
                 continue
             text = log.texts[row.definition_index]
             saga, steps = names[row.log][row.definition_index]
-            deadline, note, ended = more.get(row.id, (None, None, None))
+            deadline, note, started, ended = more.get(row.id, (None, None, 0.0, None))
             outcomes = {
                 (steps[step], kind, number): (event, self.values.read(value))
                 for step, kind, number, event, value in values.get(row.id, [])
@@ -251,6 +255,7 @@ class FeatureStore:
                 labels.get(row.id, {}),
                 deadline,
                 outcomes,
+                started=started,
                 ended=ended,
                 events=times.get(row.log, {}).get(row.number, []),
             )
@@ -320,6 +325,7 @@ class FeatureStore:
                 for (step, *rest), (event, value) in values.items()
             },
             is_archived=True,
+            started=entry["started"],
             ended=entry["ended"],
             events=[(None, event) for event in log.events if event["saga"] == entry["number"]],
         )

@@ -382,12 +382,12 @@ class Node:
                         await self._answer(entry)
                 if self.is_quiet and self.has("early"):
                     await self._report_late()
+                if self.are_callers_done and self.has("retention"):
+                    await self._approve()
             await asyncio.sleep(random.uniform(0.05, 0.3))
 
     async def _answer(self, entry: sagas.Attention) -> None:
         """Resolve one attempt as an operator; note each decision before and after the call."""
-        if entry.why == "approval" and not self.are_callers_done:
-            return
         if entry.step is None or entry.why in ("stuck", "undo_failed"):
             await self.store.resolve(entry.key, "an operator saw to it")
             self.note(what="resolved", key=entry.key)
@@ -428,6 +428,15 @@ class Node:
                 report = {"key": summary.key, "step": "paper", "kind": "run", "word": "complete"}
                 self.note(what="answering", why="late", value=value, **report)
                 await self.store.complete(summary.key, "paper", value)
+
+    async def _approve(self) -> None:
+        """Give the approvals for which sagas have waited."""
+        for summary in await self.store.list(phase="open", saga="visa"):
+            with contextlib.suppress(sagas.ConflictError, sagas.InvalidError):
+                value = {"by": summary.key}
+                report = {"key": summary.key, "step": "sign", "kind": "run", "word": "complete"}
+                self.note(what="answering", why="approval", value=value, **report)
+                await self.store.complete(summary.key, "sign", value)
 
     async def _worker(self) -> None:
         """Work on the tasks of this node, whichever node drives their sagas."""
