@@ -85,8 +85,8 @@ def trip() -> list[sagas.Saga]:
 
 def age(location: str, *keys: str, days: int = 40) -> None:
     """Set the time at which all ended sagas ended, or those whose keys begin with one of these."""
-    where = " OR ".join(f"key LIKE '{key}%'" for key in keys) or "1 = 1"
-    change(location, f"UPDATE sagas SET ended = ended - {days} * 86400.0 WHERE {where}")
+    condition = " OR ".join(f"key LIKE '{key}%'" for key in keys) or "1 = 1"
+    change(location, f"UPDATE sagas SET ended = ended - {days} * 86400.0 WHERE {condition}")
 
 
 def rows(location: str, query: str) -> list[tuple[Any, ...]]:
@@ -242,8 +242,8 @@ def test_what_is_needed_stays(location: str) -> None:
         "SELECT 'd', 'hook', 'saga.completed', id, key, '', 1 FROM sagas WHERE key = 'k'"
     )
     attempt = (
-        "INSERT INTO external_attempts(attempt, shard, id, step, action, number, task, offered_at{0}) "
-        "SELECT 'x', id / 1000, id, 0, 'run', 1, 'review/take/run', 1{1} FROM sagas WHERE key = 'k'"
+        "INSERT INTO external_attempts(attempt, shard, id, step, action, number, task, offered_at"
+        "{0}) SELECT 'x', id / 1000, id, 0, 'run', 1, 'review/take/run', 1{1} FROM sagas WHERE key = 'k'"
     )
     held = (
         "INSERT INTO suspensions(id, step, action, number, reason, count, since) "
@@ -280,7 +280,7 @@ def test_what_is_needed_stays(location: str) -> None:
     change(location, "UPDATE sagas SET phase = NULL, note = NULL WHERE key = 'w'")
 
 
-def test_the_audit_tells_deleted_sagas_from_lost_ones(
+def test_the_audit_finds_lost_sagas_among_deleted_ones(
     location: str, capsys: pytest.CaptureFixture[str]
 ) -> None:
     """A row that is missing without a mark, a mark with a row, and a mark of an open saga are
@@ -615,7 +615,7 @@ def test_an_incomplete_last_line_is_replaced(tmp_path: pathlib.Path) -> None:
 
 
 def test_values_outside_of_the_database_are_deleted(location: str, tmp_path: pathlib.Path) -> None:
-    """Those of deleted sagas are gone after the run, and no other one is; the codec is not needed."""
+    """Those of deleted sagas are gone after the run, and no other one is."""
     kind, folder = review(), tmp_path / "blobs"
     events = list[sagas.Event]()
 

@@ -3,7 +3,7 @@
 Retention deletes families of shards that remain. A family is deleted as a whole: its sagas read
 each other while they are open, and the keys of descendants are below the key of the root. The rows
 of a saga are replaced by a mark in `deleted_sagas`, and its events stay in the event log of its
-shard. So the audit tells a deleted saga from one whose rows were lost.
+shard. So in an audit, a deleted saga differs from one whose rows were lost.
 """
 
 from __future__ import annotations
@@ -127,7 +127,7 @@ def due_roots(link: Source, after: int, end: int, before: float) -> list[int]:
 
 
 def batches(link: Source, roots: Ids, before: float) -> Iterator[Batch]:
-    """Yield the families of these roots of which each saga is due, in batches.
+    """Yield the families of these roots in batches, if all of their sagas are due.
 
     Args:
         link: The connection.
@@ -149,7 +149,7 @@ def batches(link: Source, roots: Ids, before: float) -> Iterator[Batch]:
 
 
 def _families(link: Source, roots: Ids, before: float) -> Iterator[list[int]]:
-    """Yield the sagas of each family of which each saga is due, descendants first."""
+    """Yield the sagas of each family if all of them are due, descendants first."""
     rows = _rows(link, TREES, roots, before)
     for _, members in itertools.groupby(rows, key=lambda row: int(row[0])):
         family = [*members]
