@@ -243,7 +243,8 @@ def test_what_is_needed_stays(location: str) -> None:
     )
     attempt = (
         "INSERT INTO external_attempts(attempt, shard, id, step, action, number, task, offered_at"
-        "{0}) SELECT 'x', id / 1000, id, 0, 'run', 1, 'review/take/run', 1{1} FROM sagas WHERE key = 'k'"
+        "{0}) SELECT 'x', id / 1000, id, 0, 'run', 1, 'review/take/run', 1{1} FROM sagas "
+        "WHERE key = 'k'"
     )
     held = (
         "INSERT INTO suspensions(id, step, action, number, reason, count, since) "
