@@ -288,7 +288,7 @@ class FeatureStore:
         for path in sorted(folder.glob("families-*.jsonl")):
             for entry in map(json.loads, path.read_text().splitlines()):
                 token = f"{entry['name']}-{entry['number']}"
-                if token not in known:
+                if token not in known and entry["name"] in logs:
                     known.add(token)
                     yield self._archived_saga(logs[entry["name"]], entry)
 
