@@ -699,11 +699,11 @@ def test_the_command_prints_both_counts(
     }
 
 
-def test_a_store_of_an_older_release(location: str, capsys: pytest.CaptureFixture[str]) -> None:
+def test_a_file_of_an_older_release(
+    tmp_path: pathlib.Path, capsys: pytest.CaptureFixture[str]
+) -> None:
     """It has no table of marks: its audit is the same, and a run creates the table."""
-    if location.startswith("postgresql:"):
-        pytest.skip("test_upgrade has the tables that an owner adds")
-    kind = review()
+    kind, location = review(), str(tmp_path / "store.db")
 
     async def main() -> None:
         async with sagas.open(location, [kind]) as store:
@@ -719,6 +719,24 @@ def test_a_store_of_an_older_release(location: str, capsys: pytest.CaptureFixtur
     change(location, "PRAGMA user_version = 99")
     with pytest.raises(admin.Trouble, match="version 99"):
         retention.prune(location, MONTH)
+
+
+def test_a_database_of_an_older_release(url: str, capsys: pytest.CaptureFixture[str]) -> None:
+    """The same, over PostgreSQL."""
+    kind = review()
+
+    async def main() -> None:
+        async with sagas.open(url, [kind]) as store:
+            await store.start(kind, "w", "wait")
+            await ended(store, kind, "a")
+
+    run(main())
+    change(url, "DROP TABLE deleted_sagas")
+    assert is_good(url, capsys)
+    age(url, "a")
+    assert retention.prune(url, MONTH).sagas == 1 and is_good(url, capsys)
+    run(main())
+    assert keys(url) == {"a", "w"} and is_good(url, capsys)
 
 
 def plan_of(link: admin.Source, query: str, *parameters: Any) -> str:
