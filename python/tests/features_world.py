@@ -256,8 +256,8 @@ class Node:
             return
         new = f"{key}x"
         works = [self._surely(lambda: self.store.restart(key, new)) for _ in range(2)]
-        # the next release does not have it, one of the two is erased, or the old one was deleted and
-        # started again since, so that the new one is a restart of another saga
+        # the next release does not have it, one of the two is erased, or the old one was deleted
+        # and started again since, so that the new one is a restart of another saga
         refusals = sagas.DefinitionError, sagas.NotRestartable, sagas.KeyConflict
         is_free = self.has("erase") or self.has("retention")
         with contextlib.suppress(*refusals if is_free else refusals[:1]):

@@ -590,7 +590,7 @@ def test_a_run_that_is_killed(
     environment = os.environ | {"PYTHONPATH": paths, "SAGAS_PROGRAM": program()}
     command = [sys.executable, str(script), location, str(folder)]
     last = len(families.OF_IDS) + 1
-    for point in (0, 1, 2, last // 2, last - 1):
+    for point in range(last):
         done = subprocess.run(
             [*command, str(point)], env=environment, capture_output=True, text=True
         )
