@@ -443,6 +443,39 @@ def test_another_node_takes_a_part_deleted_shard_over(
     assert shards and all(shard["good"] and not shard["ends_lost"] for shard in shards)
 
 
+def test_a_family_in_the_shards_of_two_nodes(url: str, capsys: pytest.CaptureFixture[str]) -> None:
+    """A node took the shard of the root over, and started the child in its own shard. Both shards
+    keep other sagas.
+    """
+    room, trip = sagas.Saga("room"), sagas.Saga("trip")
+    room.step(name="key", keep=9)(lambda task: "key").compensation(lambda task: None)
+    sign = trip.approval(name="sign")(lambda task: None)
+    trip.child(room, name="stay", input=lambda task: None, needs=[sign])
+
+    async def main() -> None:
+        async with sagas.open(url, [trip, room], node="one", lease=2) as first:
+            for key in ("f", "w"):
+                await first.start(trip, key)
+            async with sagas.open(url, [trip, room], node="two", lease=2) as second:
+                await first.close()
+                await second.complete("f", "sign", True)
+                assert (await second.wait("f", 60)).ok
+                await second.start(trip, "x")
+                age(url, "f")
+                shards = rows(url, "SELECT id / 1000 FROM sagas WHERE key IN ('f', 'f/:stay')")
+                assert len({*shards}) == 2
+                pruned = await asyncio.to_thread(retention.prune, url, MONTH)
+                assert (pruned.families, pruned.family_sagas) == (1, 2)
+                assert {(id // 1000,) for id in marks(url)} == {*shards}
+                for key in "wx":
+                    await second.complete(key, "sign", True)
+                    assert (await second.wait(key, 60)).ok
+
+    run(main())
+    assert is_good(url, capsys)
+    assert keys(url) == {"w", "w/:stay", "x", "x/:stay"}
+
+
 @pytest.mark.parametrize("is_deleted", [True, False])
 @pytest.mark.parametrize("starter", ["node", "client"])
 def test_a_start_during_the_deletion(
