@@ -321,7 +321,7 @@ def erased_result_kept() -> None:
 @variant("erased", "erase", "child", count=16, seconds=3.0)
 def erased_child_kept() -> None:
     """An erasure leaves the sagas below the erased one in place."""
-    tree = "SELECT id, key, phase, 0 FROM sagas WHERE id = ?"
+    tree = "SELECT id, key, phase, 0, 0 FROM sagas WHERE id = ?"
     setattr(erasures, "TREE", tree)
 
 
