@@ -181,12 +181,10 @@ def test_a_family_is_deleted_as_a_whole(location: str, capsys: pytest.CaptureFix
             await store.wait("w/:stay/:room", 60)
 
     run(main())
-    below = {"/:stay", "/:stay/:room"}
-    undone = {"/:stay:undo", "/:stay:undo/:room"}
-    every = {f"{key}{part}" for key in "abw" for part in below | {""}}
-    assert keys(location) >= every and len(keys(location)) > len(every), undone
     age(location, "a", "w", "b")
     before = keys(location)
+    assert {"w/:stay/:room", "a/:stay/:room", "b/:stay/:room"} < before
+    assert any(key.startswith("b/:stay:undo") for key in before)
     change(location, f"UPDATE sagas SET ended = ended + {39 * DAY} WHERE key = 'a/:stay/:room'")
     pruned = retention.prune(location, MONTH)
     of_b = {key for key in before if key.startswith("b")}
@@ -732,9 +730,7 @@ def test_the_command_prints_both_counts(
     }
 
 
-def test_a_file_of_an_older_release(
-    tmp_path: pathlib.Path, capsys: pytest.CaptureFixture[str]
-) -> None:
+def test_a_file_of_an_older_release(tmp_path: pathlib.Path, capsys: Any) -> None:
     """It has no table of marks: its audit is the same, and a run creates the table."""
     kind, location = review(), str(tmp_path / "store.db")
 
