@@ -17,6 +17,7 @@ from typing import Any
 
 import judge as stores
 from driving import audit
+from features_deleted import DeletionCheck
 from features_erased import DECIDED, ErasureCheck
 from features_shop import (
     MARK,
@@ -48,7 +49,9 @@ FAULTS = stores.FAULTS | {
     "context": "a function got a context that its program had not entered, or had left",
     "deadline": "a step began long after the deadline, or the saga completed then",
     "early-lost": "a report before the step was acknowledged, and the step ended otherwise",
+    "deleted-early": "a saga was deleted before its retention was over",
     "erased": "an erased saga has a value somewhere, no decision, or a saga below it is not erased",
+    "family": "a saga was deleted before one above it, or was left when that one was deleted",
     "item": "a function got the item of another step",
     "labels": "a saga has other labels than those of its start, or of its parent",
     "limit": "more functions ran at once than a limit by key allows",
@@ -155,13 +158,14 @@ class FeatureJudge(stores.Judge):
         self._posts()
         self._values()
         self._erased()
+        self._deleted()
         self._count()
         assert isinstance(self.verdict, FeatureVerdict)
         return self.verdict
 
     def _archives(self) -> None:
         folder = pathlib.Path(self.settings.folder, "archive")
-        for shard in sorted(folder.glob("[!.]*")) if folder.exists() else ():
+        for shard in sorted(path.parent for path in folder.glob("[!.]*/about.json")):
             result = audit(shard / "log", sorted(shard.glob("definition-*.toml")))
             if not result.startswith("yes"):
                 self.verdict.fault("audit", f"{shard.name}: {result}")
@@ -704,6 +708,14 @@ class FeatureJudge(stores.Judge):
         self.erasures.check(decided, self.stored.values.blobs)
         self.erasures.search(texts)
         self.verdict.figures["erased"] += len(self.erasures.erased)
+
+    def _deleted(self) -> None:
+        """Check the sagas that were deleted from shards that remained."""
+        if "retention" in self.options:
+            folder = pathlib.Path(self.settings.folder, "archive")
+            deletions = DeletionCheck(self.stored.by_key, self.verdict.fault, folder)
+            deletions.check(self.stored.rows, self.settings.direct)
+            self.verdict.figures["deleted one by one"] += deletions.count
 
     def _texts(
         self,

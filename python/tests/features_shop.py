@@ -168,6 +168,9 @@ class Shop:
             self.main = self._main(version, like)
         if queue is not None:
             self.post = self._post()
+        self.visa = self._visa()
+        if self.has("retention"):
+            self.sagas.append(self.visa)
 
     def has(self, option: str) -> bool:
         """Return whether the round has a feature."""
@@ -475,6 +478,14 @@ class Shop:
         toll = self.step(tick, "toll", tries=2)
         self.step(tick, "bell", needs=[toll], failing=0.2)
         return tick
+
+    def _visa(self) -> sagas.Saga:
+        """Return a saga that waits for an approval, while retention deletes others."""
+        visa = sagas.Saga("visa", backoff=QUICK)
+        apply = self.step(visa, "apply", tries=2)
+        sign = visa.approval(name="sign", needs=[apply])(lambda task: None)
+        self.step(visa, "enter", needs=[sign], failing=0.2)
+        return visa
 
     def _post(self) -> sagas.Saga:
         """Return a saga for which Celery workers do two steps."""

@@ -23,14 +23,17 @@ from judge import Event, ends_of
 from records import LogRows
 
 Json = dict[str, Any]
+Row = tuple[Any, ...]
 STEP = re.compile(r'^name = "(.*)"\n(?:# of (.*)\n)?', re.M)
 VERSION = re.compile(r"^# version (\d+)$", re.M)
 CHILDREN = {"stay": "hotel", "rest": "spa", "parts": "parcel"}
 """Steps that start children, and the sagas of these."""
-SILENT = {"paper"}
+SILENT = {"paper", "sign"}
 """Steps without a function."""
-NOT_UNDONE = {"paper", "pause"}
+NOT_UNDONE = {"paper", "pause", "sign"}
 """Steps without a compensation."""
+FAMILIES = "families"
+"""The folder of an archive directory that has no shard, but families of shards that remained."""
 GOOD = ("commit", "undone")
 FAILED = "$failed"
 """The only name in the stored result of an optional step that failed."""
@@ -69,6 +72,8 @@ class Instance:
     values: dict[tuple[str, str, int], tuple[str, Any]]
     """By step, `run` or `undo`, and attempt: the event, and the value."""
     is_archived: bool = False
+    started: float = 0.0
+    ended: float | None = None
     events: list[tuple[float | None, Json]] = field(default_factory=list)
 
     def __post_init__(self) -> None:
@@ -176,7 +181,9 @@ class FeatureStore:
         self.settings, self.values = settings, Values(settings)
         self.records = records.read(settings.direct)
         self.undefined: list[str] = []
+        self.archived_logs: dict[str, LogRows] = {}
         self.instances = [*self._stored(), *self._archived()]
+        self.instances += self._of_families({instance.token for instance in self.instances})
         self.by_token = {instance.token: instance for instance in self.instances}
         self.by_key: dict[str, list[Instance]] = {}
         for instance in self.instances:
@@ -190,12 +197,14 @@ class FeatureStore:
         """Return the tokens of the children that a saga undoes.
 
         They are in its input. If the input was in the blob store and the saga is in an archive,
-        they are found by its key.
+        the child is found by its key: it is the last one that ended before.
         """
         if isinstance(instance.input, dict) and "token" in instance.input:
             return [instance.input["token"]]
         child = re.sub(r":undo(?:/\d+)?", "", instance.key)
-        return [other.token for other in self.of(child)]
+        ends = {other.ended or 0.0: other.token for other in self.of(child)}
+        before = [end for end in ends if end <= instance.started]
+        return [ends[max(before)]] if before else [*ends.values()]
 
     def of(self, key: str) -> list[Instance]:
         """Return the sagas that have, or had, a key."""
@@ -206,9 +215,9 @@ class FeatureStore:
         return rows_of(self.settings.direct, query)
 
     def _stored(self) -> Iterator[Instance]:
-        stored, more = self.records, dict[int, tuple[float | None, str | None]]()
-        for id, deadline, note in self.rows("SELECT id, deadline, note FROM sagas"):
-            more[id] = deadline, note
+        stored, more = self.records, dict[int, Row]()
+        for id, *columns in self.rows("SELECT id, deadline, note, at, ended FROM sagas"):
+            more[id] = (*columns,)
         labels: dict[int, dict[str, str]] = {}
         for id, name, value in self.rows("SELECT id, name, value FROM labels"):
             labels.setdefault(id, {})[name] = value
@@ -228,7 +237,7 @@ class FeatureStore:
                 continue
             text = log.texts[row.definition_index]
             saga, steps = names[row.log][row.definition_index]
-            deadline, note = more.get(row.id, (None, None))
+            deadline, note, started, ended = more.get(row.id, (None, None, 0.0, None))
             outcomes = {
                 (steps[step], kind, number): (event, self.values.read(value))
                 for step, kind, number, event, value in values.get(row.id, [])
@@ -246,6 +255,8 @@ class FeatureStore:
                 labels.get(row.id, {}),
                 deadline,
                 outcomes,
+                started=started,
+                ended=ended,
                 events=times.get(row.log, {}).get(row.number, []),
             )
 
@@ -257,15 +268,29 @@ class FeatureStore:
 
     def _archived(self) -> Iterator[Instance]:
         there = {log.name for log in self.records.logs.values()}
-        for folder in sorted(pathlib.Path(self.settings.folder, "archive").glob("[!.]*")):
+        archive = pathlib.Path(self.settings.folder, "archive")
+        for folder in sorted(archive.glob("[!.]*/about.json")):
+            folder = folder.parent
             name = json.loads((folder / "about.json").read_text())["name"]
             if name in there:
                 continue
             texts = [path.read_text() for path in sorted(folder.glob("definition-*.toml"))]
             lines = (folder / "log").read_text().partition("\n")[2]
-            log = LogRows(-1, name, True, texts, [(0, lines)])
+            log = self.archived_logs[name] = LogRows(-1, name, True, texts, [(0, lines)])
             for line in (folder / "sagas.jsonl").read_text().splitlines():
-                yield self._archived_saga(log, json.loads(line))
+                if "deleted" not in (entry := json.loads(line)):
+                    yield self._archived_saga(log, entry)
+
+    def _of_families(self, known: set[str]) -> Iterator[Instance]:
+        """Yield the deleted sagas of shards that remained: each once, if it is not known."""
+        logs = {log.name: log for log in self.records.logs.values()} | self.archived_logs
+        folder = pathlib.Path(self.settings.folder, "archive", FAMILIES)
+        for path in sorted(folder.glob("families-*.jsonl")):
+            for entry in map(json.loads, path.read_text().splitlines()):
+                token = f"{entry['name']}-{entry['number']}"
+                if token not in known and entry["name"] in logs:
+                    known.add(token)
+                    yield self._archived_saga(logs[entry["name"]], entry)
 
     def _archived_saga(self, log: LogRows, entry: Json) -> Instance:
         values = {
@@ -300,5 +325,7 @@ class FeatureStore:
                 for (step, *rest), (event, value) in values.items()
             },
             is_archived=True,
+            started=entry["started"],
+            ended=entry["ended"],
             events=[(None, event) for event in log.events if event["saga"] == entry["number"]],
         )

@@ -54,6 +54,8 @@ THRESHOLD = 300
 EVERY = datetime.timedelta(seconds=1)
 RETENTION = datetime.timedelta(seconds=1.5)
 WORKER_LEASE = 1.0
+VISAS = 3
+"""Sagas that wait for approvals in a round with retention."""
 LATER = (sagas.TemporaryError, sagas.OwnerUnavailable)
 """The errors after which a call is repeated."""
 
@@ -67,6 +69,7 @@ class Node:
         self.has, self.note = self.shop.has, self.shop.note
         self.store = self._store()
         self.finished = self._finished_before()
+        self.are_callers_done = False
 
     @property
     def is_quiet(self) -> bool:
@@ -181,8 +184,21 @@ class Node:
             async with slots:
                 await self._run_saga(number)
 
+        if self.has("retention") and self.name == "one":
+            await self._start_visas()
         await asyncio.gather(*map(start_in_turn, numbers))
+        self.are_callers_done = True
         print("done", flush=True)
+
+    async def _start_visas(self) -> None:
+        """Start sagas whose approvals are given when the callers are done."""
+        for number in range(self.settings.count, self.settings.count + VISAS):
+            key, order = f"k{number}", order_of(number)
+            if key not in self.finished:
+                with contextlib.suppress(sagas.KeyConflict):  # it is erased
+                    start, options = self.store.start, {"labels": labels_of(number)}
+                    await self._surely(lambda: start(self.shop.visa, key, order, **options))
+                    self.note(what="started", key=key)
 
     async def _run_saga(self, number: int) -> None:
         """Run a saga to its end, and report each reply to the witness once it arrives."""
@@ -240,9 +256,11 @@ class Node:
             return
         new = f"{key}x"
         works = [self._surely(lambda: self.store.restart(key, new)) for _ in range(2)]
-        # the next release does not have it, or one of the two is erased
+        # the next release does not have it, one of the two is erased, or the old one was deleted
+        # and started again since, so that the new one is a restart of another saga
         refusals = sagas.DefinitionError, sagas.NotRestartable, sagas.KeyConflict
-        with contextlib.suppress(*refusals if self.has("erase") else refusals[:1]):
+        is_free = self.has("erase") or self.has("retention")
+        with contextlib.suppress(*refusals if is_free else refusals[:1]):
             run, _ = await asyncio.gather(*works)
             self.note(what="started", key=new)
             self._over(new, await self._surely(run.wait))
@@ -366,6 +384,8 @@ class Node:
                         await self._answer(entry)
                 if self.is_quiet and self.has("early"):
                     await self._report_late()
+                if self.are_callers_done and self.has("retention"):
+                    await self._approve()
             await asyncio.sleep(random.uniform(0.05, 0.3))
 
     async def _answer(self, entry: sagas.Attention) -> None:
@@ -410,6 +430,15 @@ class Node:
                 report = {"key": summary.key, "step": "paper", "kind": "run", "word": "complete"}
                 self.note(what="answering", why="late", value=value, **report)
                 await self.store.complete(summary.key, "paper", value)
+
+    async def _approve(self) -> None:
+        """Give the approvals for which sagas have waited."""
+        for summary in await self.store.list(phase="open", saga="visa"):
+            with contextlib.suppress(sagas.ConflictError, sagas.InvalidError):
+                value = {"by": summary.key}
+                report = {"key": summary.key, "step": "sign", "kind": "run", "word": "complete"}
+                self.note(what="answering", why="approval", value=value, **report)
+                await self.store.complete(summary.key, "sign", value)
 
     async def _worker(self) -> None:
         """Work on the tasks of this node, whichever node drives their sagas."""

@@ -34,7 +34,7 @@ from sagas.runtime.executor import EarlyReports
 from sagas.runtime.scheduler import Scheduler
 from sagas.runtime.shards import Shards
 from sagas.server import webhooks
-from sagas.storage import archive, blob_layer, erasures
+from sagas.storage import archive, blob_layer, erasures, families, family_archive
 
 
 @dataclasses.dataclass(frozen=True)
@@ -277,6 +277,24 @@ def deleted_without_archive() -> None:
     setattr(archive, "write", lambda link, log, folder: pathlib.Path(folder))
 
 
+@variant("family", "retention", "child", "deadline", count=20, seconds=6.0)
+def deleted_child_of_an_open_saga() -> None:
+    """Retention takes each ended saga for a root."""
+    setattr(families, "ROOTS", families.ROOTS.replace(families.IS_ROOT, "1 = 1"))
+
+
+@variant("keys", "retention", count=20, seconds=6.0)
+def deleted_without_mark() -> None:
+    """Retention deletes single sagas, and writes no marks."""
+    setattr(families, "_mark", lambda link, ids, at: None)
+
+
+@variant("lost", "retention", count=20, seconds=6.0)
+def family_deleted_without_export() -> None:
+    """Retention deletes families that it has not exported."""
+    setattr(family_archive, "append", lambda link, ids, folder: None)
+
+
 @variant("not-over", "drain", count=20, seconds=4.0)
 def moved_shard_not_loaded() -> None:
     """A node owns the shards that move to it, and does not execute them."""
@@ -303,7 +321,7 @@ def erased_result_kept() -> None:
 @variant("erased", "erase", "child", count=16, seconds=3.0)
 def erased_child_kept() -> None:
     """An erasure leaves the sagas below the erased one in place."""
-    tree = "SELECT id, key, phase, 0 FROM sagas WHERE id = ?"
+    tree = "SELECT id, key, phase, 0, 0 FROM sagas WHERE id = ?"
     setattr(erasures, "TREE", tree)
 
 

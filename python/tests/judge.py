@@ -165,19 +165,26 @@ class Judge:
                 fault("gap", f"log {log.log}: {first} after {at}")
             at = first + text.count("\n")
         rows = {row.number: row for row in self.records.sagas.values() if row.log == log.log}
-        self._audit(log, rows)
+        deleted = {
+            id % records.ROOM: phase
+            for id, phase in self.records.deleted.items()
+            if id // records.ROOM == log.log
+        }
+        self._audit(log, [row.phase for row in rows.values()] + [*deleted.values()])
         try:
             follower = follow(log.texts, log.events)
         except Illegal as error:
             fault("illegal", f"log {log.log}: {error}")
             return
-        if set(rows) != set(range(len(follower.sagas))):
-            fault(
-                "keys",
-                f"log {log.log} has {len(follower.sagas)} sagas, the database {sorted(rows)}",
-            )
+        numbers = sorted([*rows, *deleted])
+        if numbers != [*range(len(follower.sagas))]:
+            fault("keys", f"log {log.log} has {len(follower.sagas)} sagas, the database {numbers}")
             return
         for number, saga in enumerate(follower.sagas):
+            if number in deleted:
+                if not saga.is_over or saga.phase != deleted[number]:
+                    fault("end", f"{number} of log {log.log} was deleted, and is {saga.phase}")
+                continue
             row = rows[number]
             if not saga.is_over:
                 fault("not-over", f"{row.key} is {saga.phase} by its log")
@@ -197,11 +204,9 @@ class Judge:
                     f"{row.key}: {row.phase} {row.end}, by the log {saga.phase} {saga.states}",
                 )
 
-    def _audit(self, log: LogRows, rows: dict[int, SagaRow]) -> None:
-        stuck = sum(row.phase == "stuck" for row in rows.values())
-        wanted = (
-            f"yes sagas {len(rows)} ended {len(rows) - stuck} stuck {stuck} events {len(log.lines)}"
-        )
+    def _audit(self, log: LogRows, phases: list[str | None]) -> None:
+        stuck, count = phases.count("stuck"), len(phases)
+        wanted = f"yes sagas {count} ended {count - stuck} stuck {stuck} events {len(log.lines)}"
         with tempfile.TemporaryDirectory() as name:
             folder = pathlib.Path(name)
             (folder / "log").write_text(HEADER + "".join(text for _, text in log.chunks))

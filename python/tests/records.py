@@ -75,6 +75,8 @@ class Records:
     logs: dict[int, LogRows]
     sagas: dict[str, SagaRow]
     results: dict[tuple[int, int, str, int], Outcome]
+    deleted: dict[int, str] = field(default_factory=dict)
+    """The phases of the deleted sagas whose logs remain, by their ids."""
 
 
 def _lite(store: pathlib.Path | str) -> Iterator[Callable[[str], list[Any]]]:
@@ -120,7 +122,8 @@ def read(store: pathlib.Path | str) -> Records:
                 "SELECT id, step, action, number, event, value FROM attempts"
             )
         }
-        return Records(logs, sagas, results)
+        deleted = {id: phase for id, phase in ask("SELECT id, phase FROM deleted_sagas")}
+        return Records(logs, sagas, results, deleted)
 
 
 def integrity(store: pathlib.Path) -> str:

@@ -244,9 +244,24 @@ def test_a_message_that_comes_after_its_saga_was_deleted(late: Late) -> None:
             await until(lambda: rows(late.location, closed), 30)
 
     run(main())
-    assert retention.prune(late.location, -3600.0).sagas == 1
+    pruned = retention.prune(late.location, -3600.0)
+    assert len(pruned.logs) == 1 and pruned.sagas == 2
     with pytest.raises(sagas.WrongStore, match="saga 'k' .* late: the saga has been deleted"):
         open_worker_session(late.location).begin(late.orders[0])
+
+
+def test_a_message_that_comes_after_its_saga_was_deleted_from_its_shard(late: Late) -> None:
+    """It is late: the shard remains, and the attempt is closed."""
+
+    async def main() -> None:
+        async with late.held() as store:
+            await store.complete("k", "once", "by hand")
+            assert (await store.wait("k", 60)).ok
+            pruned = await asyncio.to_thread(retention.prune, late.location, -3600.0)
+            assert pruned.families == 1 and not pruned.logs
+            assert open_worker_session(late.location).begin(late.orders[0]) is None
+
+    run(main())
 
 
 class Here:

@@ -11,6 +11,7 @@ from collections.abc import Callable
 from typing import Any
 
 import fleet
+from features_store import rows_of
 import psycopg
 import pytest
 from cases import Task, ended, run, simple, until
@@ -212,8 +213,8 @@ def test_a_shard_that_was_deleted_is_not_judged(url: str, tmp_path: pathlib.Path
         async with sagas.open(url, [kind], record=tmp_path / "record") as store:
             assert (await ended(store, kind)).ok
         async with sagas.open(url, [kind], record=tmp_path / "record", retention=soon) as store:
-            while await store.get("k") is not None:
-                await asyncio.sleep(0.05)
+            await until(lambda: not rows_of(url, "SELECT 1 FROM shards"))
+            assert await store.get("k") is None
 
     run(main())
     assert any(fields[0] == "closed" for fields in fields_of(tmp_path / "record"))

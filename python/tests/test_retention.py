@@ -137,6 +137,7 @@ def tables(location: str) -> dict[str, int]:
                 "shards",
                 "event_log",
                 "sagas",
+                "deleted_sagas",
                 "attempts",
                 "suspensions",
                 "operator_commands",
@@ -146,8 +147,8 @@ def tables(location: str) -> dict[str, int]:
 
 
 def test_old_logs_are_deleted_as_a_whole(location: str, capsys: pytest.CaptureFixture[str]) -> None:
-    """Younger, open and unclosed ones stay; nothing is left of a deleted one; a free key takes
-    another input.
+    """Logs with younger sagas and open logs stay, without their old sagas; nothing is left of a
+    deleted log; a free key takes another input.
     """
     kind = shop()
     first, second, third = run(fill(location, kind, 3 * ROOM + 2))
@@ -166,16 +167,19 @@ def test_old_logs_are_deleted_as_a_whole(location: str, capsys: pytest.CaptureFi
     assert store_command.main([location, "prune", "--older-than", "30d", "--json"]) == 0
     report = json.loads(capsys.readouterr().out)
     kept = records.read(location)
-    assert report["sagas"] == ROOM and len(report["shards"]) == 1 and not report["more"]
+    families = ROOM + 1
+    assert (report["sagas"], report["families"]) == (ROOM + families, families)
+    assert len(report["shards"]) == 1 and not report["more"]
     assert sorted(kept.logs) == [second, third, open] and set(kept.sagas) == {
-        f"k{number}" for number in range(ROOM, 3 * ROOM + 2)
+        f"k{number}" for number in (ROOM, *range(2 * ROOM, 3 * ROOM))
     }
     after = tables(location)
     assert {table: before[table] - after[table] for table in before} == {
         "shards": 1,
         "event_log": before["event_log"] - after["event_log"],
-        "sagas": ROOM,
-        "attempts": 2 * ROOM,
+        "sagas": ROOM + families,
+        "deleted_sagas": -families,
+        "attempts": 2 * (ROOM + families),
         "suspensions": 0,
         "operator_commands": 1,
         "external_attempts": 0,
@@ -200,7 +204,10 @@ def test_old_logs_are_deleted_as_a_whole(location: str, capsys: pytest.CaptureFi
 
     run(again())
     assert store_command.main([location, "prune", "--older-than", "0s"]) == 0
-    assert f"deleted {2 * ROOM + 2} sagas (3 shards)" in capsys.readouterr().out
+    text = f"deleted {ROOM + 2} sagas (3 shards, and 1 family of other shards)"
+    assert text in capsys.readouterr().out
+    after = tables(location)
+    assert (after["shards"], after["sagas"], after["deleted_sagas"]) == (1, 0, 1)
 
 
 def test_sagas_that_need_an_operator_stay(location: str) -> None:
@@ -213,11 +220,13 @@ def test_sagas_that_need_an_operator_stay(location: str) -> None:
         )
         change(location, f"UPDATE shards SET closed = 2 WHERE shard = {second}")
         age(location, first, second)
-        assert retention.prune(location, MONTH).logs == []
+        gone = retention.prune(location, MONTH)
+        assert gone.logs == [] and gone.families == ROOM - 1
         async with sagas.open(location, [kind]) as store:
             await store.resolve("k1", "seen to")
         gone = retention.prune(location, MONTH)
-        assert gone.sagas == ROOM and set(records.read(location).logs) == {second}
+        assert gone.sagas == 1 and set(records.read(location).logs) == {second}
+        assert tables(location)["sagas"] == ROOM
 
     run(main())
 
@@ -330,14 +339,14 @@ KILLED = """
         count += 1
         return right(self, text, *words)
     kind.changed = changed
-    synced, files = archive._synced, 0
+    synced, files = archive.write_synced, 0
     def written(path, text):
         global files
         files += 1
         if point < 0 and files == 3:
             os._exit(9)
         return synced(path, text)
-    archive._synced = written
+    archive.write_synced = written
     print(retention.prune(sys.argv[1], 30 * 86400.0, sys.argv[2]).sagas)
 """
 
@@ -426,7 +435,7 @@ def test_a_log_is_deleted_during_its_export(location: str, tmp_path: pathlib.Pat
 def test_a_forked_child_keeps_no_archive(tmp_path: pathlib.Path) -> None:
     """A process that forks while a log is written does not block a later one."""
     reader, writer = os.pipe()
-    with archive._locked(tmp_path):
+    with archive.locked(tmp_path):
         child = os.fork()
         if child == 0:
             os.close(writer)
@@ -590,7 +599,8 @@ def test_a_child_stays_whose_shard_is_closed_during_the_run(
     change(location, f"UPDATE shards SET closed = 0 WHERE shard = {last}")
     closed = f"UPDATE shards SET closed = 1 WHERE shard = {last}"
     folder = ClosedMeanwhile(tmp_path / "archive", lambda: change(location, closed))
-    assert retention.prune(location, MONTH, folder).sagas == ROOM and folder.is_closed
+    gone = retention.prune(location, MONTH, folder)
+    assert (gone.sagas, gone.families) == (2 * ROOM - 1, ROOM - 1) and folder.is_closed
     assert shard_of("p/:made") == last
     assert retention.prune(location, MONTH).sagas == 0
 

@@ -105,8 +105,9 @@ def open(
         lease: Seconds, or a timedelta, without a heartbeat of a node after which other nodes
             execute its sagas (default: 10).
         retention: A timedelta for which ended sagas are kept (default: without limit). They are
-            deleted by whole shards; then their keys are free again.
-        archive_dir: A directory to which each shard is written before it is deleted.
+            deleted together with all sagas below them; then their keys are free again.
+        archive_dir: A directory to which shards and single sagas are written before they are
+            deleted.
         context: What functions get as `task.context` (default: none): an object; or a function that
             returns a context manager, which is entered and left together with the store.
         codec: Encodes inputs and results before they are stored, for example to encrypt them

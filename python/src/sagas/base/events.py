@@ -79,6 +79,7 @@ LEVELS = {
     "saga_undo_failed": logging.ERROR,
     "saga_unused_report": logging.WARNING,
     "shards_pruned": logging.INFO,
+    "sagas_pruned": logging.INFO,
     "audit_failed": logging.CRITICAL,
     "engine_died": logging.WARNING,
     "lease_expired": logging.WARNING,

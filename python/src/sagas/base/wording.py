@@ -1,9 +1,9 @@
 """Numbers of things in words, and texts in one line."""
 
 
-def number(count: int, word: str) -> str:
-    """Say how many there are of something: `1 saga`, `2 sagas`."""
-    return f"{count} {word}{'' if count == 1 else 's'}"
+def number(count: int, word: str, plural: str | None = None) -> str:
+    """Say how many there are of something: `1 saga`, `2 sagas`, `2 families`."""
+    return f"{count} {word if count == 1 else plural or f'{word}s'}"
 
 
 def escaped(text: str) -> str:

@@ -7,7 +7,7 @@ import contextlib
 import dataclasses
 import json
 import subprocess
-from collections.abc import Sequence
+from collections.abc import Collection, Sequence
 from typing import Any
 
 from sagas.base import program
@@ -68,6 +68,10 @@ class Events:
             elif name in EVENT_STATES:
                 self.attempts[running.pop((id, event["step"]))] = name
         self.under_way = {*running.values()}
+
+    def forget_attempts(self, sagas: Collection[int]) -> None:
+        """Forget the attempts of sagas without rows."""
+        self.attempts = {key: end for key, end in self.attempts.items() if key[0] not in sagas}
 
     def ask(self, texts: program.TextFiles) -> None:
         """Ask the engine for the state of each saga after these events. Raises `Trouble`."""
@@ -139,13 +143,47 @@ def audit_shard(store: Snapshot, log: int) -> ShardAudit:
         events = Events(log, lines)
         events.ask(opened)
     rows = store.rows(SAGAS, *queries.bounds(log))
+    has_marks = store.has_table("deleted_sagas")  # a store of an older release has none
+    marks = store.rows(queries.MARKS, *queries.bounds(log)) if has_marks else []
     keys: dict[int, str] = {id: key for id, key, *_ in rows}
+    deleted = {id for id, *_ in marks}
     result.differences += compare_sagas(rows, events)
     result.differences += [
-        f"saga {id}: has events but no row" for id in events.definition_indexes if id not in keys
+        f"saga {id}: has events but no row"
+        for id in events.definition_indexes
+        if id not in keys and id not in deleted
     ]
+    result.differences += compare_marks(marks, events, keys)
+    events.forget_attempts(deleted - keys.keys())
     result.differences += compare_attempts(store, log, events, keys, texts)
     return result
+
+
+def compare_marks(marks: Sequence[Row], events: Events, keys: dict[int, str]) -> list[str]:
+    """Return where marks of deleted sagas differ from the events, or from the rows.
+
+    Only an ended saga is deleted, and its row with it.
+    """
+    differences = []
+    for id, index, phase, recovered, undo_failed in marks:
+        if id in keys:
+            differences.append(f"{keys[id]}: has a row, and is marked as deleted")
+        elif id not in events.definition_indexes:
+            differences.append(f"saga {id}: is marked as deleted, and has no events")
+        elif index != events.definition_indexes[id]:
+            differences.append(
+                f"saga {id}: the mark of its deletion has definition {index}, the events "
+                f"{events.definition_indexes[id]}"
+            )
+        else:
+            of_events = events.standings[id]
+            mark: Standing = (phase, of_events[1], bool(recovered), bool(undo_failed))
+            if mark != of_events:
+                differences.append(
+                    f"saga {id}: is marked as deleted after it was {phase_of(mark)}, the events "
+                    f"say {phase_of(of_events)}"
+                )
+    return differences
 
 
 def compare_sagas(rows: Sequence[Row], events: Events) -> list[str]:

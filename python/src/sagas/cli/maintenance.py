@@ -86,14 +86,16 @@ def add_prune_options(part: argparse.ArgumentParser) -> None:
     part.add_argument(
         "--export",
         metavar="DIR",
-        help="first write each shard into its own subfolder of DIR",
+        help="first write each shard into its own subfolder of DIR, and other sagas into a file",
     )
 
 
 def prune(path: str, options: argparse.Namespace) -> int:
-    """Delete sagas that ended before a cutoff, by whole closed shards.
+    """Delete sagas that ended before a cutoff.
 
-    Their keys can be used again. One run deletes at most 100,000 sagas.
+    Whole closed shards are deleted first. Of other shards, sagas are deleted together with their
+    child sagas, if all of them are due. Their keys can be used again. One run deletes at most
+    100,000 sagas.
     """
     try:
         if options.damaged_shard is not None:
@@ -104,13 +106,24 @@ def prune(path: str, options: argparse.Namespace) -> int:
     if deleted.other:
         raise Trouble("another program is deleting ended sagas of this store. Try again later")
     if options.json:
-        fields = {"shards": deleted.logs, "sagas": deleted.sagas, "refused_starts": deleted.starts}
-        show_json(fields | {"more": deleted.more})
+        show_json(
+            {
+                "shards": deleted.logs,
+                "sagas": deleted.sagas,
+                "families": deleted.families,
+                "family_sagas": deleted.family_sagas,
+                "refused_starts": deleted.starts,
+                "more": deleted.more,
+            }
+        )
         return GOOD
     starts = f" and {number(deleted.starts, 'refused start')}" if deleted.starts else ""
-    destination = f", exported to {options.export}" if options.export and deleted.logs else ""
-    shards = number(len(deleted.logs), "shard")
-    print(f"deleted {number(deleted.sagas, 'saga')} ({shards}){starts}{destination}")
+    destination = f", exported to {options.export}" if options.export and deleted.sagas else ""
+    parts = number(len(deleted.logs), "shard")
+    if deleted.family_sagas:
+        families = number(deleted.families, "family", "families")
+        parts += f", and {families} of other shards"
+    print(f"deleted {number(deleted.sagas, 'saga')} ({parts}){starts}{destination}")
     if deleted.more:
         print("more sagas are due: run the command again", file=sys.stderr)
     return GOOD

@@ -26,6 +26,8 @@ SHARDS = "SELECT shard, name FROM shards ORDER BY shard"
 TAKEOVERS = "SELECT epoch, node, last_seq, timeline FROM takeovers WHERE shard = ? ORDER BY id"
 CHUNKS = "SELECT epoch, first_seq, text FROM event_log WHERE shard = ? ORDER BY first_seq"
 ENDED = "SELECT id FROM sagas WHERE id >= ? AND id < ? AND phase IS NOT NULL"
+DELETED = "SELECT id FROM deleted_sagas WHERE id >= ? AND id < ?"
+"""The ended sagas that retention has deleted since."""
 EVENT = re.compile(r'"saga":(\d+)')
 
 
@@ -125,6 +127,8 @@ class RecordChecker:
         chunks, at = self._chunks(shard)
         first = shard * SHARD_CAPACITY
         over = {id for (id,) in self._store.rows(ENDED, first, first + SHARD_CAPACITY)}
+        if self._store.has_table("deleted_sagas"):
+            over |= {id for (id,) in self._store.rows(DELETED, first, first + SHARD_CAPACITY)}
         seen = self._records.ends(first, first + SHARD_CAPACITY)
         ends = [(edge, at[id - first]) for id, edge in seen if id in over and id - first in at]
         record = ShardRecord(self._records.notes.get(shard, {}), self._is_synchronous)

@@ -36,6 +36,10 @@ class Snapshot(StoreReader):
         """Return the rows of a query."""
         return self.link.ask(query, *parameters)
 
+    def has_table(self, name: str) -> bool:
+        """Return whether the store has a table: a store of an older release may not."""
+        return self.link.has_table(name)
+
     def saga(self, key: str) -> SagaView:
         """Return the view of a saga. Raises `Trouble` if no saga has the key."""
         view = self.ask(saga.view(key, self.read))

@@ -1,13 +1,16 @@
 """Deletes ended sagas after their retention, and large values that no row refers to any more.
 
-A whole closed shard is deleted when the retention of all its sagas is over. If an archive directory
-is given, the shard is exported first.
+A whole closed shard is deleted when the retention of all its sagas is over. Of the other shards,
+single families are deleted: a saga that no other saga started, with all sagas below it. Their
+events stay in the event log until the shard is deleted. If an archive directory is given, shards
+and families are exported first.
 
-A shard is deleted only if its audit succeeded, and no `on_end` call of its sagas is due. A stuck
-saga, or one with a compensation that failed permanently, counts as ended once an operator has
-resolved it. The key of a deleted saga is free again. Each shard is deleted in its own transaction,
-on its own connection, and followed by an equally long pause. So a start waits for at most one shard
-in a file. In PostgreSQL it does not wait, because other rows are touched.
+A shard is deleted only if its audit succeeded, no `on_end` call of its sagas is due, and no family
+has sagas in shards that stay. A stuck saga, or one with a compensation that failed permanently,
+counts as ended once an operator has resolved it. The key of a deleted saga is free again. Each
+shard and each batch of families is deleted in its own transaction, on its own connection, and
+followed by an equally long pause. So a start waits for at most one of them in a file. In PostgreSQL
+it does not wait, because other rows are touched.
 """
 
 from __future__ import annotations
@@ -25,7 +28,14 @@ from sagas.base.errors import SagasError
 from sagas.base.logger import logger
 from sagas.base.wording import number
 from sagas.definition.capacity import SHARD_CAPACITY
-from sagas.storage import admin, archive, blob_layer, store_decisions
+from sagas.storage import (
+    admin,
+    archive,
+    blob_layer,
+    families,
+    family_archive,
+    store_decisions,
+)
 from sagas.storage.admin import Source
 from sagas.storage.queries import END_DUE, RESOLVABLE
 
@@ -39,14 +49,15 @@ HOUR, SOON = 3600.0, 60.0
 """Seconds until the next run: if nothing more is due, and if there is more."""
 
 WITHIN = f"s.id >= l.shard * {SHARD_CAPACITY} AND s.id < (l.shard + 1) * {SHARD_CAPACITY}"
-OVER = f"""
-l.closed = 1 AND l.shard > ? AND NOT EXISTS (
+IS_OVER = f"""
+l.closed = 1 AND NOT EXISTS (
   SELECT 1 FROM sagas s WHERE {WITHIN} AND (s.phase IS NULL OR s.ended >= ?
     OR (s.note IS NULL AND {RESOLVABLE}) OR {END_DUE}))
 """
-NEXT = f"""
-SELECT l.shard, l.name, (SELECT count(*) FROM sagas s WHERE {WITHIN}) FROM shards l
-WHERE {OVER} ORDER BY l.shard LIMIT 1
+OVER = f"SELECT l.shard FROM shards l WHERE {IS_OVER}"
+SHARD = f"""
+SELECT l.name, (SELECT count(*) FROM sagas s WHERE {WITHIN}) FROM shards l
+WHERE l.shard = ? AND {IS_OVER}
 """
 PARENTS = f"""
 SELECT DISTINCT c.id / {SHARD_CAPACITY}, c.parent / {SHARD_CAPACITY}
@@ -55,16 +66,8 @@ WHERE c.id / {SHARD_CAPACITY} <> c.parent / {SHARD_CAPACITY}
 """
 """The shards of children, each with an existing shard of their parents."""
 OF_SAGAS = (
-    "DELETE FROM operator_commands WHERE key IN (SELECT key FROM sagas WHERE id >= ? AND id < ?)",
-    "DELETE FROM labels WHERE id >= ? AND id < ?",
-    "DELETE FROM shapes WHERE id >= ? AND id < ?",
-    "DELETE FROM children WHERE id >= ? AND id < ?",
-    "DELETE FROM attempts WHERE id >= ? AND id < ?",
-    "DELETE FROM suspensions WHERE id >= ? AND id < ?",
-    "DELETE FROM attempt_spans WHERE id >= ? AND id < ?",
-    "DELETE FROM progress WHERE id >= ? AND id < ?",
-    "DELETE FROM external_attempts WHERE id >= ? AND id < ?",
-    "DELETE FROM sagas WHERE id >= ? AND id < ?",
+    *(text.format(ids=families.IS_WITHIN) for text in families.OF_SAGAS),
+    f"DELETE FROM deleted_sagas WHERE {families.IS_WITHIN}",
 )
 IS_DAMAGED = "(closed = 2 OR (closed = 0 AND audit IS NOT NULL))"
 OF_LOG = (
@@ -86,7 +89,9 @@ class Pruned:
 
     Attributes:
         logs: The names of the shards.
-        sagas: How many sagas they had.
+        sagas: How many sagas were deleted: those of the shards, and those of families.
+        families: How many families of other shards.
+        family_sagas: How many sagas these families had.
         more: Whether further sagas are due, for another run.
         other: Whether another program is pruning now.
         blobs: Blobs that no row refers to any more.
@@ -95,10 +100,49 @@ class Pruned:
 
     logs: list[str] = dataclasses.field(default_factory=list)
     sagas: int = 0
+    families: int = 0
+    family_sagas: int = 0
     more: bool = False
     other: bool = False
     blobs: list[str] = dataclasses.field(default_factory=list)
     starts: int = 0
+
+
+@dataclasses.dataclass(frozen=True)
+class Run:
+    """One run: its connection, and what it may delete.
+
+    Attributes:
+        link: The connection.
+        before: Sagas that ended before this time are deleted, in seconds since 1970.
+        export: The archive directory, if there is one.
+        max_sagas: Maximum number of sagas.
+        has_blobs: Whether the store has a blob store.
+        stop: Ends the run after the current transaction.
+        pruned: What it has deleted.
+    """
+
+    link: Source
+    before: float
+    export: str | os.PathLike[str] | None
+    max_sagas: int
+    has_blobs: bool
+    stop: threading.Event
+    pruned: Pruned
+
+    @property
+    def blobs(self) -> list[str] | None:
+        """Return the list of blobs that no row refers to any more, if there are blobs."""
+        return self.pruned.blobs if self.has_blobs else None
+
+    def has_room(self, count: int) -> bool:
+        """Return whether the run may delete this number of sagas more; else note it."""
+        self.pruned.more = self.pruned.more or self.pruned.sagas + count > self.max_sagas
+        return not self.pruned.more
+
+    def pause(self, began: float) -> None:
+        """Wait as long as the last work took, by the monotonic clock."""
+        self.stop.wait(time.monotonic() - began)
 
 
 def prune(
@@ -113,35 +157,25 @@ def prune(
 ) -> Pruned:
     """Delete sagas that ended more than `keep` seconds ago, at most `max_sagas` of them.
 
-    Shards are deleted in order. Call it in a thread. The time is the earlier one of `clock` and of
-    the store's clock, so that a clock that is set forward deletes nothing. With `export`, each
-    shard is written there and synced before it is deleted (`archive.write`). `stop` ends the run
-    after the current shard.
+    Whole shards are deleted first, and then families of other shards. Call it in a thread. The time
+    is the earlier one of `clock` and of the store's clock, so that a clock that is set forward
+    deletes nothing. With `export`, each shard (`archive.write`) and each family
+    (`family_archive.append`) is written there and synced before it is deleted. `stop` ends the run
+    after the current transaction.
 
-    Raises `Trouble`, `StoreUnavailable`, and `OSError` of the export. Then earlier shards are
-    deleted, and the current one is complete.
+    Raises `Trouble`, `StoreUnavailable`, `InvalidStore`, and `OSError` of the export. Then what
+    was deleted before is deleted, and the rest is complete.
     """
-    pruned, shard, stop = Pruned(), -1, stop or threading.Event()
+    pruned, stop = Pruned(), stop or threading.Event()
     with admin.writing(name) as link:
         if not link.take_prune_lock():
             pruned.other = True
             return pruned
+        link.migrate()
         before = min(clock(), link.now()) - keep
-        due = _due_shards(link, before)
-        while not stop.is_set() and (rows := link.ask(NEXT, shard, before)):
-            ((shard, log, sagas),) = rows
-            if shard not in due:
-                continue  # a parent keeps it, or it was closed after the parents were read
-            if pruned.sagas + sagas > max_sagas:
-                pruned.more = True
-                break
-            if export is not None and archive.write(link, shard, pathlib.Path(export)) is None:
-                continue  # another program has deleted it
-            began = time.monotonic()
-            if _delete(link, shard, pruned.blobs if has_blobs else None):
-                pruned.logs.append(log)
-                pruned.sagas += sagas
-            stop.wait(time.monotonic() - began)
+        run = Run(link, before, export, max_sagas, has_blobs, stop, pruned)
+        prune_shards(run)
+        prune_families(run)
         pruned.starts = link.drop_refused(before)
         store_decisions.drop_old(link, before)
         if pruned.logs:
@@ -149,13 +183,74 @@ def prune(
     return pruned
 
 
-def _due_shards(link: Source, before: float) -> set[int]:
-    """Return the shards to delete: those that are over, unless the shard of a parent is kept."""
+def prune_shards(run: Run) -> None:
+    """Delete the closed shards whose sagas are all due."""
+    link, pruned = run.link, run.pruned
+    for shard in _due_shards(link, run.before):
+        rows = link.ask(SHARD, shard, run.before)
+        if run.stop.is_set():
+            return
+        if not rows:
+            continue
+        ((log, sagas),) = rows
+        if not run.has_room(sagas):
+            return
+        if run.export is not None:
+            if archive.write(link, shard, pathlib.Path(run.export)) is None:
+                continue  # another program has deleted it
+        began = time.monotonic()
+        if _delete(link, shard, run.blobs):
+            pruned.logs.append(log)
+            pruned.sagas += sagas
+        run.pause(began)
+
+
+def _due_shards(link: Source, before: float) -> list[int]:
+    """Return the shards to delete, in this order: those of children before those of parents.
+
+    A shard is left out if a family has sagas in it and in a shard that is not over, or if no order
+    is right because two shards have children of each other. Their families are deleted one by one.
+    """
     pairs = link.ask(PARENTS)
-    due = {log for (log,) in link.ask(f"SELECT l.shard FROM shards l WHERE {OVER}", -1, before)}
-    while kept := {log for log, parent in pairs if log in due and parent not in due}:
+    due = {shard for (shard,) in link.ask(OVER, before)}
+    while kept := {shard for pair in pairs if not due.issuperset(pair) for shard in pair} & due:
         due -= kept
-    return due
+    ordered = list[int]()
+    while ready := due - {parent for child, parent in pairs if child in due}:
+        ordered += sorted(ready)
+        due -= ready
+    return ordered
+
+
+def prune_families(run: Run) -> None:
+    """Delete the families whose sagas are all due, in the order of the ids of their roots."""
+    link, after = run.link, -1
+    while not run.stop.is_set():
+        began = time.monotonic()
+        end = families.page_end(link, after)
+        if end is None:
+            return
+        roots = families.due_roots(link, after, end, run.before)
+        after = end
+        run.pause(began)
+        for first in range(0, len(roots), families.MAX_ROOTS):
+            chunk = roots[first : first + families.MAX_ROOTS]
+            for batch in families.batches(link, chunk, run.before):
+                if run.stop.is_set() or not run.has_room(len(batch.ids)):
+                    return
+                _prune_batch(run, batch)
+
+
+def _prune_batch(run: Run, batch: families.Batch) -> None:
+    """Export and delete a batch of families."""
+    if run.export is not None:
+        family_archive.append(run.link, batch.ids, pathlib.Path(run.export))
+    began = time.monotonic()
+    deleted = families.delete(run.link, batch, run.before, run.blobs)
+    run.pruned.families += deleted.family_count
+    run.pruned.family_sagas += len(deleted.ids)
+    run.pruned.sagas += len(deleted.ids)
+    run.pause(began)
 
 
 def _delete(link: Source, log: int, blobs: list[str] | None) -> bool:
@@ -198,6 +293,7 @@ def delete_damaged(name: str, log: int, export: str | os.PathLike[str] | None) -
     shard is not damaged, and the errors of `prune`.
     """
     with admin.writing(name) as link:
+        link.migrate()
         if not link.ask(f"SELECT 1 FROM shards WHERE shard = ? AND {IS_DAMAGED}", log):
             raise admin.Trouble(
                 f"shard {log} is not damaged. `sagas store {link.name} audit` lists the shards"
@@ -242,13 +338,9 @@ async def keep(
             pruned = await asyncio.shield(work)
             if blobs is not None:  # after the rows that referred to them
                 await blobs.delete(pruned.blobs)
-            if pruned.logs:
-                coordinator.teller.emit(
-                    "shards_pruned",
-                    detail=f"{number(len(pruned.logs), 'shard')}, {number(pruned.sagas, 'saga')}",
-                )
+            _report(coordinator, pruned)
             pause = SOON if pruned.more else HOUR
-        except asyncio.CancelledError:  # the store is closed after the current shard
+        except asyncio.CancelledError:  # the store is closed after the current transaction
             stop.set()
             await asyncio.wait([work])
             work.exception()  # ignored: the next opening continues
@@ -259,6 +351,18 @@ async def keep(
             )
             pause = HOUR
         await asyncio.sleep(min(pause, max(1.0, seconds / 24)))
+
+
+def _report(coordinator: Coordinator, pruned: Pruned) -> None:
+    """Emit the events of a run that has deleted something."""
+    shard_sagas = pruned.sagas - pruned.family_sagas
+    if pruned.logs:
+        detail = f"{number(len(pruned.logs), 'shard')}, {number(shard_sagas, 'saga')}"
+        coordinator.teller.emit("shards_pruned", detail=detail)
+    if pruned.family_sagas:
+        families_text = number(pruned.families, "family", "families")
+        detail = f"{families_text}, {number(pruned.family_sagas, 'saga')}"
+        coordinator.teller.emit("sagas_pruned", detail=detail)
 
 
 async def sweep_blobs(database: BlobDatabase) -> None:

@@ -203,8 +203,8 @@ def add_sagas(result: argparse.ArgumentParser) -> None:
     result.add_argument(
         "--archive-dir",
         metavar="DIR",
-        help="with --retention: first write each shard into its own subfolder of DIR "
-        f"({OF_APP} or none)",
+        help="with --retention: first write what is deleted into DIR, each shard into its own "
+        f"subfolder ({OF_APP} or none)",
     )
     add_values(result)
     add_webhooks(result)

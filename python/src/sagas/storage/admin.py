@@ -23,7 +23,7 @@ from sagas.storage.operator_requests import ANSWER, ASK, ASK_START, WITHDRAW
 from sagas.storage.postgresql import conflicts
 from sagas.storage.postgresql.application_name import Purpose
 from sagas.storage.sqlite import store_file
-from sagas.storage.sqlite.schema import VERSION
+from sagas.storage.sqlite.schema import DELETED_SAGAS, VERSION
 
 T = TypeVar("T")
 Row = tuple[Any, ...]
@@ -78,6 +78,15 @@ class Source(Protocol):
 
         After a conflict with another transaction, `work` is called again.
         """
+
+    def migrate(self) -> None:
+        """Create the tables that a store of an older release does not have.
+
+        Raises `InvalidStore` if this user may not create them.
+        """
+
+    def has_table(self, name: str) -> bool:
+        """Return whether the store has a table: a store of an older release may not."""
 
     def now(self) -> float:
         """Return the time by the store's own clock, in seconds."""
@@ -226,6 +235,12 @@ class FileSource:
         with self.transaction():
             return work()
 
+    def migrate(self) -> None:
+        self._run(DELETED_SAGAS)
+
+    def has_table(self, name: str) -> bool:
+        return bool(self.ask("SELECT 1 FROM sqlite_master WHERE type = 'table' AND name = ?", name))
+
     def now(self) -> float:
         return time.time()
 
@@ -355,6 +370,15 @@ class DatabaseSource:
         """
         is_alone = self.connection.info.transaction_status.name == "IDLE"
         return conflicts.repeated_now(work) if is_alone else work()
+
+    def migrate(self) -> None:
+        from sagas.storage.postgresql import schema
+
+        with self._translating_errors():
+            schema.migrate(self.connection, self.name)
+
+    def has_table(self, name: str) -> bool:
+        return bool(self.ask("SELECT to_regclass('sagas.' || ?) IS NOT NULL", name)[0][0])
 
     def now(self) -> float:
         return float(self.ask("SELECT extract(epoch FROM now())")[0][0])

@@ -54,11 +54,13 @@ DONE = ("commit", "ok")
 EVENT, HELD = 4, ("commit", "undone")
 """The events of results that no report needs any more, and their column."""
 PATTERN = BLOB_HEAD + "%"
-REFERRED = (
-    "SELECT input FROM sagas WHERE id >= ? AND id < ? AND input LIKE ? "
-    "UNION ALL SELECT value FROM attempts WHERE id >= ? AND id < ? AND value LIKE ? "
-    "UNION ALL SELECT shape FROM shapes WHERE id >= ? AND id < ? AND shape LIKE ?"
+REFERRED_BY = (
+    "SELECT input FROM sagas WHERE {ids} AND input LIKE ? "
+    "UNION ALL SELECT value FROM attempts WHERE {ids} AND value LIKE ? "
+    "UNION ALL SELECT shape FROM shapes WHERE {ids} AND shape LIKE ?"
 )
+"""The values of sagas that may refer to the blob store. `ids` is a condition on their ids."""
+REFERRED = REFERRED_BY.format(ids="id >= ? AND id < ?")
 Row = tuple[Any, ...]
 
 

@@ -32,11 +32,13 @@ ASK = f"""
 INSERT INTO operator_commands(key, command, value, at, saga)
 SELECT s.key, ?, ?, extract(epoch FROM now()), s.id
 FROM sagas s JOIN shards l ON l.shard = s.id / {SHARD_CAPACITY}
-WHERE s.id = ? FOR KEY SHARE OF l RETURNING id
+WHERE s.id = ? FOR KEY SHARE OF l, s RETURNING id
 """
 """Add a request for a saga. No row is returned if the saga is gone.
 
-A program that deletes a saga deletes the row of its shard first, and then the requests.
+A program that deletes a shard deletes the row of the shard first, and then the requests. One that
+deletes a saga of a remaining shard locks the row of the saga first. This statement locks both rows
+in the order of their names in the clause.
 """
 ASK_START = """
 UPDATE pending_starts SET commands = commands || jsonb_build_array(

@@ -34,11 +34,16 @@ def small(column: str) -> str:
 
 OPEN = "s.id >= ? AND s.id < ? AND s.phase IS NULL"
 
+OF_SHARDS = f"WHERE id >= shard * {SHARD_CAPACITY} AND id < (shard + 1) * {SHARD_CAPACITY}"
 OPENED = (
-    "SELECT count(*) FROM sagas "
-    f"WHERE id >= shard * {SHARD_CAPACITY} AND id < (shard + 1) * {SHARD_CAPACITY}"
+    f"(SELECT count(*) FROM sagas {OF_SHARDS}) + (SELECT count(*) FROM deleted_sagas {OF_SHARDS})"
 )
-LOGS = f"SELECT shard, name, audit, ({OPENED}), ({OPENED} AND phase IS NULL) FROM shards"
+"""The number of sagas that a shard has opened, also those that retention has deleted since.
+
+One statement counts both: a deletion moves a saga from one table to the other.
+"""
+OPEN_COUNT = f"SELECT count(*) FROM sagas {OF_SHARDS} AND phase IS NULL"
+LOGS = f"SELECT shard, name, audit, {OPENED}, ({OPEN_COUNT}) FROM shards"
 TEXTS = """
 SELECT shard, text FROM shard_definitions JOIN definitions USING (definition)
 WHERE shard >= ? AND shard <= ? ORDER BY shard, place
@@ -112,7 +117,18 @@ SELECT d.definition, s.saga, count(*) {COMPLETED} GROUP BY 1, 2
 """The number of completed children of each definition, in the whole store."""
 COMPLETED_IN_FILE = COMPLETED_CHILDREN.format(which="l.closed = 0")
 ALL_DEFINITIONS = "SELECT definition, text FROM definitions"
-COUNT = "SELECT count(*) FROM sagas s WHERE s.id >= ? AND s.id < ?"
+COUNT = """
+SELECT (SELECT count(*) FROM sagas s WHERE s.id >= ? AND s.id < ?)
+  + (SELECT count(*) FROM deleted_sagas d WHERE d.id >= ? AND d.id < ?)
+"""
+"""The number of sagas that a shard has opened. See `OPENED`."""
+MARKS = """
+SELECT id, definition_index, phase, recovered, undo_failed FROM deleted_sagas
+WHERE id >= ? AND id < ? ORDER BY id
+"""
+"""The marks of deleted sagas."""
+LOCKED = "/* locked */"
+"""At the end of a query: lock its rows, if the database does not lock all of the store."""
 FIND = f"SELECT {SAGA} FROM sagas WHERE key = ?"
 FIND_MANY = {
     count: f"SELECT {SAGA} FROM sagas WHERE key IN ({', '.join('?' * count)})"
@@ -182,6 +198,7 @@ MAX_NODES = 3
 GRACE = 30.0
 """Seconds for which a shard without a node is not listed: a takeover takes a lease."""
 IN_POSTGRESQL = {
+    LOCKED: "FOR UPDATE",
     TAKEOVERS: """(SELECT regexp_replace(t.node, '/[0-9a-f]+$', '') AS node,
   extract(epoch FROM t.at)::float8 AS at, t.id, t.shard FROM takeovers t)""",
     WITHOUT_NODE: f"""(NOT EXISTS (SELECT 1 FROM nodes n

@@ -35,7 +35,7 @@ from sagas.storage.codec_note import NOTE, NOTED, missing
 from sagas.storage.postgresql import conflicts, notifications
 from sagas.storage.postgresql.connections import RAISED, TIMELINE, Asker, translate_errors
 from sagas.storage.postgresql.shard_moves import FORGET, IS_DRAINED, SEEN
-from sagas.storage.queries import COMPLETED_CHILDREN, OPENED
+from sagas.storage.queries import COMPLETED_CHILDREN, OPEN_COUNT, OPENED
 
 if TYPE_CHECKING:
     from sagas.storage.interface import FunctionCheck
@@ -166,7 +166,7 @@ noted AS ({RAISED})
 SELECT shard FROM mine
 """
 TAKEN = f"""
-SELECT json_build_array(shard, name, {TEXTS}, ({OPENED}), ({OPENED} AND phase IS NULL), epoch,
+SELECT json_build_array(shard, name, {TEXTS}, {OPENED}, ({OPEN_COUNT}), epoch,
   {DEFINITION_INDEXES}, audit)::text
 FROM shards l
 WHERE shard = ANY(%(shards)s::bigint[]) AND owner = %(node)s ORDER BY shard

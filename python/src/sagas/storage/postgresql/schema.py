@@ -254,6 +254,14 @@ CREATE TABLE sagas.trends(
   width integer NOT NULL, at bigint NOT NULL, saga text NOT NULL, measure text NOT NULL,
   count bigint NOT NULL, PRIMARY KEY(width, at, saga, measure)) WITH (fillfactor = 70);
 """
+DELETED_SAGAS = """
+-- The marks of sagas that retention has deleted and whose shard remains, with the columns of their
+-- rows that the audit compares with the event log. The event log still has their events.
+CREATE TABLE sagas.deleted_sagas(
+  id bigint PRIMARY KEY, definition_index integer NOT NULL, phase text NOT NULL,
+  recovered boolean NOT NULL, undo_failed boolean NOT NULL, ended double precision NOT NULL,
+  deleted_at double precision NOT NULL);
+"""
 VERSION = 1
 
 STARTED = "CREATE INDEX IF NOT EXISTS sagas_started ON sagas.sagas(at, id)"
@@ -263,7 +271,7 @@ SELECT to_regclass('sagas.sagas_started') IS NULL AND pg_has_role(relowner, 'USA
 FROM pg_class WHERE oid = to_regclass('sagas.sagas')
 """
 """Whether the index is missing, and this user may create it."""
-ADDED = {"pauses": PAUSES, "drains": DRAINS, "trends": TRENDS}
+ADDED = {"pauses": PAUSES, "drains": DRAINS, "trends": TRENDS, "deleted_sagas": DELETED_SAGAS}
 """The tables that stores of older releases do not have, with their statements."""
 LACKS = "SELECT to_regclass(%s) IS NULL"
 GRANTS = """
@@ -299,6 +307,7 @@ TABLES = (
     "pauses",
     "drains",
     "trends",
+    "deleted_sagas",
     "peer_calls",
     "secrets",
 )

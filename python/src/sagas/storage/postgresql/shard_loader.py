@@ -35,6 +35,7 @@ MINE = "owner = %(node)s AND closed = 0"
 SAGAS = (
     f"sagas s WHERE s.id >= l.shard * {SHARD_CAPACITY} AND s.id < (l.shard + 1) * {SHARD_CAPACITY}"
 )
+MARKS = f"deleted_{SAGAS}"
 TOGETHER = f"""
 WITH mine AS (UPDATE shards SET epoch = epoch + 1 WHERE shard IN (
   SELECT shard FROM shards WHERE {LOGS} AND {MINE} FOR NO KEY UPDATE SKIP LOCKED)
@@ -43,7 +44,7 @@ noted AS ({connections.READ})
 SELECT shard, epoch FROM mine;
 SELECT shard, {MINE},
   (SELECT string_agg(text, '' ORDER BY first_seq) FROM event_log WHERE event_log.shard = l.shard),
-  (SELECT count(*) FROM {SAGAS}),
+  (SELECT count(*) FROM {SAGAS}) + (SELECT count(*) FROM {MARKS}),
   (SELECT json_agg(json_build_array(s.id, s.key, s.definition_index,
     {queries.SMALL_INPUT}, s.deadline,
     (SELECT json_agg(json_build_array({queries.SMALL_RESULT}) ORDER BY r.step, r.action, r.number)
@@ -273,7 +274,7 @@ class ShardLoader:
         async def rows(query: str) -> list[Any]:
             return await (
                 await connection.execute(
-                    query.replace("?", "%(low)s", 1).replace("?", "%(high)s", 1), parameters
+                    queries.named(query, "low", "high", "low", "high"), parameters
                 )
             ).fetchall()
 

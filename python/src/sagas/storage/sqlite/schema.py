@@ -182,6 +182,16 @@ CREATE TABLE IF NOT EXISTS trends(
 """
 """Also for files of older releases."""
 
+DELETED_SAGAS = """
+-- The marks of sagas that retention has deleted and whose shard remains, with the columns of their
+-- rows that the audit compares with the event log. The event log still has their events.
+CREATE TABLE IF NOT EXISTS deleted_sagas(
+  id INTEGER PRIMARY KEY, definition_index INTEGER NOT NULL, phase TEXT NOT NULL,
+  recovered INTEGER NOT NULL, undo_failed INTEGER NOT NULL, ended REAL NOT NULL,
+  deleted_at REAL NOT NULL)
+"""
+"""Also for files of older releases."""
+
 STARTED = "CREATE INDEX IF NOT EXISTS sagas_started ON sagas(at)"
 """For files of older releases, which have no index of start times."""
 

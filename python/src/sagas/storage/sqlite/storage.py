@@ -390,7 +390,7 @@ class Sqlite(queries.Questions):
         """Load a shard. No batch of it may be on its way."""
         within = queries.bounds(shard)
         text, events = await self.take_up(shard, epoch)
-        opened = self.rows(queries.COUNT, *within)[0][0]
+        opened = self.rows(queries.COUNT, *within, *within)[0][0]
         open, results, held = (
             self.rows(query, *within)
             for query in (queries.OPEN_SAGAS, queries.OPEN_RESULTS, queries.OPEN_HELD)

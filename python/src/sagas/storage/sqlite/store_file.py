@@ -16,7 +16,14 @@ from sagas.base.errors import InvalidStore, StoreSchemaTooNew, StoreUnavailable
 from sagas.base.fork_guard import private_descriptors
 from sagas.base.logger import logger
 from sagas.definition.serialization import cleaned
-from sagas.storage.sqlite.schema import PAUSES, STARTED, TRENDS, VERSION, statements
+from sagas.storage.sqlite.schema import (
+    DELETED_SAGAS,
+    PAUSES,
+    STARTED,
+    TRENDS,
+    VERSION,
+    statements,
+)
 
 BUSY = 5000  # ms: an operator's command may be writing
 CHECKPOINT = 750
@@ -311,6 +318,7 @@ def migrate(db: sqlite3.Connection, path: str) -> int:
     db.execute(STARTED)
     db.execute(PAUSES)
     db.execute(TRENDS)
+    db.execute(DELETED_SAGAS)
     # written even if it is the same, to check that the file can be written
     db.execute(f"PRAGMA user_version = {VERSION}")
     db.execute("COMMIT")
