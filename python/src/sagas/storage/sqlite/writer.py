@@ -481,15 +481,16 @@ class Writer:
         has = {part for _, parts in rare for part in vars(parts)}
         if "defined" in has:
             define(self._db, ((shard, parts.defined) for shard, parts in rare))
-        for part, (statement, rows_of) in PARTS.items():
-            if part == "work" and part in has:
+        for part in filter(has.__contains__, PARTS):
+            if part == "work":
                 for _, parts in rare:
                     for work in parts.work:
                         work(self._db)
-            elif part == "withdrawn" and part in has:
+            elif part == "withdrawn":
                 for _, parts in rare:
                     withdraw(self._db, parts.withdrawn)
-            elif part in has:
+            else:
+                statement, rows_of = PARTS[part]
                 self._many(statement, [rows_of(shard, parts) for shard, parts in rare])
 
     def _many(self, statement: str, lists: Iterable[Sequence[Sequence[Any]]]) -> None:
