@@ -13,7 +13,7 @@
 
 #include "sagas.h"
 
-enum { ANY = 1 << 20 };
+enum { ANY = 4 << 20 };
 
 #ifdef REFUSING
 void *__real_malloc(size_t size);
