@@ -390,7 +390,7 @@ def test_another_node_makes_the_call_of_a_node_that_is_gone(
 def test_a_key_that_is_used_again_has_a_call_of_its_own(
     location: str, monkeypatch: pytest.MonkeyPatch
 ) -> None:
-    """Even if the call of the earlier saga with the key is still open."""
+    """Retention keeps the earlier saga, and its key, until its call has ended."""
     monkeypatch.setattr("sagas.definition.registry.SHARD_CAPACITY", 1)
     saga, gate, calls = sagas.Saga("order"), asyncio.Event(), list[Any]()
     saga.step(name="pay")(lambda task: task.input)
@@ -405,14 +405,14 @@ def test_a_key_that_is_used_again_has_a_call_of_its_own(
         async with sagas.open(location, [saga]) as store:
             await (await store.start(saga, "k", 1)).wait(60)
             await until(lambda: not store._access.coordinator.sagas.due_ends)
+            assert not (await asyncio.to_thread(retention.prune, location, 0.0)).sagas
+            gate.set()
+            assert (await store.wait("k/::end", 60)).ok and calls == [1]
             while not (await asyncio.to_thread(retention.prune, location, 0.0)).sagas:
                 await asyncio.sleep(0.05)
             await (await store.start(saga, "k", 2)).wait(60)
             await until(lambda: not store._access.coordinator.sagas.due_ends)
-            assert (await store.wait("k/::end/2", 60)).ok and calls == [2]
-            gate.set()
-            await store.wait_idle()
-            assert calls == [2, 1]
+            assert (await store.wait("k/::end", 60)).ok and calls == [1, 2]
 
     run(main())
 
