@@ -319,10 +319,8 @@ def test_a_retry_follows_its_shard(url: str, on_its_way: str) -> None:
 
 
 @pytest.mark.parametrize("size", [1, 100_000])
-def test_a_retry_is_called_whatever_is_stored_first(url: str, size: int) -> None:
-    """The tenant of its saga is computed, and the input read for that, while its row is being
-    stored.
-    """
+def test_a_retry_is_called_once_its_row_is_stored(url: str, size: int) -> None:
+    """Then the tenant of its saga is computed, and the input is read for that."""
     waiting_for_report, calls = list[str](), list[int]()
 
     def tenant(value: dict[str, str]) -> str:
@@ -348,10 +346,10 @@ def test_a_retry_is_called_whatever_is_stored_first(url: str, size: int) -> None
             with held(url) as reached:
                 says = asyncio.create_task(store.retry("k", "call"))
                 await reached()
-                await until(lambda: bool(waiting_for_report))
-                await asyncio.sleep(0.1)  # the reply exists by then, or soon after
+                await asyncio.sleep(0.1)
+                assert not waiting_for_report and calls == [1]
             await asyncio.wait_for(says, 60)
             assert (await store.wait("k", 60)).results["call"] == "done"
 
     run(main())
-    assert calls == [1, 1]
+    assert waiting_for_report and calls == [1, 1]

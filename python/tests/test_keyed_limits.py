@@ -107,7 +107,8 @@ def test_a_limit_holds_for_each_key_by_itself(location: str, limit: str, in_thre
                 assert (await saga_run.wait()).ok
             coordinator = store._coordinator
             assert not coordinator.slots._limits
-            assert not any(gate.is_used() for gate in coordinator.executor.fleet._gates.values())
+            gates = coordinator.executor.fleet._gates
+            await until(lambda: not any(gate.is_used() for gate in gates.values()))
 
     run(main())
     assert set(inside.highest.values()) == {1} and inside.all == 3, inside.highest
