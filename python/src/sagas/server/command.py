@@ -416,7 +416,7 @@ def options_of(parsed: argparse.Namespace, app: App | None) -> dict[str, Any]:
 
 
 def check_file(parsed: argparse.Namespace) -> None:
-    """Raise `Trouble` if the store is no file that can be opened with these options."""
+    """Raise `Trouble` if the store is not a file that can be opened with these options."""
     only_server = {
         "--record": parsed.record,
         "--wait": parsed.wait,
