@@ -45,6 +45,7 @@ from sagas.storage.postgresql.connection_adapters import (
     BlockingAdapter,
     Statement,
 )
+from sagas.storage.postgresql.server import SERVER
 
 if TYPE_CHECKING:
     from sagas.storage.postgresql.connections import Row
@@ -89,7 +90,8 @@ BACK = Statement(
     "DELETE FROM sagas.pending_starts WHERE key = CAST(%(key)s AS text)", returns_rows=False
 )
 """Deletes the start that was added."""
-NOTIFY = Statement(f"SELECT pg_notify('{notifications.CHANNEL}', '{notifications.STARTS}')")
+STARTS = f"'{notifications.STARTS}'"
+NOTIFY = Statement(f"SELECT {SERVER.notify(notifications.CHANNEL, STARTS)}")
 """In the caller's transaction, only its commit sends the notification. For its own transactions,
 the client notifies after the commit: a commit that notifies holds a lock of the whole server, also
 while it waits for a standby.

@@ -19,9 +19,10 @@ from sagas.cli.snapshot import Snapshot
 from sagas.core.shard.fleet_record import Chunk, InvalidLine, Loss, Records, ShardRecord, Takeover
 from sagas.definition.capacity import SHARD_CAPACITY
 from sagas.storage.admin import Trouble
+from sagas.storage.postgresql.server import SERVER
 from sagas.storage.record_file import number
 
-LINE = "SELECT left(pg_walfile_name(pg_current_wal_lsn()), 8)"
+LINE = f"SELECT {SERVER.timeline}"
 SHARDS = "SELECT shard, name FROM shards ORDER BY shard"
 TAKEOVERS = "SELECT epoch, node, last_seq, timeline FROM takeovers WHERE shard = ? ORDER BY id"
 CHUNKS = "SELECT epoch, first_seq, text FROM event_log WHERE shard = ? ORDER BY first_seq"

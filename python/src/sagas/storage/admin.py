@@ -22,6 +22,7 @@ from sagas.storage.filters import Filter
 from sagas.storage.operator_requests import ANSWER, ASK, ASK_START, WITHDRAW
 from sagas.storage.postgresql import conflicts
 from sagas.storage.postgresql.application_name import Purpose
+from sagas.storage.postgresql.server import SERVER
 from sagas.storage.sqlite import store_file
 from sagas.storage.sqlite.schema import DELETED_SAGAS, VERSION
 
@@ -384,7 +385,7 @@ class DatabaseSource:
         return float(self.ask("SELECT extract(epoch FROM now())")[0][0])
 
     def take_prune_lock(self) -> bool:
-        return bool(self.ask("SELECT pg_try_advisory_lock(?)", PRUNE_LOCK)[0][0])
+        return bool(self.ask(f"SELECT {SERVER.try_lock('?')}", PRUNE_LOCK)[0][0])
 
     def ask(self, text: str, *parameters: Any) -> list[Row]:
         form, values = queries.for_postgresql(text), cleaned(parameters)

@@ -36,6 +36,7 @@ from sagas.definition.payloads import (
     Reference,
 )
 from sagas.storage import admin, store_name
+from sagas.storage.postgresql.server import SERVER
 
 if TYPE_CHECKING:
     from sagas.storage.interface import CommitCallback, Database
@@ -402,9 +403,9 @@ LATER = 10 * 86_400.0
 NOTED = "SELECT value FROM secrets WHERE name = 'blobs'"
 NOTE = "INSERT INTO secrets(name, value) VALUES('blobs', '') ON CONFLICT DO NOTHING"
 CHANGE = "UPDATE secrets SET value = ? WHERE name = 'blobs' AND value = ?"
-MAY = "SELECT has_function_privilege('pg_control_system()', 'EXECUTE')"
-SERVER = "SELECT CAST(system_identifier AS text) FROM pg_control_system()"
-DATABASE = "SELECT CAST(oid AS text) FROM pg_database WHERE datname = current_database()"
+MAY = f"SELECT {SERVER.may_read_system}"
+SYSTEM = f"SELECT CAST({SERVER.system} AS text)"
+DATABASE = f"SELECT CAST({SERVER.database} AS text)"
 Call = Callable[..., Awaitable[Any]]
 
 
@@ -441,7 +442,7 @@ class Notes:
         """Return the location of the store."""
         with admin.writing(self._file) as connection:
             if store_name.is_url(self._file):
-                server = connection.ask(SERVER)[0][0] if connection.ask(MAY)[0][0] else ""
+                server = connection.ask(SYSTEM)[0][0] if connection.ask(MAY)[0][0] else ""
                 return Location(connection.name, f"{server}/{connection.ask(DATABASE)[0][0]}")
             path = os.path.realpath(self._file)
             return Location(path, f"{path} {os.stat(path).st_ino}")

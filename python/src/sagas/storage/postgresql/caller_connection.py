@@ -20,14 +20,12 @@ from sagas.storage.postgresql.connection_adapters import (
     Statement,
     adapter_of,
 )
+from sagas.storage.postgresql.server import SERVER
 
 T = TypeVar("T")
 Work = Generator[tuple[Statement, Mapping[str, Any]], Sequence[connections.Row], T]
 """Yields each statement with its parameters, and is sent its rows."""
-HERE = Statement(
-    "SELECT (SELECT system_identifier FROM pg_control_system()), oid FROM pg_database WHERE "
-    "datname = current_database()"
-)
+HERE = Statement(f"SELECT {SERVER.system}, {SERVER.database}")
 """Identifies the server and the database.
 
 A standby that takes over has the same values.

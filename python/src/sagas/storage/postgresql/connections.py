@@ -45,6 +45,7 @@ from sagas.storage.postgresql.replication import (
     PlainStoreConnection,
     StoreConnection,
 )
+from sagas.storage.postgresql.server import SERVER
 from sagas.storage.store_name import FORM, is_url
 
 PATIENCE = 20.0
@@ -111,7 +112,7 @@ RIGHTS = "have the owner of the database run `sagas store URL init --role {role}
 CLIENT_ERRORS = (psycopg.Error, PoolTimeout, OSError, TimeoutError)
 """The errors of a server that does not answer as it should."""
 
-TIMELINE = "left(pg_walfile_name(pg_current_wal_lsn()), 8)"
+TIMELINE = SERVER.timeline
 """The server's timeline: another one once a standby has taken over.
 
 The standby may not have the last commits.

@@ -35,6 +35,7 @@ from sagas.storage.external import (
 from sagas.storage.postgresql import conflicts, connections, notifications, wire
 from sagas.storage.postgresql.application_name import Purpose
 from sagas.storage.postgresql.connections import Asker
+from sagas.storage.postgresql.server import SERVER
 
 CHANNEL = "sagas_reports"
 MAX_BATCH = 200
@@ -100,8 +101,8 @@ INSERT INTO attempt_spans VALUES(%(id)s, %(step)s, %(action)s, %(number)s, %(at)
 ON CONFLICT DO NOTHING RETURNING 1
 """
 """Stores the span of an earlier lease. Only people read it."""
-LOCK = """
-SELECT pg_advisory_xact_lock(hashtextextended(task, 5777002))
+LOCK = f"""
+SELECT {SERVER.lock_text("task", 5777002)}
 FROM (SELECT task FROM unnest(%(limited)s::text[]) AS l(task) ORDER BY task) l
 """
 """Claims of a task with a concurrency limit are counted one after the other."""

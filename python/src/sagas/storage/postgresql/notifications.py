@@ -13,9 +13,11 @@ from typing import TYPE_CHECKING
 
 import psycopg
 
+from sagas.base.cancellation import cancel_all
 from sagas.base.pauses import doubling_pauses
 from sagas.storage.postgresql import connections
 from sagas.storage.postgresql.application_name import Purpose
+from sagas.storage.postgresql.server import SERVER
 from sagas.storage.postgresql.wire import Wire
 
 if TYPE_CHECKING:
@@ -34,7 +36,8 @@ crash no connection listens.
 
 def notify_statement(channel: str) -> str:
     """Return the statement that sends `messages` to all listeners of a channel."""
-    return f"SELECT {AT_ONCE}, pg_notify('{channel}', v) FROM unnest(%(messages)s::text[]) AS v"
+    notify = SERVER.notify(channel, "v")
+    return f"SELECT {AT_ONCE}, {notify} FROM unnest(%(messages)s::text[]) AS v"
 
 
 NOTIFY = notify_statement(CHANNEL)
@@ -98,7 +101,7 @@ class Listener:
                 )
                 try:
                     for channel in self._channels:
-                        await wire.rows(f"LISTEN {channel}")
+                        await wire.rows(SERVER.listen(channel))
                     pauses = doubling_pauses(FIRST_PAUSE, MAX_PAUSE)
                     self.ready.set()
                     self._listens()
@@ -135,9 +138,7 @@ class Notifications:
             with contextlib.suppress(TimeoutError):
                 async with asyncio.timeout(connections.CONNECT):
                     await sent.wait()
-        while not self._job.done():  # a connection attempt may swallow the first cancellation
-            self._job.cancel()
-            await asyncio.wait([self._job], timeout=0.2)
+        await cancel_all([self._job])
         for futures in self._waiting.values():
             _wake(futures)
 

@@ -16,11 +16,13 @@ import secrets
 from collections.abc import Awaitable, Callable, Coroutine
 from typing import Any
 
+from sagas.base.cancellation import cancel_all
 from sagas.base.errors import OwnerUnavailable, SagasError, StoreUnavailable
 from sagas.base.logger import logger
 from sagas.storage.operator_requests import checked_answer
 from sagas.storage.postgresql import connections
 from sagas.storage.postgresql.notifications import AT_ONCE, Listener, notify_statement
+from sagas.storage.postgresql.server import SERVER
 
 CHANNEL = "sagas_peers"
 LOOK = 1.0
@@ -39,10 +41,12 @@ MAX_UNSENT = 10_000
 """Maximum number of messages that are kept while they cannot be sent."""
 
 NOTIFY = notify_statement(CHANNEL)
+CALL_MESSAGE = "json_build_array('call', %(node)s::text)::text"
+ANSWER_MESSAGE = "json_build_array('answer', id)::text"
 CALL = f"""
 WITH call AS (INSERT INTO peer_calls(id, node, command, payload)
   VALUES (%(id)s, %(node)s, %(command)s, %(payload)s))
-SELECT {AT_ONCE}, pg_notify('{CHANNEL}', json_build_array('call', %(node)s::text)::text)
+SELECT {AT_ONCE}, {SERVER.notify(CHANNEL, CALL_MESSAGE)}
 """
 CALLS = (
     "SELECT id, command, payload FROM peer_calls WHERE node = %(node)s AND answer IS NULL AND id "
@@ -50,7 +54,7 @@ CALLS = (
 )
 ANSWER = f"""
 WITH call AS (UPDATE peer_calls SET answer = %(answer)s WHERE id = %(id)s RETURNING id)
-SELECT {AT_ONCE}, pg_notify('{CHANNEL}', json_build_array('answer', id)::text) FROM call
+SELECT {AT_ONCE}, {SERVER.notify(CHANNEL, ANSWER_MESSAGE)} FROM call
 """
 ANSWERED = "DELETE FROM peer_calls WHERE id = %(id)s AND answer IS NOT NULL RETURNING answer"
 GIVEN_UP = "DELETE FROM peer_calls WHERE id = %(id)s RETURNING answer"
@@ -107,12 +111,7 @@ class PostgreSQLPeers:
     async def close(self) -> None:
         """Stop: this node answers nothing more, and the others call it no more."""
         self._closing = True
-        jobs = [*self._jobs, *self._doing.values()]
-        while jobs:  # a connection attempt may swallow the first cancellation
-            for job in jobs:
-                job.cancel()
-            await asyncio.wait(jobs, timeout=0.2)
-            jobs = [job for job in jobs if not job.done()]
+        await cancel_all([*self._jobs, *self._doing.values()])
         with contextlib.suppress(StoreUnavailable):
             await self._asker.ask(MEET, node=self.node, serves=False)
 

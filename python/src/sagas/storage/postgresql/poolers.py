@@ -16,6 +16,7 @@ import psycopg
 from psycopg import errors, pq
 
 from sagas.storage.postgresql.replication import PlainStoreConnection, Row, StoreConnection
+from sagas.storage.postgresql.server import SERVER
 
 TRANSACTIONS = (
     "this is a connection pooler that pools transactions, as PgBouncer does with "
@@ -27,7 +28,7 @@ STATEMENTS = (
     "pool_mode=statement, so it has no transactions. Nothing was written or set. Set "
     "pool_mode=transaction, or name the server itself"
 )
-SESSION = "SELECT pg_backend_pid()"
+SESSION = f"SELECT {SERVER.session}"
 SESSION_PATIENCE = 2.0
 """Seconds for a second session: a pooler that has none left pools sessions."""
 STATEMENT_POOLING = "statement pooling"

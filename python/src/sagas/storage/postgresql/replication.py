@@ -18,17 +18,19 @@ from typing import TYPE_CHECKING, Any, TypeVar, Union
 import psycopg
 from psycopg import errors
 
+from sagas.storage.postgresql.server import SERVER
+
 if TYPE_CHECKING:
     from psycopg.abc import PQGen
 
 RV = TypeVar("RV")
 Row = tuple[Any, ...]
-CANCELED = "SyncRepWaitForLSN"
+CANCELED = SERVER.wait_canceled
 """The PostgreSQL function that warns.
 
 The text of the warning is in the server's language.
 """
-REPLICATED = "SELECT pg_logical_emit_message(true, 'sagas', '')"
+REPLICATED = f"SELECT {SERVER.replicated}"
 """A commit that changes nothing.
 
 Once it is done, a synchronous standby has all that this connection could see.

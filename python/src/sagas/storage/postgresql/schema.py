@@ -18,6 +18,7 @@ from sagas.base.logger import logger
 from sagas.storage.postgresql import conflicts, connections
 from sagas.storage.postgresql.application_name import Purpose
 from sagas.storage.postgresql.connections import RIGHTS
+from sagas.storage.postgresql.server import SERVER
 
 LOCK = 5_777_001
 """The advisory lock under which tables are created and migrated."""
@@ -350,7 +351,7 @@ def _migrate(connection: psycopg.Connection[tuple[object, ...]], store_name: str
         if version == VERSION and not _lacks_started(connection) and not _missing(connection):
             return version
         # before the transaction: one that waits for the lock may not see new tables
-        connection.execute("SELECT pg_advisory_lock(%s)", (LOCK,))
+        connection.execute(f"SELECT {SERVER.lock('%s')}", (LOCK,))
         try:
             version = version_of(connection)
             check(version, store_name)
@@ -362,7 +363,7 @@ def _migrate(connection: psycopg.Connection[tuple[object, ...]], store_name: str
             for table in _missing(connection):
                 _add(connection, table)
         finally:
-            connection.execute("SELECT pg_advisory_unlock(%s)", (LOCK,))
+            connection.execute(f"SELECT {SERVER.unlock('%s')}", (LOCK,))
         return version
     except errors.InsufficientPrivilege as error:
         raise InvalidStore(

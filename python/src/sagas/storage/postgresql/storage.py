@@ -8,6 +8,7 @@ from collections import deque
 from collections.abc import Sequence
 from typing import Any
 
+from sagas.base.cancellation import cancel_all
 from sagas.base.errors import StoreUnavailable
 from sagas.base.logger import logger
 from sagas.core.shard.balance import NodeShare
@@ -276,10 +277,7 @@ class PostgreSQL(queries.Questions):
         self._turn.set()
         if self._jobs:  # jobs end by themselves, unless the server does not answer
             _, late = await asyncio.wait(list(self._jobs), timeout=connections.CONNECT)
-            for job in late:
-                job.cancel()
-            if late:
-                await asyncio.wait(late)
+            await cancel_all(late)
         await self._writer.close()
         if self._announcer:
             await self._announcer.close()
