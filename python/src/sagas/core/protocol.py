@@ -367,13 +367,15 @@ def due_reports(sagas: Iterable[SagaInstance], attempts: Iterable[Attempt]) -> l
     for saga in dict.fromkeys(sagas):
         if saga.extras is None or saga.aborted or saga.draining or saga.answer is not None:
             continue
+        left = [word for word in saga.rare.early_reports if _may_begin(saga, word)]
+        if not left:
+            continue  # most
         done = {*saga.results}
         done |= {
             attempt.step
             for attempt in attempts
             if attempt.instance is saga and is_success(attempt) and not attempt.undo
         }
-        left = [word for word in saga.rare.early_reports if _may_begin(saga, word)]
         while ready := [word for word in left if done >= {*saga.kind.below[word[0]]}]:
             for word in ready:
                 reason, text = saga.rare.early_reports[word]
