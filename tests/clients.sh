@@ -48,6 +48,14 @@ java_jar() {
   }
 }
 
+# Each public member has a comment, and no comment has an error. (What a member returns is its first sentence.)
+java_documentation() {
+  local jackson=/usr/share/java/jackson
+  javadoc -quiet -Xdoclint:all -Xmaxwarns 9999 -d "$room/javadoc" -cp "$jackson-annotations.jar:$jackson-core.jar:$jackson-databind.jar" \
+    clients/java/src/main/java/sagas/*.java >"$room/doclint" 2>&1 || { cat "$room/doclint"; return 1; }
+  ! grep 'error: \|warning: ' "$room/doclint" | grep -v 'warning: no @'
+}
+
 (
   expect 'the package of Node' node_package
   if [ -f clients/go/go.mod ]; then
@@ -55,6 +63,7 @@ java_jar() {
     expect 'the module of Go' go_module
   fi
   expect 'the jar of Java' java_jar
+  expect 'the documentation of Java' java_documentation
   exit "$wrong"
 ) &
 others=$!

@@ -71,11 +71,21 @@ public final class ProblemException extends SagasException {
   private static final String PREFIX = "urn:sagas:problem:";
   private static final int LONGEST = 500;
 
+  /** The HTTP status. */
   private final int status;
+
+  /** The name of the problem, or an empty text. */
   private final String name;
+
+  /** What kind of problem it is. */
   private final String title;
+
+  /** What happened, and what to do. */
   private final String detail;
+
+  /** The parameter or the place in the body, or null. */
   private final @Nullable String field;
+
   private final transient Duration pause;
 
   private ProblemException(

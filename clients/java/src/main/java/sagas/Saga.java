@@ -171,10 +171,10 @@ public final class Saga {
     return Values.list(saga.path("progress"), Progress::of);
   }
 
-  /** Returns the key and the phase. */
+  /** Returns the key, the phase and the states of the steps. */
   @Override
   public String toString() {
-    return "Saga[key=" + key() + ", phase=" + phase().text() + "]";
+    return "Saga[key=" + key() + ", phase=" + phase().text() + ", states=" + states() + "]";
   }
 
   /**

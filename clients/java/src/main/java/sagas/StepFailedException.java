@@ -6,6 +6,8 @@ package sagas;
  */
 public final class StepFailedException extends SagasException {
   private static final long serialVersionUID = 1;
+
+  /** What the step raised. */
   private final String failure;
 
   StepFailedException(String step, String failure) {

@@ -7,6 +7,8 @@ package sagas;
  */
 public final class UnreachableException extends SagasException {
   private static final long serialVersionUID = 1;
+
+  /** The service that was asked last. */
   private final String url;
 
   UnreachableException(String url, Throwable last) {

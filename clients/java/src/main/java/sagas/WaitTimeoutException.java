@@ -6,8 +6,15 @@ public final class WaitTimeoutException extends SagasException {
   private final transient @Nullable Saga saga;
 
   WaitTimeoutException(String key, @Nullable Saga saga) {
-    super("the saga '" + key + "' has not ended in time; wait again", null);
+    super("the saga '" + key + "' has not ended in time" + waitsOf(saga) + "; wait again", null);
     this.saga = saga;
+  }
+
+  private static String waitsOf(@Nullable Saga saga) {
+    if (saga == null || saga.waits().isEmpty()) return "";
+    Saga.Waiting wait = saga.waits().get(0);
+    String what = wait.isCompensation() ? "the compensation of step '" : "step '";
+    return ": " + what + wait.step() + "' waits (" + wait.why() + ")";
   }
 
   /**
