@@ -11,6 +11,7 @@ from typing import Any
 import httpx
 import pytest
 import yaml
+from server import Server
 from serving import LONG, environment, token
 
 TOP = pathlib.Path(__file__).resolve().parents[2]
@@ -95,32 +96,48 @@ def test_ports_and_selectors_agree(name: tuple[str, str]) -> None:
         assert OBJECTS[name]["spec"]["serviceName"] == service["metadata"]["name"]
 
 
-def test_the_commands_run(url: str, tmp_path: pathlib.Path) -> None:
-    """The job prepares the database; then each service is alive and ready, and ends on SIGTERM."""
+def started(name: tuple[str, str], values: dict[str, str]) -> subprocess.Popen[str]:
+    """Start the command of a container at an address of its own."""
+    line = command(name, values | {"$(SAGAS_NODE)": f"{name[1]}-0"})
+    line[-1] = "--listen=127.0.0.1:0"
+    return subprocess.Popen(line, env=environment(), stdout=subprocess.PIPE, text=True)
+
+
+def probed(name: tuple[str, str], address: str) -> dict[str, int]:
+    """Return the status that each probe of a container gets."""
+    probes = ("startupProbe", "livenessProbe", "readinessProbe")
+    paths = {probe: container(name)[probe]["httpGet"]["path"] for probe in probes}
+    return {it: httpx.get(address + path, timeout=LONG).status_code for it, path in paths.items()}
+
+
+def test_the_commands_run(postgresql: Server, url: str, tmp_path: pathlib.Path) -> None:
+    """Each service starts before the job, and is alive; after the job it is ready.
+
+    It ends on SIGTERM. The services have a role that owns nothing.
+    """
+    as_app = postgresql.as_user(postgresql.create()).rpartition("/")[0]  # makes the role
     token(tmp_path, "shop", "caller")
     values = {
-        "$(SAGAS_STORE)": url,
+        "$(SAGAS_STORE)": f"{as_app}/{url.rpartition('/')[2]}",
         "/etc/sagas/definitions": str(TOP / "examples" / "service" / "definitions"),
         "/etc/sagas/tokens": str(tmp_path),
     }
-    line = command(("Job", "sagas-init"), values)
-    subprocess.run(
-        [it for it in line if it not in ("--role", "app")], env=environment(), check=True
-    )
-    for name in SERVING:
-        only = container(name)
-        line = command(name, values | {"$(SAGAS_NODE)": f"{name[1]}-0"})
-        line[-1] = "--listen=127.0.0.1:0"
-        with subprocess.Popen(
-            line, env=environment(), stdout=subprocess.PIPE, text=True
-        ) as process:
-            try:
-                assert process.stdout
-                address = process.stdout.readline().split()[-1].rstrip("/")
-                for probe in ("startupProbe", "livenessProbe", "readinessProbe"):
-                    path = only[probe]["httpGet"]["path"]
-                    assert httpx.get(address + path, timeout=LONG).status_code == 200
-                process.terminate()
-                assert process.wait(LONG) == 0
-            finally:
-                process.kill()
+    alive = {"startupProbe": 200, "livenessProbe": 200}
+    processes = {name: started(name, values) for name in SERVING}
+    try:
+        lines = {name: it.stdout.readline() for name, it in processes.items() if it.stdout}
+        for name, line in lines.items():
+            assert line.endswith("waits for the database\n"), line
+            assert probed(name, line.split()[2].rstrip("/")) == alive | {"readinessProbe": 503}
+        job = command(("Job", "sagas-init"), values | {"$(SAGAS_STORE)": url})
+        subprocess.run(job, env=environment(), check=True)
+        for name, process in processes.items():
+            assert process.stdout
+            address = process.stdout.readline().split()[-1].rstrip("/")
+            assert probed(name, address) == alive | {"readinessProbe": 200}
+            process.terminate()
+            assert process.wait(LONG) == 0
+    finally:
+        for process in processes.values():
+            process.kill()
+            process.communicate()
