@@ -2,7 +2,7 @@
 """Time the service against a bare FastAPI route that inserts one row a request.
 
     PYTHONPATH=python/src:python/tests python3 bench/service.py [--store sqlite|postgresql]
-        [--services N] [--turns N] [--count N] [--clients N]
+        [--services N] [--processes N] [--turns N] [--count N] [--clients N]
 
 The route uses the same kind of database, with one commit a request. Each turn starts the route, and
 then `sagas serve` with its durable defaults. Over SQLite the route is an async function, and a
@@ -14,6 +14,10 @@ tasks in four ways: each by itself, each with the report of the previous one (`n
 time, and ten with the report of the last of ten, as `sagas.Worker` claims short ones. Last comes
 the list of the dashboard over 100,000 sagas. The client is a separate process on the same machine.
 The table also has the processor time of the server for a request, with all its threads.
+
+With `--processes N` over PostgreSQL, each turn measures `sagas serve --processes N` and a service
+of one process in turn. The last two columns are the rate, and the processor time for a request, as
+multiples of those of one process.
 
 `TMPDIR=/dev/shm` puts SQLite's files into memory. Then a commit does not wait for a disk, and the
 route is at its fastest.
@@ -213,6 +217,10 @@ async def page(address: str) -> float:
     return statistics.median(times)
 
 
+OF_SEVERAL = ", several"
+"""What the names of the figures of several processes end with."""
+
+
 def processor(pids: list[int]) -> float:
     """Return the processor time of some processes in seconds."""
     parts = [
@@ -261,19 +269,51 @@ def bare(
 
 
 def turn(
-    folder: pathlib.Path, count: int, together: int, server: Server | None, services: int
+    folder: pathlib.Path,
+    count: int,
+    together: int,
+    server: Server | None,
+    services: int,
+    processes: int,
 ) -> dict[str, Figure]:
     """Measure everything once."""
     figures = {
         f"bare, {manner}": bare(folder, manner, count, together, server)
         for manner in (("async",) if server else ("async", "plain"))
     }
+    figures |= services_turn(folder, count, together, server, services, 1)
+    if processes > 1:
+        several = services_turn(folder / "several", count, together, server, 1, processes)
+        figures |= {f"{name}{OF_SEVERAL}": figure for name, figure in several.items()}
+    return figures
+
+
+def pids_of(service: Served) -> list[int]:
+    """Return the processes that serve: those of the command, or itself."""
+    assert service.process
+    pid = service.process.pid
+    if "--processes" not in service.arguments:
+        return [pid]
+    return [int(it) for it in pathlib.Path(f"/proc/{pid}/task/{pid}/children").read_text().split()]
+
+
+def services_turn(
+    folder: pathlib.Path,
+    count: int,
+    together: int,
+    server: Server | None,
+    services: int,
+    processes: int,
+) -> dict[str, Figure]:
+    """Measure the service once."""
+    figures: dict[str, Figure] = {}
     url = server.create() if server else None
     with contextlib.ExitStack() as stack:
         running = []
         for number in range(services):
-            (folder / str(number)).mkdir()
+            (folder / str(number)).mkdir(parents=True)
             more = ("--node", str(number)) if url else ()
+            more += ("--processes", str(processes)) if processes > 1 else ()
             running.append(
                 stack.enter_context(
                     served(
@@ -289,7 +329,7 @@ def turn(
                 )
             )
         addresses = " ".join(service.address for service in running)
-        pids = [service.process.pid for service in running if service.process]
+        pids = [pid for service in running for pid in pids_of(service)]
 
         def begin(name: str, count: int) -> Coroutine[Any, Any, Done]:
             return starts(
@@ -349,6 +389,7 @@ def main() -> None:
     )
     parser.add_argument("--store", choices=("sqlite", "postgresql"), default="sqlite")
     parser.add_argument("--services", type=int, default=1)
+    parser.add_argument("--processes", type=int, default=1)
     parser.add_argument("--turns", type=int, default=3)
     parser.add_argument("--count", type=int, default=4000)
     parser.add_argument("--clients", type=int, default=50)
@@ -368,6 +409,7 @@ def main() -> None:
                         options.clients,
                         server,
                         options.services if server else 1,
+                        options.processes if server else 1,
                     )
                 )
     middle = {
@@ -376,9 +418,13 @@ def main() -> None:
     }
     base = max(rate for name, (rate, _) in middle.items() if name.startswith("bare"))
     for name, (rate, time_each) in middle.items():
+        ratios = ""
+        if name.endswith(OF_SEVERAL):
+            single = middle[name.removesuffix(OF_SEVERAL)]
+            ratios = f"  {rate / single[0]:5.2f} {time_each / single[1]:5.2f}"
         print(
             f"{name:39} {rate:8.0f} a second  {rate / base:5.2f}  "
-            f"{time_each:6.0f} us of the processor"
+            f"{time_each:6.0f} us of the processor{ratios}"
         )
     if server is None:
         with tempfile.TemporaryDirectory() as name:

@@ -483,7 +483,7 @@ from sagas.__main__ import main
 from sagas.server import command, uvicorn_server
 uvicorn_server.FOR_REQUESTS = uvicorn_server.FOR_CLOSE = 0.2
 settings_of = command.settings_of
-command.settings_of = lambda words: dataclasses.replace(settings_of(words), shutdown_timeout=0.1)
+command.settings_of = lambda *given: dataclasses.replace(settings_of(*given), shutdown_timeout=0.1)
 sys.exit(main(sys.argv[1:]))
 """
 

@@ -79,17 +79,20 @@ def test_a_database_that_never_comes(tmp_path: pathlib.Path) -> None:
     assert line.startswith("sagas serve: postgresql://owner@127.0.0.1:") and "refused" in line
 
 
-@pytest.mark.parametrize("is_silent", [False, True], ids=["refuses", "silent"])
-def test_a_stop_ends_the_wait(tmp_path: pathlib.Path, is_silent: bool) -> None:
-    """SIGTERM ends it, also while a server that accepts connections says nothing."""
-    with socket.create_server(("127.0.0.1", 0)) as silent:
-        port = silent.getsockname()[1] if is_silent else free_port()
+@pytest.mark.parametrize("database", ["refuses", "is silent", "goes away"])
+def test_a_stop_ends_the_wait(tmp_path: pathlib.Path, database: str) -> None:
+    """SIGTERM ends it, also at the moment at which a connection attempt fails."""
+    with socket.create_server(("127.0.0.1", 0)) as accepting:
+        port = free_port() if database == "refuses" else accepting.getsockname()[1]
         with started(tmp_path, f"postgresql://owner@127.0.0.1:{port}/shop", 600) as service:
-            if is_silent:
-                silent.accept()
             assert service.process
-            service.process.send_signal(signal.SIGTERM)
-            assert ended(service) == 0
+            with contextlib.ExitStack() as connections:
+                if database != "refuses":
+                    connections.enter_context(accepting.accept()[0])
+                service.process.send_signal(signal.SIGTERM)
+                if database == "goes away":
+                    connections.close()
+                assert ended(service) == 0
             assert next_line(service) == ""
 
 

@@ -11,6 +11,7 @@ import asyncio
 import contextlib
 import datetime
 import errno
+import functools
 import gc
 import ipaddress
 import logging
@@ -31,7 +32,7 @@ from sagas.definition.payloads import MIN_THRESHOLD
 from sagas.definition import arguments, definition_files, payloads
 from sagas.definition.payloads import check_blobs
 from sagas.definition.saga import Saga
-from sagas.server import auth, log_format
+from sagas.server import auth, log_format, processes
 from sagas.server.settings import (
     LOOPBACK,
     ConcurrencySettings,
@@ -43,6 +44,7 @@ from sagas.server.settings import (
     WebhookSettings,
     is_loopback,
 )
+from sagas.server.siblings import Position, Siblings, State, sockets_of_process
 from sagas.server.webhooks import WebhookFault
 from sagas.storage import folder_blobs, store_name
 
@@ -55,6 +57,8 @@ SWITCH = 0.0005
 """Seconds after which a computing thread yields to the event loop. With the default of 0.005, a
 small request waits for that several times.
 """
+BACKLOG = 2048
+"""Connections that wait until the service accepts them."""
 PACKAGES = "python3-starlette, python3-uvicorn, python3-jinja2 and python3-prometheus-client"
 
 
@@ -80,7 +84,8 @@ Exit status:
   0    stopped by SIGTERM or Ctrl-C
   1    a definition is invalid
   2    invalid arguments, the address is in use, or sagas[server] is not installed
-  4    the store, the token file or the webhook file cannot be used, also after --wait
+  4    the store, the token file or the webhook file cannot be used, also after --wait; or one of
+       several processes dies again and again
   5    the stop took too long
   130  interrupted while it starts"""
 TOKEN_ENDING = """\
@@ -145,6 +150,13 @@ def add_nodes(result: argparse.ArgumentParser) -> None:
         metavar="SECONDS",
         help="PostgreSQL only: seconds without a heartbeat before other services take over its "
         f"sagas ({OF_APP} or 10)",
+    )
+    result.add_argument(
+        "--processes",
+        type=integer_from(1),
+        default=1,
+        metavar="N",
+        help="PostgreSQL only: number of processes on one port, each with a node (default: 1)",
     )
     result.add_argument(
         "--direct-url",
@@ -421,6 +433,7 @@ def check_file(parsed: argparse.Namespace) -> None:
         "--record": parsed.record,
         "--wait": parsed.wait,
         "--direct-url": parsed.direct_url,
+        "--processes": parsed.processes > 1,
     }
     for option, value in only_server.items():
         if value:
@@ -432,8 +445,8 @@ def check_file(parsed: argparse.Namespace) -> None:
         raise Trouble(f"directory {file.parent} does not exist; create it first")
 
 
-def settings_of(parsed: argparse.Namespace) -> Settings:
-    """Return the settings from the parsed arguments. Raises `Trouble`, `DefinitionError`."""
+def check_access(parsed: argparse.Namespace) -> None:
+    """Raise `Trouble` if users without a token could have access."""
     host, port = listen_of(parsed.listen)
     if parsed.token_file is not None and not parsed.token_file.exists():
         raise Trouble(
@@ -446,18 +459,38 @@ def settings_of(parsed: argparse.Namespace) -> Settings:
             "allowed; "
             f"use 127.0.0.1:{port}, or create a file with `sagas token FILE NAME operator`"
         )
-    sagas = definition_files.read(parsed.definitions) if parsed.definitions else []
-    app = app_of(parsed.app)
-    sagas += app.sagas if app else []
-    if not sagas:
-        raise Trouble("nothing to serve: pass --definitions DIR or --app MODULE:NAME")
+
+
+def check_store(parsed: argparse.Namespace) -> None:
+    """Raise `Trouble` if the store cannot be opened with these options."""
     try:
         store_name.check_name(parsed.path)
     except InvalidStore as error:
         raise Trouble(str(error)) from error
     if not store_name.supports_nodes(parsed.path):
         check_file(parsed)
+
+
+def name_process(options: dict[str, Any], position: Position) -> None:
+    """Set the names that each of several processes has for itself."""
+    options["node"] = f"{options.get('node') or position.node}-{position.number}"
+    if "record" in options:
+        options["record"] = f"{options['record']}.{position.number}"
+
+
+def settings_of(parsed: argparse.Namespace, siblings: Siblings | None = None) -> Settings:
+    """Return the settings from the parsed arguments. Raises `Trouble`, `DefinitionError`."""
+    host, port = listen_of(parsed.listen)
+    check_access(parsed)
+    sagas = definition_files.read(parsed.definitions) if parsed.definitions else []
+    app = app_of(parsed.app)
+    sagas += app.sagas if app else []
+    if not sagas:
+        raise Trouble("nothing to serve: pass --definitions DIR or --app MODULE:NAME")
+    check_store(parsed)
     options = options_of(parsed, app)
+    if siblings:
+        name_process(options, siblings.position)
     seconds, on_event = options.pop("shutdown_timeout", None), options.pop("on_event", None)
     more: dict[str, Any] = {}
     if seconds is not None:
@@ -483,6 +516,7 @@ def settings_of(parsed: argparse.Namespace) -> Settings:
         wait=parsed.wait or 0.0,
         quota=Quota(parsed.open_sagas, parsed.open_bytes),
         trusted_proxies=parsed.trusted_proxies,
+        siblings=siblings,
         store=StoreSettings(options, on_event),
         **more,
     )
@@ -500,49 +534,91 @@ def missing_packages() -> Iterator[None]:
         ) from error
 
 
-def serve(options: argparse.Namespace) -> int:
+def begin_log(options: argparse.Namespace) -> log_format.LogFile | None:
+    """Begin the log; return its file, if any. Raises `Trouble`."""
+    try:
+        return log_format.begin(options.log, options.log_level, sys.stderr, options.log_file)
+    except OSError as error:
+        raise Trouble(f"--log-file {options.log_file}: {error.strerror}") from error
+
+
+@contextlib.contextmanager
+def bound_socket(options: argparse.Namespace) -> Iterator[socket.socket]:
+    """Yield a socket of the address. Raises `Trouble`."""
+    host, port = listen_of(options.listen)
+    family = socket.AF_INET6 if ":" in host else socket.AF_INET
+    try:
+        bound = processes.bound(family, host, port)
+    except OSError as error:
+        remedy = (
+            "; stop the program that uses it, or use another port"
+            if error.errno == errno.EADDRINUSE
+            else ""
+        )
+        raise Trouble(f"cannot listen on {options.listen}: {error.strerror}{remedy}") from error
+    with bound:
+        yield bound
+
+
+class Announcements:
+    """What the command prints while it starts."""
+
+    def __init__(self, options: argparse.Namespace, listening: socket.socket) -> None:
+        host, port = listening.getsockname()[:2]
+        self._address = f"http://{f'[{host}]' if ':' in host else host}:{port}/"
+        self._has_tokens = options.token_file is not None
+
+    def waits(self) -> None:
+        """Print that the service waits."""
+        print(f"sagas serve: {self._address} waits for the database", flush=True)
+
+    def opened(self) -> None:
+        """Print the address of the service."""
+        if not self._has_tokens:
+            print(
+                "sagas serve: WARNING: authentication is off (no --token-file): every local "
+                "user has full access. Remote connections are refused",
+                file=sys.stderr,
+            )
+        print(f"sagas serve: {self._address}", flush=True)
+
+
+def serve(options: argparse.Namespace, arguments: list[str]) -> int:
     """Serve until a signal stops the service."""
     with missing_packages():
         from sagas.server.uvicorn_server import run
-    settings = settings_of(options)
-    try:
-        log_file = log_format.begin(options.log, options.log_level, sys.stderr, options.log_file)
-    except OSError as error:
-        raise Trouble(f"--log-file {options.log_file}: {error.strerror}") from error
-    family = socket.AF_INET6 if ":" in settings.host else socket.AF_INET
-    with socket.socket(family, socket.SOCK_STREAM, socket.IPPROTO_TCP) as listening:
-        listening.setsockopt(socket.SOL_SOCKET, socket.SO_REUSEADDR, 1)
-        try:
-            listening.bind((settings.host, settings.port))
-        except OSError as error:
-            remedy = (
-                "; stop the program that uses it, or use another port"
-                if error.errno == errno.EADDRINUSE
-                else ""
-            )
-            raise Trouble(f"cannot listen on {options.listen}: {error.strerror}{remedy}") from error
-        listening.listen(2048)
-        host, port = listening.getsockname()[:2]
-
-        address = f"http://{f'[{host}]' if ':' in host else host}:{port}/"
-
-        def waits() -> None:
-            print(f"sagas serve: {address} waits for the database", flush=True)
-
-        def opened() -> None:
-            if settings.tokens is None:
-                print(
-                    "sagas serve: WARNING: authentication is off (no --token-file): every local "
-                    "user has full access. Remote connections are refused",
-                    file=sys.stderr,
-                )
-            print(f"sagas serve: {address}", flush=True)
-
+    inherited = sockets_of_process()
+    if options.processes > 1 and inherited is None:
+        return supervise(options, arguments)
+    siblings = Siblings(inherited[1]) if inherited else None
+    settings = settings_of(options, siblings)
+    log_file = begin_log(options)
+    bound = contextlib.nullcontext(inherited[0]) if inherited else bound_socket(options)
+    with bound as listening:
+        listening.listen(BACKLOG)
+        shown = Announcements(options, listening)
+        opened, waits = shown.opened, shown.waits
+        if siblings:
+            opened = functools.partial(siblings.report, State.OPEN)
+            waits = functools.partial(siblings.report, State.WAITS)
         gc.set_threshold(GARBAGE)
         sys.setswitchinterval(SWITCH)
         reopen = None if log_file is None else log_file.reopen
         asyncio.run(run(settings, listening, opened, overdue, reopen, waits=waits))
     return GOOD
+
+
+def supervise(options: argparse.Namespace, arguments: list[str]) -> int:
+    """Serve with several processes, until a signal stops them."""
+    check_access(options)
+    check_store(options)
+    log_file = begin_log(options)
+    with bound_socket(options) as first:
+        shown = Announcements(options, first)
+        number = options.processes
+        supervisor = processes.Supervisor(arguments, number, first, shown.opened, shown.waits)
+        reopen = None if log_file is None else log_file.reopen
+        return asyncio.run(supervisor.run(reopen))
 
 
 def overdue() -> None:
@@ -557,7 +633,7 @@ def overdue() -> None:
 def main(argv: list[str]) -> int:
     """Run `sagas serve` and return its exit status. `SERVE_ENDING` lists the statuses."""
     try:
-        return serve(parser().parse_args(argv))
+        return serve(parser().parse_args(argv), argv)
     except Trouble as trouble:
         print(f"sagas serve: {trouble}", file=sys.stderr)
         return USAGE

@@ -22,6 +22,8 @@ from sagas.definition import undo_sagas
 from sagas.definition.saga import Saga
 from sagas.server import gauges as store_gauges
 from sagas.server.gauges import StoreGauges
+from sagas.server.problems import Problem
+from sagas.server.siblings import ProcessQuestion, Siblings
 from sagas.storage.webhook_deliveries import DeliveryState
 
 if TYPE_CHECKING:
@@ -107,7 +109,6 @@ class Metrics:
     def __init__(self, service: Service, sagas: Iterable[Saga[Any]] = ()) -> None:
         self.registry = CollectorRegistry()
         self._service = service
-        self._gauges: StoreGauges | None = None
         declared = {(saga.name, saga.version): saga for saga in sagas}
         self._sagas = [*undo_sagas.with_undo_sagas(declared).values()]
         self._names = sorted({saga.name for saga in self._sagas})
@@ -147,7 +148,6 @@ class Metrics:
         self._make_histograms()
         self._describe_process()
         self._begin_counters()
-        self.registry.register(Now(self))  # type: ignore[arg-type]
 
     def _make_histograms(self) -> None:
         self.saga_seconds = self._histogram(
@@ -270,16 +270,53 @@ class Metrics:
         If the store does not answer, its gauges are left out.
         """
         gauges = await store_gauges.read(self._service)
-        self._gauges = gauges  # nothing else runs until they are written
-        return generate_latest(WithoutCreated(self.registry))  # type: ignore[arg-type]
+        siblings = self._service.settings.siblings
+        number, counted = 1, [*self.of_process()]
+        if siblings:
+            number, counted = await self._of_processes(siblings)
+        answered = "Processes of this service that answered"
+        counted.append(GaugeMetricFamily("sagas_processes", answered, number))
+        shown = Families([*counted, *self._of_store(gauges)])
+        return generate_latest(shown)  # type: ignore[arg-type]
 
-    def now(self) -> Iterator[Metric]:
-        """Yield the gauges of the store, and the counters that others count."""
+    def _of_store(self, gauges: StoreGauges | None) -> Iterator[Metric]:
+        """Yield the gauges of the store."""
         up = "Whether the store answered; if not, its gauges are left out"
-        yield GaugeMetricFamily("sagas_store_up", up, int(self._gauges is not None))
-        if self._gauges is not None:
-            yield from store_gauges.families(self._gauges, self._names, time.time())
+        yield GaugeMetricFamily("sagas_store_up", up, int(gauges is not None))
+        if gauges is not None:
+            yield from store_gauges.families(gauges, self._names, time.time())
             yield store_gauges.paused(self._service.store._pauses)
+
+    async def _of_processes(self, siblings: Siblings) -> tuple[int, list[Metric]]:
+        """Return how many processes answered, and what all of the command count.
+
+        Raises `Problem`.
+        """
+        try:
+            number, dump = await siblings.ask(ProcessQuestion.METRICS)
+        except TimeoutError:
+            raise Problem(
+                "Closed",
+                "the command that started this process has not answered. It may be stopping; "
+                "retry the same request",
+            ) from None
+        return number, [metric_of(*family) for family in dump]
+
+    def dump(self) -> list[Any]:
+        """Return what this process counts, as JSON."""
+        return [
+            [
+                metric.name,
+                metric.type,
+                metric.documentation,
+                [[sample.name, sample.labels, sample.value] for sample in metric.samples],
+            ]
+            for metric in self.of_process()
+        ]
+
+    def of_process(self) -> Iterator[Metric]:
+        """Yield what this process counts."""
+        yield from WithoutCreated(self.registry).collect()
         yield CounterMetricFamily(
             "sagas_tasks_reclaimed",
             "Tasks claimed by another worker after their lease expired",
@@ -293,17 +330,22 @@ class Metrics:
         )
 
 
-class Now:
-    """Delegates to `Metrics.now` at each collection."""
+class Families:
+    """Metrics that were collected."""
 
-    def __init__(self, metrics: Metrics) -> None:
+    def __init__(self, metrics: list[Metric]) -> None:
         self._metrics = metrics
 
-    def collect(self) -> Iterator[Metric]:
-        return self._metrics.now()
+    def collect(self) -> list[Metric]:
+        return self._metrics
 
-    def describe(self) -> list[Metric]:
-        return []
+
+def metric_of(name: str, kind: str, description: str, samples: list[Any]) -> Metric:
+    """Return a metric of a dump."""
+    metric = Metric(name, description, kind)
+    for sample, labels, value in samples:
+        metric.add_sample(sample, labels, value)
+    return metric
 
 
 class WithoutCreated:

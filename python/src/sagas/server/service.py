@@ -49,6 +49,7 @@ from sagas.server.metrics import Metrics
 from sagas.server.middleware import REQUEST_ID, SLASH, parted
 from sagas.server.settings import Settings
 from sagas.server.shown_fields import ShownFields
+from sagas.server.siblings import ProcessQuestion, SharedSessions
 from sagas.server.threads import Threads
 from sagas.server.webhooks import Webhooks
 from sagas.storage import store_name
@@ -115,6 +116,13 @@ class WaitingClaims:
         return len(ends)
 
 
+def sessions_of(settings: Settings) -> Sessions:
+    """Return the sessions of this process, or those of all processes of its command."""
+    if settings.siblings is None:
+        return Sessions(settings.session_time)
+    return SharedSessions(settings.session_time, settings.siblings)
+
+
 class Service:
     """A served store. Use the other methods only between `begin` and `end`."""
 
@@ -123,7 +131,7 @@ class Service:
         self.hub = Hub()
         self.metrics = Metrics(self, settings.sagas)
         self.tokens = Tokens(settings.tokens, logger.error) if settings.tokens else None
-        self.sessions = Sessions(settings.session_time)
+        self.sessions = sessions_of(settings)
         self.rates = Rates(settings.rate)
         self.refusals = Rates(5.0)
         self.quotas = Quotas(settings.quota, self.look)
@@ -158,6 +166,9 @@ class Service:
         self.figures = Figures(self.hub, self.look)
         self.explanations = Explanations()
         self.shown_fields = ShownFields(self)
+        if settings.siblings:
+            settings.siblings.answers[ProcessQuestion.METRICS] = lambda _: self.metrics.dump()
+            settings.siblings.answers[ProcessQuestion.END_CLAIMS] = self.claims.end
 
     # -- life
 

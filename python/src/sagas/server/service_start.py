@@ -102,10 +102,12 @@ class ServiceStart:
     async def _open_later(self) -> None:
         loop, settings, reason = asyncio.get_running_loop(), self._service.settings, ""
         until, pauses = loop.time() + settings.wait, doubling_pauses(FIRST_PAUSE, MAX_PAUSE)
-        while True:
+        is_stopped = self._service.stopping.done
+        while not is_stopped():  # a connection attempt may swallow the cancellation
             try:
                 await factory.reach(settings.store.options.get("direct_url") or settings.path)
-                await self.open()
+                if not is_stopped():
+                    await self.open()
                 return
             except (StoreUnavailable, InvalidStore) as error:
                 left = until - loop.time()

@@ -7,10 +7,13 @@ import functools
 import ipaddress
 import pathlib
 from collections.abc import Mapping
-from typing import Any, NamedTuple, Union
+from typing import TYPE_CHECKING, Any, NamedTuple, Union
 
 from sagas.base.events import Hook
 from sagas.definition.saga import Saga
+
+if TYPE_CHECKING:
+    from sagas.server.siblings import Siblings
 
 Network = Union[ipaddress.IPv4Network, ipaddress.IPv6Network]
 LOOPBACK: tuple[Network, ...] = (
@@ -90,6 +93,7 @@ class Settings:
         trusted_proxies: The networks of proxies whose forwarding headers are trusted.
         wait: Seconds that the service waits for its database at the start. 0: it ends at once if
             the database does not answer.
+        siblings: The other processes of the same command, if it has several.
     """
 
     path: str
@@ -111,6 +115,7 @@ class Settings:
     shutdown_timeout: float = 20.0
     patience: float = 20.0  # for an answer of another node
     wait: float = 0.0
+    siblings: Siblings | None = None
     store: StoreSettings = dataclasses.field(default_factory=StoreSettings)
 
 

@@ -211,13 +211,17 @@ async def run(
     )
     guard, service = application(settings, connections)
     service.prepare()
-    start = ServiceStart(guard, service)
-    if not settings.wait:
-        await start.open()
+    start, siblings = ServiceStart(guard, service), settings.siblings
+    if siblings:
+        await siblings.open()
     try:
+        if not settings.wait:
+            await start.open()
         server = uvicorn.Server(config_of(guard, connections))
         serving = Serving(server, service, connections, overdue, hung_up)
         await serving.run(listening, start, StartCallbacks(opened, waits), until)
     finally:
         if start.is_open:
             await service.end()
+        if siblings:
+            await siblings.close()

@@ -23,6 +23,7 @@ from sagas.server.limits import RequestKind
 from sagas.server.middleware import GONE
 from sagas.server.operations import Answer, Call, Routes
 from sagas.server.problems import Problem
+from sagas.server.siblings import ProcessQuestion
 from sagas.server.shapes import (
     Anything,
     Choice,
@@ -406,7 +407,12 @@ async def end(call: Call) -> Response:
     For a worker that stops: this service answers the waiting claims of this token with this
     `worker` at once, without tasks.
     """
-    return Json({"ended": call.service.claims.end(worker_of(call, call.body))})
+    worker, siblings = worker_of(call, call.body), call.service.settings.siblings
+    ended = call.service.claims.end(worker)
+    if siblings:
+        with contextlib.suppress(TimeoutError):
+            ended += sum(filter(None, await siblings.ask(ProcessQuestion.END_CLAIMS, worker)))
+    return Json({"ended": ended})
 
 
 @routes.post(
