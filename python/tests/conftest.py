@@ -3,9 +3,11 @@
 from __future__ import annotations
 
 import logging
+import os
 import pathlib
 from collections.abc import Iterator
 
+import hypothesis
 import pytest
 from server import Server, serving
 
@@ -13,6 +15,9 @@ from sagas.core import states
 
 states.Check.is_on = True
 
+hypothesis.settings.register_profile("repeatable", derandomize=True)
+if not os.environ.get("SAGAS_EXPLORE"):
+    hypothesis.settings.load_profile("repeatable")
 
 LEVELS = {name: logging.getLogger(name).level for name in ("", "sagas")}
 

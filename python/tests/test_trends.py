@@ -309,6 +309,8 @@ def test_a_token_reads_only_the_counts_of_its_definitions(world: World) -> None:
         ("team", "?definition=trip", 403, "Forbidden"),
         ("worker", "", 403, "Forbidden"),
         ("caller", "?range=month", 422, "InvalidRequest"),
+        ("caller", "?definition=", 422, "InvalidRequest"),
+        ("of-trip", "?definition=Trip", 422, "InvalidRequest"),
     ]:
         reply = world[name].get(f"/v1/trends{query}")
         assert (reply.status_code, error_of(reply)) == (status, problem), (name, query)

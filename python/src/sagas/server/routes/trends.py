@@ -16,7 +16,7 @@ from sagas.server.auth import Permission, Principal
 from sagas.server.json_bodies import Json, times
 from sagas.server.operations import Answer, Call, Routes
 from sagas.server.problems import Problem
-from sagas.server.shapes import Choice, Field, Text
+from sagas.server.shapes import Choice, Field
 
 routes = Routes("sagas", "/v1")
 RANGE = Field(
@@ -63,7 +63,7 @@ def question_of(principal: Principal, kind: TrendRange, definition: str | None) 
     "getTrends",
     permission=Permission.LOOK,
     query={
-        "definition": Field(Text(max_length=64), "only sagas of this definition", default=None),
+        "definition": Field(answers.NAME, "only sagas of this definition", default=None),
         "range": RANGE,
     },
     answers={200: Answer("The buckets, in the order of time.", answers.TRENDS)},
