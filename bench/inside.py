@@ -53,9 +53,6 @@ class Span(ctypes.Structure):
 class Unstarted:
     """Replaces the process, which does not exist."""
 
-    returncode = 0
-    pid = 0
-
     def kill(self) -> None:
         """Do nothing."""
 
@@ -83,9 +80,10 @@ class EngineInside:
             ctypes.c_void_p,
             ctypes.c_char_p,
             ctypes.c_size_t,
-            *[ctypes.c_void_p],
+            ctypes.c_void_p,
             ctypes.c_size_t,
-            *[ctypes.c_void_p] * 2,
+            ctypes.c_void_p,
+            ctypes.c_void_p,
         ]
         self._call = answer
 

@@ -1,4 +1,4 @@
-"""What the store asks of a PostgreSQL server: where that is named, and what holds without it."""
+"""What the store asks of a PostgreSQL server: where it is named, and what holds without it."""
 
 from __future__ import annotations
 
@@ -198,7 +198,7 @@ async def run(url: str, starts: bool) -> None:
 
 
 def test_commands_without_their_locks(postgresql: Server, app: str, url: str) -> None:
-    """The role of each is no superuser, because a superuser may call everything."""
+    """The role of each is not a superuser, who may call everything."""
     database = url.rpartition("/")[2]
     for name in (app.rpartition("/")[2], database):
         with sessions(postgresql.url(name), 1) as (owner,):

@@ -21,6 +21,7 @@ from server import Server, serving
 from serving import DEFINITIONS, LONG, Served, command, environment, served, start, take, token
 
 import sagas
+from sagas.server import siblings
 from sagas.server.metric_sums import dumped, summed
 
 COUNT = 3
@@ -127,7 +128,7 @@ def test_metrics_are_sums(service: Served, tokens: dict[str, str]) -> None:
 
 
 def test_a_session_holds_in_each_process(service: Served, tokens: dict[str, str]) -> None:
-    """So does its end. A cookie that was changed is no session."""
+    """So does its end. A cookie that was changed is refused."""
     with httpx.Client(base_url=service.url, timeout=LONG, trust_env=False) as browser:
         done = browser.post(
             "/ui/login",
@@ -152,6 +153,19 @@ def test_a_session_holds_in_each_process(service: Served, tokens: dict[str, str]
         form = {"Cookie": f"{name}={cookie}", "Origin": service.url}
         assert browser.post("/ui/logout", data={"csrf": csrf}, headers=form).status_code == 303
     wait_until(lambda: {status(cookie) for _ in range(4 * COUNT)} == {303})
+
+
+def test_many_ended_sessions(monkeypatch: pytest.MonkeyPatch) -> None:
+    """The latest are kept one by one, and for all older ones one time: none is valid again."""
+    monkeypatch.setattr(siblings, "MAX_ENDED", 4)
+    ended, restarted = siblings.EndedSessions(), siblings.EndedSessions()
+    for number in range(1, 10):
+        ended.add({f"digest-{number}": 100.0 + number})
+    restarted.add(*ended.arguments())
+    for known in (ended, restarted):
+        assert all(known.has(f"digest-{number}", 100.0 + number) for number in range(1, 10))
+        assert known.has("another", 101.0) and not known.has("another", 110.0)
+        assert len(known.arguments()[0]) <= 4
 
 
 def test_claims_end_in_each_process(service: Served, tokens: dict[str, str]) -> None:

@@ -68,7 +68,7 @@ for (const head of heads) {
   if (next > level + 1) faults.push(`heading ${head.nodeName} "${words(head)}" follows level ${level}`);
   level = next;
 }
-if (heads.filter((head) => head.nodeName === "H1").length !== 1) faults.push("not exactly one main heading");
+if (heads.filter((head) => head.matches("h1")).length !== 1) faults.push("not exactly one main heading");
 if (!document.documentElement.lang) faults.push("no language");
 if (!document.title.trim()) faults.push("no title");
 if (!document.querySelector("main")) faults.push("no main");

@@ -24,7 +24,7 @@ from collections.abc import Callable, Iterator
 from typing import Any
 
 from sagas.server.metric_sums import dumped, summed
-from sagas.server.siblings import LINE, VARIABLE, ProcessQuestion, State
+from sagas.server.siblings import LINE, VARIABLE, EndedSessions, ProcessQuestion, State
 from sagas.storage.record_file import VARIABLE as RECORD
 from sagas.storage.store_name import node_name
 
@@ -37,8 +37,6 @@ LAST_LINES = 1.0
 """Seconds for the last lines of a process that has ended. A process of a function may hold its
 socket open.
 """
-MAX_ENDED = 1000
-"""The latest ends of sessions that a process gets at its start."""
 logger = logging.getLogger("sagas.server")
 
 
@@ -123,7 +121,7 @@ class Supervisor:
         self._node, self._secret = node_name(None), secrets.token_urlsafe(32)
         self._members: dict[int, Member] = {}
         self._of_dead: list[Any] = []
-        self._ended_sessions = collections.deque[str](maxlen=MAX_ENDED)
+        self._ended_sessions = EndedSessions()
         self._answering = set[asyncio.Task[None]]()
         self._is_open, self._stopping = False, False
         self._status = GOOD
@@ -241,11 +239,8 @@ class Supervisor:
         if self._stopping:
             process.terminate()
         member.write([number, self._node, self._secret])
-        if self._ended_sessions:
-            ended = [*self._ended_sessions]
-            member.write(
-                {"do": 0, "question": ProcessQuestion.END_SESSIONS.value, "argument": ended}
-            )
+        ended = self._ended_sessions.arguments()
+        member.write({"do": 0, "question": ProcessQuestion.END_SESSIONS.value, "argument": ended})
         reading = asyncio.ensure_future(self._read(member, reader))
         try:
             status = await process.wait()
@@ -307,7 +302,7 @@ class Supervisor:
             values = await self._metrics()
         else:
             if question is ProcessQuestion.END_SESSIONS:
-                self._ended_sessions.extend(argument)
+                self._ended_sessions.add(*argument)
             others = [other for other in self._members.values() if other is not asker]
             values = [*await asyncio.gather(*(it.ask(question, argument) for it in others))]
         if message["ask"] is not None:

@@ -18,7 +18,7 @@ import secrets
 import signal
 import socket
 import time
-from collections.abc import Callable
+from collections.abc import Callable, Mapping
 from typing import Any, NamedTuple
 
 from sagas.server.auth import Principal, Session, Sessions, digest_of
@@ -29,6 +29,8 @@ LINE = 64 << 20
 """Maximum bytes of a line: the metrics of a process, or of all."""
 PATIENCE = 5.0
 """Seconds for the answers of the other processes."""
+MAX_ENDED = 10_000
+"""Maximum number of ended sessions that are kept one by one."""
 logger = logging.getLogger("sagas.server")
 
 
@@ -159,6 +161,39 @@ class Siblings:
         self._write({"done": message["do"], "value": value})
 
 
+class EndedSessions:
+    """The sessions that were ended before their time.
+
+    If there are too many, the oldest sessions end, too, also those that nobody has ended.
+    """
+
+    def __init__(self) -> None:
+        self._until: dict[str, float] = {}
+        self._oldest = 0.0
+
+    def add(self, until: Mapping[str, float], oldest: float = 0.0) -> None:
+        """Add sessions.
+
+        Args:
+            until: The time until which a session would have lasted, by its digest.
+            oldest: All sessions end that would have lasted until this time or less.
+        """
+        self._until |= until
+        self._oldest = max(self._oldest, oldest)
+        if len(self._until) > MAX_ENDED:
+            latest = sorted(self._until.items(), key=lambda item: item[1])
+            dropped, kept = latest[: -MAX_ENDED // 2], latest[-MAX_ENDED // 2 :]
+            self._oldest, self._until = max(self._oldest, dropped[-1][1]), dict(kept)
+
+    def has(self, digest: str, until: float) -> bool:
+        """Return whether a session was ended."""
+        return until <= self._oldest or digest in self._until
+
+    def arguments(self) -> tuple[dict[str, float], float]:
+        """Return the arguments of `add` for another process."""
+        return self._until, self._oldest
+
+
 class SharedSessions(Sessions):
     """Sessions that each process knows, since a cookie holds its session, signed.
 
@@ -168,8 +203,8 @@ class SharedSessions(Sessions):
     def __init__(self, seconds: float, siblings: Siblings) -> None:
         super().__init__(seconds)
         self._key, self._siblings = siblings.position.secret.encode(), siblings
-        self._ended: dict[str, float] = {}
-        siblings.answers[ProcessQuestion.END_SESSIONS] = self._end_all
+        self._ended = EndedSessions()
+        siblings.answers[ProcessQuestion.END_SESSIONS] = lambda ended: self._ended.add(*ended)
 
     def _sign(self, purpose: str, text: str) -> str:
         return hmac.digest(self._key, f"{purpose} {text}".encode(), "sha256").hex()
@@ -189,18 +224,13 @@ class SharedSessions(Sessions):
         if not hmac.compare_digest(signature.encode(errors="replace"), expected.encode()):
             return None
         _, until, digest = json.loads(base64.urlsafe_b64decode(text + "=="))
-        if until < time.time() or digest_of(name) in self._ended:
+        if until < time.time() or self._ended.has(digest_of(name), until):
             return None
         return Session(Principal("", frozenset(), digest), self._sign("form", text), until)
 
     def end(self, name: str) -> None:
         """End a session, in all processes."""
-        if self.find(name):
-            ended = [digest_of(name)]
-            self._end_all(ended)
-            self._siblings.announce(ProcessQuestion.END_SESSIONS, ended)
-
-    def _end_all(self, digests: list[str]) -> None:
-        now = time.time()
-        self._ended = {digest: until for digest, until in self._ended.items() if until > now}
-        self._ended |= {digest: now + self.seconds for digest in digests}
+        if session := self.find(name):
+            ended = {digest_of(name): session.until}
+            self._ended.add(ended)
+            self._siblings.announce(ProcessQuestion.END_SESSIONS, [ended])
