@@ -31,6 +31,7 @@ from witness import Witness, witness_at
 import sagas
 from sagas.base import program
 from sagas.cli import store_command
+from sagas.storage import admin, trends
 from sagas.storage.postgresql import connections
 
 
@@ -798,6 +799,19 @@ def test_a_primary_that_was_replaced_and_lives(by: str, monkeypatch: pytest.Monk
     with paired(synchronous=True) as pair:
         name = pair.primary.create().rpartition("/")[2]
         run(main(pair.url(name), pair.standby.url(name)))
+
+
+def test_a_thread_does_not_wait_for_ever_for_a_standby(monkeypatch: pytest.MonkeyPatch) -> None:
+    """The server has no timeout for a commit that waits for one. A node writes its charts so."""
+    monkeypatch.setattr(connections, "PATIENCE", 0.5)
+    monkeypatch.setattr(connections, "GRACE", 0.5)
+    with paired(synchronous=True) as pair:
+        url = pair.primary.create()
+        assert store_command.main([url, "init"]) == 0
+        pair.hold_back()
+        with pytest.raises(admin.Trouble, match="no answer in 1 s"):
+            with admin.writing(url) as connection:
+                trends.add(connection, [(60, 0, "order", "started", 1)], 0.0)
 
 
 def noted(calls: list[str], function: Callable[..., Any]) -> Callable[..., Any]:

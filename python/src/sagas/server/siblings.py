@@ -164,7 +164,7 @@ class Siblings:
 class EndedSessions:
     """The sessions that were ended before their time.
 
-    If there are too many, the oldest sessions end, too, also those that nobody has ended.
+    If there are too many, the oldest sessions end, too, and not only those that were ended.
     """
 
     def __init__(self) -> None:

@@ -16,7 +16,8 @@ if TYPE_CHECKING:
     import psycopg
 
 TABLE = re.compile(r"[a-z_][a-z0-9_]{0,62}")
-LIMITED = "SET statement_timeout = '300s'"
+PATIENCE = 300
+LIMITED = f"SET statement_timeout = '{PATIENCE}s'"
 """The timeout of a statement: a value may have 1 GB."""
 
 
@@ -66,7 +67,7 @@ class PostgresBlobStore:
         from sagas.storage.postgresql import connections
 
         connection = connections.connect_now(
-            self._url, Purpose.BLOBS, f"{connections.DURABLE}; {LIMITED}"
+            self._url, Purpose.BLOBS, f"{connections.DURABLE}; {LIMITED}", PATIENCE
         )
         with self._lock:
             if self._is_made:

@@ -53,6 +53,11 @@ PATIENCE = 20.0
 
 If it takes longer, it is given up, and its effect is looked up.
 """
+GRACE = 2.0
+"""Seconds that a connection of a thread waits after the timeout of a statement.
+
+The server has no timeout for a commit that waits for a standby.
+"""
 CONNECT = 5
 LOGIN_TIMEOUT = 2.0
 """Seconds that a server has to accept a first connection."""
@@ -460,17 +465,27 @@ async def timeline_of(connection: Link) -> str:
 
 
 def connect_now(
-    url: str, purpose: Purpose, settings: str = f"{SETTINGS}; {LIMITED}"
+    url: str,
+    purpose: Purpose,
+    settings: str = f"{SETTINGS}; {LIMITED}",
+    statement_timeout: float | None = None,
 ) -> PlainStoreConnection:
-    """See `connect`, for a connection of a thread."""
+    """See `connect`, for a connection of a thread.
+
+    Args:
+        statement_timeout: The timeout in `settings` (default: `PATIENCE`).
+    """
+    patience = (PATIENCE if statement_timeout is None else statement_timeout) + GRACE
     if is_pooled(url):
         pooled = PooledPlainConnection.connect(
             address(url, purpose), autocommit=True, prepare_threshold=None
         )
         assert isinstance(pooled, PlainStoreConnection)
+        pooled.patience = patience
         return pooled
     connection = PlainStoreConnection.connect(address(url, purpose), autocommit=True)
     assert isinstance(connection, PlainStoreConnection)
+    connection.patience = patience
     try:
         check_sessions_now(connection, address(url, Purpose.HOSTS))
         connection.execute(settings, prepare=False)

@@ -10,13 +10,14 @@ from __future__ import annotations
 import asyncio
 import contextlib
 import os
+import selectors
 import socket
 import weakref
 from collections.abc import AsyncIterator, Callable, Coroutine
 from typing import TYPE_CHECKING, Any, TypeVar, Union
 
 import psycopg
-from psycopg import errors
+from psycopg import errors, waiting
 
 from sagas.storage.postgresql.server import SERVER
 
@@ -63,18 +64,52 @@ class StoreConnection(psycopg.AsyncConnection[Row]):
 
 
 class PlainStoreConnection(psycopg.Connection[Row]):
-    """A connection of the store's own, for threads."""
+    """A connection of the store's own, for threads.
+
+    Attributes:
+        patience: The seconds for which the server may be silent. If it is silent for longer, the
+            connection is closed. So a thread does not wait for ever if a commit does.
+    """
+
+    patience: float | None = None
 
     def __init__(self, *args: Any, **kwargs: Any) -> None:
         super().__init__(*args, **kwargs)
         self.warned = False
         _watch(self)
 
-    def wait(self, gen: PQGen[RV], *args: Any, **kwargs: Any) -> RV:
-        """Check for the warning after each operation of psycopg."""
-        value = super().wait(gen, *args, **kwargs)
+    def wait(self, gen: PQGen[RV], *_: Any, **__: Any) -> RV:
+        """Check for the warning after each operation of psycopg.
+
+        Nothing is canceled on the server: see `limited`.
+        """
+        try:
+            value = _result_of(gen, self.pgconn.socket, self.patience)
+        except (KeyboardInterrupt, Silence):
+            self.pgconn.finish()
+            raise
         check(self)
         return value
+
+
+class Silence(errors.OperationalError):
+    """The server was silent for too long. It may yet do what it was asked."""
+
+
+def _result_of(operation: PQGen[RV], socket_number: int, patience: float | None) -> RV:
+    """Return the result of an operation of psycopg. Raises `Silence`."""
+    try:
+        wanted = next(operation)
+        with selectors.DefaultSelector() as selector:
+            selector.register(socket_number, wanted)
+            while events := selector.select(patience):
+                wanted = operation.send(waiting.Ready(events[0][1]))
+                selector.modify(socket_number, wanted)
+    except StopIteration as end:
+        result: RV = end.value
+        return result
+    operation.close()
+    raise Silence(f"no answer in {patience:g} s")
 
 
 Connection = Union[StoreConnection, PlainStoreConnection]
