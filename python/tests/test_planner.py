@@ -112,6 +112,46 @@ def test_a_program_that_dies_is_the_same_error(
     assert done.stderr == f"sagas explain: {errors[0]}\n"
 
 
+UNLUCKY = """
+import signal, sys
+from concurrent.futures import ThreadPoolExecutor
+from sagas.definition import definition_text
+from sagas.engine import planner
+from sagas.inspection import explanation
+
+class Unlucky(ThreadPoolExecutor):
+    def _adjust_thread_count(self):
+        super()._adjust_thread_count()
+        if len(self._threads) == 4:
+            lock = self._idle_semaphore._cond
+            lock.acquire()
+            signal.raise_signal(signal.SIGINT)
+            lock.release()
+
+planner.ThreadPoolExecutor = Unlucky
+text = sys.stdin.read()
+try:
+    explanation.of_definition(text, planner=planner.Planner(definition_text.listed_steps(text), 4))
+except KeyboardInterrupt:
+    print("interrupted")
+    signal.raise_signal(signal.SIGINT)
+"""
+
+
+def test_ctrl_c_while_the_pool_holds_a_lock() -> None:
+    """The threads end, and then the default handler is back."""
+    done = subprocess.run(
+        [sys.executable, "-c", UNLUCKY],
+        input=INDEPENDENT,
+        capture_output=True,
+        text=True,
+        env=environment(),
+        timeout=DEADLINE,
+    )
+    assert (done.returncode, done.stdout) == (-signal.SIGINT, "interrupted\n"), done.stderr
+    assert done.stderr.rstrip().endswith("KeyboardInterrupt")
+
+
 def test_nothing_runs_after_ctrl_c(monkeypatch: pytest.MonkeyPatch, tmp_path: pathlib.Path) -> None:
     """The programs that run are waited for, and most of the 3,541 others never begin."""
     started, ended = tmp_path / "started", tmp_path / "ended"

@@ -10,6 +10,7 @@ from concurrent.futures import ThreadPoolExecutor
 from itertools import compress
 from typing import Any, NamedTuple, TypeVar
 
+from sagas.base.interrupts import delayed_interrupt
 from sagas.definition.definition_text import ListedStep
 from sagas.engine import library
 
@@ -138,9 +139,23 @@ class Planner:
         """
         if self.threads == 1 or len(values) < 2:
             return [function(value) for value in values]
-        with ThreadPoolExecutor(min(self.threads, len(values)), "sagas-plan") as threads:
+        is_interrupted = False
+
+        def stop() -> None:
+            nonlocal is_interrupted
+            is_interrupted = True
+
+        def call(value: V) -> T:
+            if is_interrupted:
+                raise PlanningStopped
+            return function(value)
+
+        with (
+            delayed_interrupt(stop),
+            ThreadPoolExecutor(min(self.threads, len(values)), "sagas-plan") as threads,
+        ):
             try:
-                return [*threads.map(function, values)]
+                return [*threads.map(call, values)]
             except BaseException:
                 threads.shutdown(wait=False, cancel_futures=True)
                 raise
