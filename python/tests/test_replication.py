@@ -226,15 +226,20 @@ def test_a_canceled_wait_of_a_node(away: Away, store: str) -> None:
                 assert (await (await first.start(kind, "first")).wait()).ok
                 await asyncio.to_thread(away.go)
                 mine = asyncio.create_task(first.start(kind, "k"))
-                await until(lambda: away.rows(f"SELECT 1 {WAITS} AND query LIKE '%event_log%'"))
-                away.cancel()
+
+                async def is_visible() -> bool:
+                    """Cancel the wait of each commit, until the start of `k` was in one."""
+                    if away.rows(f"SELECT 1 {WAITS} AND query LIKE '%event_log%'"):
+                        away.cancel()
+                    return await second._coordinator.store.find("k") is not None
+
+                await until(is_visible)
                 await until(lambda: "commit_failed" in event_names)
                 await until(
                     lambda: away.rows(
                         f"SELECT 1 {WAITS} AND (query = 'COMMIT' OR query LIKE '%takeovers%')"
                     )
                 )
-                assert await second._coordinator.store.find("k")
                 other = asyncio.create_task(second.start(kind, "k"))
                 await until(lambda: away.rows(f"SELECT 1 {WAITS} AND query LIKE '%emit%'"))
                 assert not mine.done() and not other.done() and called == ["first"]
