@@ -29,6 +29,7 @@ use Rattle.saga_history.specs.Turns.{turn, turn_of_answer, turn_after_transition
 use Rattle.saga_history.specs.declared.turns.Turn.{Turn}
 use Rattle.saga_history.specs.declared.turns.Turn.TheVariants.{Going, Planning}
 use Rattle.saga_history.specs.Rules.{SagaMay, definition, IsLegal, StepMay}
+use Rattle.saga_history.proofs.VoidLemmas.{is_busy-unvoided}
 use Rattle.saga_history.proofs.SagaLemmas.{saga_is_legal, legal_under, IsLegalUnder}
 
 -- no step is busy, step by step
@@ -64,7 +65,7 @@ drained_from d l none_busy = λ s x lt busy.
 pub no_move : (d : Contents) (l : List Change) (s : ℕ) (t : Transition) → StepMay d l s t → turn l ≡ Planning → NoStepIsBusy d l → ⊥
 no_move d l s transition.StartRun may now none_busy = let bad : Planning ≡ Going = sym now ∙ may.condition.0 in cc
 no_move d l s transition.StartUndo may now none_busy = let bad : Planning ≡ Going = sym now ∙ may.condition.0 in cc
-no_move d l s _ may now none_busy = let b = none_busy s may.is_step in let c : is_busy (state l s) ≡ true = ap is_busy may.begins in cc
+no_move d l s _ may now none_busy = let b = none_busy s may.is_step in let c : is_busy (state l s) ≡ true = sym (is_busy-unvoided (state l s)) ∙ ap is_busy may.begins in cc
 
 was_planning : (t : Transition) (turn : Turn) → turn_after_transition t turn ≡ Planning → turn ≡ Planning
 was_planning transition.Fail turn e = cc

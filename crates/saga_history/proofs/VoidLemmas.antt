@@ -3,7 +3,7 @@ use Rattle.std.proofs.Common.{◌≡◌, ◌≢◌, Bool, true, false, refl, sym
 use Rattle.saga_case.specs.declared.states.StepState.{StepState}
 use Rattle.saga_case.specs.declared.states.StepState.TheVariants.{Waiting, Committed, Void, Failed, Undone}
 use Rattle.saga_case.specs.States.{commits}
-use Rattle.saga_history.specs.States.{unvoided, is_standing, is_off}
+use Rattle.saga_history.specs.States.{unvoided, is_standing, is_busy, is_off}
 use Rattle.saga_history.specs.Tallies.{has_committed, SuitsNeed}
 
 -- any other state decides for itself
@@ -25,6 +25,10 @@ commits-unvoided _ is = cc
 pub is_standing-unvoided : (x : StepState) → is_standing (unvoided x) ≡ is_standing x
 is_standing-unvoided Void = refl
 is_standing-unvoided _ = refl
+
+pub is_busy-unvoided : (x : StepState) → is_busy (unvoided x) ≡ is_busy x
+is_busy-unvoided Void = refl
+is_busy-unvoided _ = refl
 
 pub is_off-unvoided : (x : StepState) → is_off (unvoided x) ≡ is_off x
 is_off-unvoided Void = refl
