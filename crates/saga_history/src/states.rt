@@ -5,7 +5,7 @@ ghost use Rattle.saga_history.specs.States as spec;
 
 use saga_case::StepState;
 
-/// The state that decides which transition may start: a void step is compensated as a committed one is.
+/// The state that decides which transition may start: a void step is compensated as a committed one.
 pub fn unvoided(state: StepState) -> StepState
     ensures { result ≡ spec.unvoided state }
 {
@@ -15,7 +15,8 @@ pub fn unvoided(state: StepState) -> StepState
     }
 }
 
-/// Whether the step is in effect for the steps that need it: it is committed, possibly permanently, or void.
+/// Whether the step is in effect for the steps that need it: it is committed, possibly
+/// permanently, or void.
 pub fn is_standing(state: StepState) -> bool
     ensures { result ≡ spec.is_standing state }
 {
