@@ -5,7 +5,7 @@ ghost use Rattle.saga_history.specs.States as spec;
 
 use saga_case::StepState;
 
-/// The state that decides which transition may start: a void step is compensated as a committed one.
+/// The state that decides which transition may start: of a void step, it is committed.
 pub fn unvoided(state: StepState) -> StepState
     ensures { result ≡ spec.unvoided state }
 {
