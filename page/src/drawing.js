@@ -2,7 +2,7 @@
 
 const STATES = ['waiting', 'committed', 'void', 'failed', 'undone', 'fixed'];
 // The dashboard's word for a state. A case has the program's words.
-const state_words = state => ({ committed: 'done', fixed: 'undo failed' })[state] || state;
+const state_words = state => ({ committed: 'done', void: 'without effect', fixed: 'undo failed' })[state] || state;
 const NEVER = Infinity;
 
 const cost_of = word => word === 'never' ? NEVER : Number(word);

@@ -272,6 +272,7 @@ def _apply_result(
 ) -> None:
     if outcome == "commit":
         saga.put_result(step, value)
+        saga.has_deviated |= value.startswith(FAILED_HEAD)
     elif outcome == "undone":
         dropped = saga.results.pop(step, "")
         if dropped.startswith(FAILED_HEAD):
