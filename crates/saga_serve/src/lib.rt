@@ -17,6 +17,7 @@ mod besides;
 mod endings;
 mod growing;
 mod inputs;
+mod kinds;
 mod laws;
 mod limits;
 mod lines;
@@ -31,7 +32,8 @@ mod streams;
 mod talks;
 
 pub use endings::{Ending, Stream};
-pub use laws::shelf_laws;
+pub use kinds::Books;
+pub use laws::{rests_laws, shelf_laws};
 pub use limits::MAX_BESIDE;
 pub use lines::{drive_lines, show_log};
 pub use outside::{FileFault, OpenFault, Outside};
