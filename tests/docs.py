@@ -48,7 +48,7 @@ PAGES = (
     "models/*.md",
     "docs/**/*.md",
 )
-MUTANTS = ("docs/dev/mutants.md", "docs/dev/mutants-program.md")
+MUTANTS = ("docs/dev/mutants.md", "docs/dev/mutants-logs.md", "docs/dev/mutants-program.md")
 PYTHON = re.compile(r"^```python\n(.*?)^```", re.M | re.S)
 NAME = re.compile(r"(?<![\w/.\"])sagas\.([A-Z]\w*|[a-z_]+(?=\())")
 BLOCK = re.compile(r"^```.*?^```[ ]*$", re.M | re.S)
