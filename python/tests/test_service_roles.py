@@ -285,6 +285,8 @@ def test_only_people_log_in(roles: Roles) -> None:
     for role in COLUMNS:
         with roles.service.client() as client:
             answer = client.post("/ui/login", data={"token": roles.tokens[role]})
+            while "Too many invalid tokens from this address" in answer.text:  # of other tests
+                answer = client.post("/ui/login", data={"token": roles.tokens[role]})
             assert answer.status_code == (303 if role in PEOPLE else 403), role
             if role not in PEOPLE:
                 assert "does not have the role" in answer.text and "reader" in answer.text
