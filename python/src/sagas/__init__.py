@@ -104,7 +104,9 @@ from sagas.base.errors import (
 )
 from sagas.base.events import Event
 from sagas.core.attention import Attention, AttentionReason
+from sagas.core.database_map import DatabaseMap
 from sagas.core.decisions import DecidedSaga, DecisionEntry
+from sagas.core.merged_lists import MergedList
 from sagas.core.nodes import Drain, NodeState, NodeStatus
 from sagas.core.pauses import Pause
 from sagas.core.results import (
@@ -142,12 +144,16 @@ if TYPE_CHECKING:
     from sagas import inspection as inspection
     from sagas import testing as testing
     from sagas.api.client import Client, ClientRun
+    from sagas.api.client_set import ClientSet
+    from sagas.api.store_set import StoreSet
     from sagas.api.sync_client import SyncClient, SyncClientRun
 
 MODULES = ("celery", "inspection", "testing")
 LATER = {
     "Client": "api.client",
     "ClientRun": "api.client",
+    "ClientSet": "api.client_set",
+    "StoreSet": "api.store_set",
     "SyncClient": "api.sync_client",
     "SyncClientRun": "api.sync_client",
 }
@@ -198,6 +204,7 @@ __all__ = [
     "Choice",
     "Client",
     "ClientRun",
+    "ClientSet",
     "Closed",
     "Codec",
     "Collected",
@@ -205,6 +212,7 @@ __all__ = [
     "ConflictError",
     "ConflictingReport",
     "Cost",
+    "DatabaseMap",
     "DecidedSaga",
     "DecisionEntry",
     "DefinitionCount",
@@ -238,6 +246,7 @@ __all__ = [
     "KeyConflict",
     "LeasedTask",
     "LeaseLost",
+    "MergedList",
     "MissingCodec",
     "MissingResult",
     "MissingStep",
@@ -287,6 +296,7 @@ __all__ = [
     "Store",
     "StoreLocked",
     "StoreSchemaTooNew",
+    "StoreSet",
     "StoreUnavailable",
     "TransactionConflict",
     "Summary",

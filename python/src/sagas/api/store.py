@@ -9,12 +9,13 @@ import datetime
 import functools
 import os
 import signal
-from collections.abc import Iterable, Mapping
+from collections.abc import Coroutine, Iterable, Mapping, Sequence
 from types import TracebackType
 from typing import TYPE_CHECKING, Any
 
 from sagas.api.commands import Commands
 from sagas.api.claims import Deliveries, Workers
+from sagas.api.database_set import is_several
 from sagas.api.operators import Operators
 from sagas.api.settings import DEFAULTS, Settings
 from sagas.api.shared_calls import over_own_connection
@@ -62,7 +63,7 @@ if TYPE_CHECKING:
 
 
 def open(
-    path: str | os.PathLike[str],
+    path: str | os.PathLike[str] | Sequence[str],
     sagas: Iterable[Saga[Any]],
     *,
     concurrency: int = 16,
@@ -79,7 +80,7 @@ def open(
     blobs: BlobStore | None = None,
     blob_threshold: int = 65_536,
     record: str | os.PathLike[str] | None = None,
-    direct_url: str | None = None,
+    direct_url: str | Sequence[str] | None = None,
     settings: Settings = DEFAULTS,
 ) -> Store:
     """Open a store: `async with sagas.open("trips.db", [trip]) as store`.
@@ -90,7 +91,8 @@ def open(
     Args:
         path: A SQLite file, which is created if it does not exist, for one program at a time. Or
             `postgresql://user@host/database`, for any number of programs: each is a node. When a
-            node ends, the others execute its sagas.
+            node ends, the others execute its sagas. Or a list of several URLs, in the order of the
+            store's map: the store is then a `StoreSet`, and a saga lives in one of the databases.
         sagas: The definitions, at least one.
         concurrency: Maximum number of functions that run at once (default: 16). Steps that wait for
             a time or for a decision take no slot.
@@ -119,7 +121,8 @@ def open(
             environment variable `SAGAS_RECORD` names, if any).
         direct_url: PostgreSQL only: the URL of the server itself, if `path` is that of a pooler
             that pools transactions. Questions and claims use the pooler, and all else the server
-            (default: `path`, which has to be the server or a pooler of sessions).
+            (default: `path`, which has to be the server or a pooler of sessions). For several
+            databases, a list.
         settings: For tests and tuning (default: `Settings()`).
 
     Returns:
@@ -143,7 +146,15 @@ def open(
           failed    send: sagas.Fail: sold out
     """
     options = locals()
-    store = Store(**options)
+    if is_several(path):
+        try:
+            from sagas.api.store_set import StoreSet
+
+            store: Store = StoreSet(**options)
+        except ImportError as error:
+            raise store_name.missing_client(error) from error
+    else:
+        store = Store(**options)
     store.opened_with = options
     return store
 
@@ -200,7 +211,7 @@ class Store(Operators):
         self._retention, self._archive_dir = retention, archive_dir
         check_blobs(blobs, blob_threshold)
         self._blobs = blobs, blob_threshold
-        self._server_options = {
+        self._server_options: dict[str, Any] = {
             "record": arguments.record(record),
             "direct_url": arguments.url("direct_url", direct_url),
         }
@@ -405,21 +416,8 @@ class Store(Operators):
                 create them. Then nothing is executed.
             Closed: The store is not open.
         """
-        loop, refusal = self._coordinator.loop, self._refusal
-        stop: asyncio.Future[None] = loop.create_future()
-
-        def request_stop() -> None:
-            if not stop.done():
-                stop.set_result(None)
-
-        for number in (signal.SIGTERM, signal.SIGINT):
-            loop.add_signal_handler(number, request_stop)
-        try:
-            ends: list[asyncio.Future[Any]] = [stop, refusal]
-            await asyncio.wait(ends, return_when=asyncio.FIRST_COMPLETED)
-        finally:
-            for number in (signal.SIGTERM, signal.SIGINT):
-                loop.remove_signal_handler(number)
+        refusal = self._refusal
+        await _until_stopped(refusal)
         if refusal.done():
             raise refusal.result()
 
@@ -486,6 +484,10 @@ class Store(Operators):
             await self._check_caller_start(saga, input)
             return Run(self, key, await starter.start(request, adapter))
         return await self._start(None, saga, key, input, labels, deadline, traceparent)
+
+    async def _store_of(self, key: str) -> Store:
+        """Return the store of the database that has a key, or that a start of it goes to."""
+        return self
 
     def _starter_for_callers(self) -> CallerStarter:
         """Return what writes starts by connections of callers. It needs psycopg.
@@ -657,6 +659,14 @@ class Store(Operators):
         """Wait until a saga has ended, for callers that read its row. See `Store.wait`."""
         return await self._lookup.over(key)
 
+    def _until_ended(self, key: str) -> Coroutine[Any, Any, SagaResult]:
+        """Wait until a saga has ended, for callers that limit the time themselves."""
+        return self._lookup.until_ended(key)
+
+    async def _until_idle(self) -> None:
+        """Wait until no saga is open, for callers that are no steps."""
+        await self._coordinator.settled()
+
     async def wait_idle(self) -> None:
         """Wait until no saga is open.
 
@@ -670,6 +680,25 @@ class Store(Operators):
                 "open, but its own is. Wait for that outside of a step"
             )
         await self._coordinator.settled()
+
+
+async def _until_stopped(refusal: asyncio.Future[InvalidStore]) -> None:
+    """Wait for SIGTERM or SIGINT, or until nothing can be executed any more."""
+    loop = asyncio.get_running_loop()
+    stop: asyncio.Future[None] = loop.create_future()
+
+    def request_stop() -> None:
+        if not stop.done():
+            stop.set_result(None)
+
+    for number in (signal.SIGTERM, signal.SIGINT):
+        loop.add_signal_handler(number, request_stop)
+    try:
+        ends: list[asyncio.Future[Any]] = [stop, refusal]
+        await asyncio.wait(ends, return_when=asyncio.FIRST_COMPLETED)
+    finally:
+        for number in (signal.SIGTERM, signal.SIGINT):
+            loop.remove_signal_handler(number)
 
 
 class Run:

@@ -25,11 +25,12 @@ def make(
     transactions: Callable[..., Any],
     record: str | None = None,
     direct_url: str | None = None,
+    is_member: bool = False,
 ) -> Database:
     """Return the database of that name, not yet opened.
 
-    `transactions`, `record` and `direct_url` are those of `PostgreSQL`. Without `record`, the
-    environment names the file.
+    `transactions`, `record`, `direct_url` and `is_member` are those of `PostgreSQL`. Without
+    `record`, the environment names the file.
 
     Raises `ImportError` if something that it needs is not installed, `InvalidStore` and
     `DefinitionError`.
@@ -73,6 +74,7 @@ def make(
         record=record_path(record),
         encodes=definitions.payloads.codec is not None,
         direct_url=direct_url,
+        is_member=is_member,
     )
 
 

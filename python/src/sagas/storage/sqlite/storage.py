@@ -402,6 +402,9 @@ class Sqlite(queries.Questions):
         loaded.damage = queries.damage_of(text, events)
         return loaded
 
+    async def refusal(self, key: str) -> None:
+        """See `Database.refusal`. A file is the only database of its store."""
+
     async def find(self, key: str) -> SagaRow | None:
         """Return the saga with this key."""
         rows = self.rows(queries.FIND, key)
