@@ -62,7 +62,9 @@ def moving(before: int, position: int, number: int, prefix: str = "order") -> li
 def keys_of(url: str) -> set[str]:
     """Return the keys of a database, with those of starts."""
     with psycopg.connect(url) as link:
-        rows = link.execute("SELECT key FROM sagas.sagas UNION SELECT key FROM sagas.pending_starts")
+        rows = link.execute(
+            "SELECT key FROM sagas.sagas UNION SELECT key FROM sagas.pending_starts"
+        )
         return {str(key) for (key,) in rows}
 
 

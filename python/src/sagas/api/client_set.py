@@ -100,9 +100,7 @@ class ClientSet(MergedCalls, Client):
         options: dict[str, Any] = {"labels": labels, "deadline": deadline}
         options |= {"traceparent": traceparent, "connection": connection}
         arguments.key(key)
-        return await self._set.call(
-            key, lambda member: member.start(saga, key, input, **options)
-        )
+        return await self._set.call(key, lambda member: member.start(saga, key, input, **options))
 
     async def get(self, key: str) -> ClientRun | None:
         """Return the saga with this key, or None. See `Client.get`."""
@@ -124,9 +122,7 @@ class ClientSet(MergedCalls, Client):
         """Start an ended saga again, under a new key. See `Client.restart`."""
         arguments.key(new_key)
         is_new = await self.get(new_key) is None
-        await self._set.call(
-            key, lambda member: member._request_restart(key, new_key, by, note)
-        )
+        await self._set.call(key, lambda member: member._request_restart(key, new_key, by, note))
         return ClientRun(await self._set.of(new_key), new_key, None, is_new)
 
     async def waits_for(self, key: str) -> builtins.list[str]:

@@ -305,7 +305,9 @@ class MergedCalls(SharedCalls):
         options: dict[str, Any] = {"saga": saga, "labels": labels, "by": by}
         return await self._batch(lambda member, _: member.resolve_all(note, **options))
 
-    async def _batch(self, work: Callable[[SharedCalls, int], Awaitable[BatchResult]]) -> BatchResult:
+    async def _batch(
+        self, work: Callable[[SharedCalls, int], Awaitable[BatchResult]]
+    ) -> BatchResult:
         parts, missing = await self._of_each(work)
         result = BatchResult(unavailable=missing)
         for _, part in sorted(parts.items()):
@@ -365,15 +367,15 @@ class MergedCalls(SharedCalls):
     ) -> None:
         """Make a call in all databases; `unknown` is raised only if all raise it."""
 
-        async def call(member: SharedCalls, _: int) -> Exception | None:
+        errors: builtins.list[Exception] = []
+
+        async def call(member: SharedCalls, _: int) -> None:
             try:
                 await work(member)
             except unknown as error:
-                return error
-            return None
+                errors.append(error)
 
         values, missing = await self._of_each(call)
-        errors = [error for error in values.values() if error is not None]
         if errors and len(errors) == len(values):
             raise errors[0]
         if missing:

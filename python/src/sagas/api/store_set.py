@@ -146,9 +146,7 @@ class StoreSet(MergedCalls, Store):
 
     async def _start(self, token: str | None, saga: Saga[Any], key: str, *options: Any) -> Run:
         arguments.key(key)
-        return await self._set.call(
-            key, lambda member: member._start(token, saga, key, *options)
-        )
+        return await self._set.call(key, lambda member: member._start(token, saga, key, *options))
 
     async def _restart(
         self, token: str | None, key: str, new_key: str, by: str | None, note: str | None

@@ -223,9 +223,7 @@ class SyncStore(Facade[Store]):
         """
         inner = self._inner
         try:
-            self._loop.do(
-                inner.wait_idle() if timeout is None else inner._until_idle(), timeout
-            )
+            self._loop.do(inner.wait_idle() if timeout is None else inner._until_idle(), timeout)
         except TimeoutError as error:
             raise error if timeout is None else TimeoutError(
                 f"sagas are still open after {timeout:g} s. list(phase='open') returns them"

@@ -210,9 +210,7 @@ def is_used(connection: Connection) -> bool:
     return has_tables and connection.execute(IS_USED).fetchone() == (True,)
 
 
-def count_moved(
-    connection: Connection, position: int, before: int, after: int
-) -> tuple[int, int]:
+def count_moved(connection: Connection, position: int, before: int, after: int) -> tuple[int, int]:
     """Return how many sagas of this database another one would have among more databases.
 
     Args:
