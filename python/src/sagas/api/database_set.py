@@ -96,6 +96,10 @@ class DatabaseSet(Generic[M]):
         from sagas.storage.postgresql import map_changes
 
         self.urls, self.members = [*urls], [*members]
+        self.enter: Callable[[M], Awaitable[object]] = lambda member: member.__aenter__()
+        """Opens a member."""
+        self.leave: Callable[[M], Awaitable[object]] = lambda member: member.close()
+        """Closes a member."""
         self.names = map_changes.named(urls)
         self._map: DatabaseMap | None = None
         self._faults: dict[int, str] = {}  # of databases that are not open, or do not answer
@@ -154,24 +158,24 @@ class DatabaseSet(Generic[M]):
     async def _open_member(self, index: int) -> None:
         """Open a database. If it does not answer, it is opened later."""
         try:
-            await self.members[index].__aenter__()
+            await self.enter(self.members[index])
         except StoreUnavailable as error:
             self._fail(index, str(error))
         else:
             self._open.add(index)
             self._recover(index)
 
-    async def close(self, close: Callable[[M], Awaitable[None]] | None = None) -> None:
+    async def close(self, leave: Callable[[M], Awaitable[object]] | None = None) -> None:
         """Close all members.
 
         Args:
-            close: Closes one (default: its `close` without arguments).
+            leave: Closes one (default: `leave` of the set).
         """
         jobs, self._jobs = self._jobs, set()
         await cancel_all(jobs)
         members, self._open = self.opened(), set()
-        closing = (member.close() if close is None else close(member) for member in members)
-        results = await asyncio.gather(*closing, return_exceptions=True)
+        leave = leave or self.leave
+        results = await asyncio.gather(*map(leave, members), return_exceptions=True)
         self._map = None
         for result in results:
             if isinstance(result, BaseException):
@@ -285,6 +289,11 @@ class DatabaseSet(Generic[M]):
     def opened(self) -> list[M]:
         """Return the members that are open."""
         return [self.members[index] for index in sorted(self._open)]
+
+    def in_use(self) -> list[M]:
+        """Return the members that are open and answer."""
+        faults = self._faults | self._behind
+        return [self.members[index] for index in sorted(self._open - {*faults})]
 
     def member(self, position: int) -> M:
         """Return the member of a database.

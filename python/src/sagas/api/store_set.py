@@ -11,6 +11,7 @@ from sagas.api.database_set import DatabaseSet, checked_direct, checked_urls, nu
 from sagas.api.merged_calls import MergedCalls, of_all, routed
 from sagas.api.restarts import Restarts
 from sagas.api.store import Run, Store
+from sagas.api.worker_set import WorkerSet
 from sagas.base.errors import Closed, InvalidStore
 from sagas.core.results import ActiveAttempt
 from sagas.definition import arguments
@@ -38,12 +39,29 @@ class StoreSet(MergedCalls, Store):
         for index, (url, server) in enumerate(zip(urls, direct)):
             of_server: dict[str, Any] = {"direct_url": server, "record": numbered(record, index)}
             member = Store(url, declared, **options, **of_server)
-            member._server_options["is_member"] = True
-            member._restarts.route = self._restarts_of
             members.append(member)
-        self._set: DatabaseSet[Store] = DatabaseSet(urls, members)
+        self._compose(DatabaseSet(urls, members))
+
+    @classmethod
+    def over(cls, urls: Sequence[str], stores: Sequence[Store]) -> StoreSet:
+        """Return a set of stores that the caller has made. They are not open.
+
+        Args:
+            urls: The URL of each database, in the order of the map.
+            stores: The store of each.
+        """
+        result = cls.__new__(cls)
+        result._compose(DatabaseSet(urls, stores))
+        return result
+
+    def _compose(self, databases: DatabaseSet[Store]) -> None:
+        self._set: DatabaseSet[Store] = databases
         self._is_leased = False
         self._refused: asyncio.Future[InvalidStore] | None = None
+        self.workers = WorkerSet(databases)
+        for member in databases.members:
+            member._server_options["is_member"] = True
+            member._restarts.route = self._restarts_of
 
     @property
     def path(self) -> str:
@@ -63,8 +81,8 @@ class StoreSet(MergedCalls, Store):
     @leased.setter
     def leased(self, value: bool) -> None:
         self._is_leased = value
-        for member in self._set.members:
-            member.leased = value
+        for store in self._set.members:
+            store.leased = value
 
     @property
     def sagas(self) -> builtins.list[Saga[Any]]:
@@ -103,7 +121,7 @@ class StoreSet(MergedCalls, Store):
 
     @property
     def _is_over(self) -> bool:
-        return all(member._is_over for member in self._set.members)
+        return all(store._is_over for store in self._set.members)
 
     @property
     def _refusal(self) -> asyncio.Future[InvalidStore]:

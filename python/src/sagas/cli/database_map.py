@@ -7,7 +7,6 @@ import contextlib
 import dataclasses
 import io
 import json
-import re
 import sys
 from collections.abc import Callable
 from typing import TYPE_CHECKING, Any
@@ -17,23 +16,17 @@ from sagas.base.wording import number
 from sagas.cli.formatting import CANNOT, GOOD, complain, show_json, table
 from sagas.storage import admin, store_name
 from sagas.storage.admin import Trouble
+from sagas.storage.store_name import urls_of
 
 if TYPE_CHECKING:
     from sagas.core.database_map import DatabaseMap, MapState
     from sagas.storage.postgresql.map_changes import GenerationCount
 
-BETWEEN = re.compile(r",(?=postgres(?:ql)?:)")
-"""Between two URLs. A URL with several hosts has commas, too."""
 HAS_KEY = """
 SELECT EXISTS (SELECT 1 FROM sagas WHERE key = ?)
   OR EXISTS (SELECT 1 FROM pending_starts WHERE key = ?)
 """
 Command = Callable[[str, argparse.Namespace], int]
-
-
-def urls_of(path: str) -> list[str]:
-    """Return the databases that the argument STORE names: `URL,URL`, or one."""
-    return BETWEEN.split(path)
 
 
 def add_map_options(part: argparse.ArgumentParser) -> None:

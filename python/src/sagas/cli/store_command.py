@@ -17,7 +17,7 @@ from sagas.base.errors import SagasError
 from sagas.base.options import not_negative
 from sagas.cli.actions import abort, compensate, complete, erase, fail, resolve, restart, retry
 from sagas.cli.audits import audit
-from sagas.cli.database_map import add_map_options, map_command, run, urls_of
+from sagas.cli.database_map import add_map_options, map_command, run
 from sagas.cli.decisions import add_decisions_options, decisions
 from sagas.cli.formatting import CANNOT, INTERRUPTED, complain, drop_output, escape
 from sagas.cli.listings import (
@@ -49,6 +49,7 @@ from sagas.cli.saga_views import draw, export, list_sagas, log, plan, show
 from sagas.cli.upgrade import add_check_options, check
 from sagas.storage.admin import Trouble
 from sagas.storage.queries import PHASES
+from sagas.storage.store_name import urls_of
 
 Command = Callable[[str, argparse.Namespace], int]
 Add = Callable[..., argparse.ArgumentParser]

@@ -38,6 +38,7 @@ def page(
     """Return a page of this template."""
     service = service_of(request)
     defaults: dict[str, Any] = {"here": "", "tokens": service.tokens is not None}
+    defaults["databases"] = service.database_choices
     if session is not None:
         defaults["paused"] = service.pauses_of(session.principal)
         defaults["can"] = functools.partial(service.may_open, session.principal)

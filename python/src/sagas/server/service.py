@@ -12,7 +12,7 @@ import re
 import time
 from collections import OrderedDict
 from collections.abc import Awaitable, Callable, Iterator
-from typing import TYPE_CHECKING, Any, TypeVar
+from typing import TYPE_CHECKING, Any, NamedTuple, TypeVar
 
 from sagas.api import store
 from sagas.api.restarts import check_restartable
@@ -52,9 +52,13 @@ from sagas.server.shown_fields import ShownFields
 from sagas.server.siblings import ProcessQuestion, SharedSessions
 from sagas.server.threads import Threads
 from sagas.server.webhooks import Webhooks
-from sagas.storage import store_name
+from sagas.storage import factory, store_name
 
 if TYPE_CHECKING:
+    from starlette.responses import Response
+
+    from sagas.server.operations import Call, Operation
+    from sagas.server.service_set import ServiceSet
     from sagas.storage.interface import Peers
 
 T = TypeVar("T")
@@ -83,6 +87,22 @@ class Seen:
     name: str
     at: float
     steps: list[str]
+
+
+class DatabaseChoice(NamedTuple):
+    """A database in the menu of the dashboard.
+
+    Attributes:
+        number: Its number in the store.
+        name: Its URL, without the password.
+        fault: Why it cannot be used, or None.
+        is_shown: Whether the page shows it.
+    """
+
+    number: int
+    name: str
+    fault: str | None
+    is_shown: bool
 
 
 class WaitingClaims:
@@ -123,21 +143,30 @@ def sessions_of(settings: Settings) -> Sessions:
     return SharedSessions(settings.session_time, settings.siblings)
 
 
-class Service:
-    """A served store. Use the other methods only between `begin` and `end`."""
+class Shared:
+    """What the services of one process share, if the store has several databases."""
 
     def __init__(self, settings: Settings) -> None:
-        self.settings = settings
         self.hub = Hub()
-        self.metrics = Metrics(self, settings.sagas)
         self.tokens = Tokens(settings.tokens, logger.error) if settings.tokens else None
         self.sessions = sessions_of(settings)
-        self.rates = Rates(settings.rate)
-        self.refusals = Rates(5.0)
-        self.quotas = Quotas(settings.quota, self.look)
+        self.rates, self.refusals = Rates(settings.rate), Rates(5.0)
         self.concurrency = ConcurrencyLimits(settings.concurrency)
         streams = settings.streams
         self.streams = StreamLimits(streams.maximum, streams.max_each, streams.kept)
+        self.workers: OrderedDict[str, Seen] = OrderedDict()
+        self.claims = WaitingClaims()
+
+
+class Service:
+    """A served store. Use the other methods only between `begin` and `end`."""
+
+    def __init__(self, settings: Settings, shared: Shared | None = None) -> None:
+        self.settings = settings
+        self.group: ServiceSet | None = None
+        self.share(shared or Shared(settings))
+        self.metrics = Metrics(self, settings.sagas)
+        self.quotas = Quotas(settings.quota, self.look)
         self.store: Store = store.open(
             settings.path,
             settings.sagas,
@@ -160,8 +189,6 @@ class Service:
         """The pages that users visit, by the paths of their routes."""
         self.page_permissions: dict[tuple[str, str], Permission | None] = {}
         """What the routes of the dashboard require, by their methods and paths."""
-        self.workers: OrderedDict[str, Seen] = OrderedDict()
-        self.claims = WaitingClaims()
         self.unwritten: float | None = None
         self.figures = Figures(self.hub, self.look)
         self.explanations = Explanations()
@@ -169,6 +196,32 @@ class Service:
         if settings.siblings:
             settings.siblings.answers[ProcessQuestion.METRICS] = lambda _: self.metrics.dump()
             settings.siblings.answers[ProcessQuestion.END_CLAIMS] = self.claims.end
+
+    def share(self, shared: Shared) -> None:
+        """Use what services share."""
+        self.hub, self.tokens, self.sessions = shared.hub, shared.tokens, shared.sessions
+        self.rates, self.refusals = shared.rates, shared.refusals
+        self.concurrency, self.streams = shared.concurrency, shared.streams
+        self.workers, self.claims = shared.workers, shared.claims
+
+    async def carry_out(self, operation: Operation, call: Call) -> Response:
+        """Return the answer to a call. Raises `Problem`, and errors of the package."""
+        return await operation.handler(call)
+
+    @property
+    def unavailable(self) -> dict[str, str] | None:
+        """Why each database that cannot be used cannot be used; None if the store has one."""
+        return None
+
+    @property
+    def database_choices(self) -> list[DatabaseChoice]:
+        """The databases among which a page of the dashboard selects, if the store has several."""
+        return [] if self.group is None else self.group.choices(self)
+
+    async def reach(self) -> None:
+        """Find out whether the database answers. See `factory.reach`."""
+        options = self.settings.store.options
+        await factory.reach(options.get("direct_url") or self.settings.path)
 
     # -- life
 

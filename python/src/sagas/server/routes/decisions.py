@@ -15,13 +15,21 @@ from sagas.server.auth import Permission, Principal
 from sagas.server.dashboard import show_page
 from sagas.server.json_bodies import Json, times
 from sagas.server.operations import Answer, Call, Routes
+from sagas.server.routes import filters
 from sagas.server.routes.filters import LIMIT
-from sagas.server.shapes import Choice, Field, Number, Text
+from sagas.server.shapes import Choice, Either, Field, Number, Text
 
 routes = Routes("operators", "/v1")
 page_routes = Routes("pages", is_page=True)
 MAX_NUMBER = 1 << 62
-AFTER = Field(Number(1, MAX_NUMBER, whole=True), "`next` of the previous page", default=None)
+AFTER = Field(
+    Either(
+        Number(1, MAX_NUMBER, whole=True),
+        Text(max_length=filters.MAX_TOKEN, pattern=filters.MERGED),
+    ),
+    "`next` of the previous page",
+    default=None,
+)
 FILTERS = {
     "key": Field(Text(max_length=512), "only decisions on this saga", default=None),
     "definition": Field(
@@ -37,6 +45,13 @@ def filter_of(principal: Principal, query: Any) -> DecisionFilter:
     """Return the filter of a query, within what the principal may see."""
     names = query["key"] or None, query["definition"] or None, query["decision"] or None
     return DecisionFilter(*names, scope=principal.scope)
+
+
+def number_of(after: int | str | None) -> int | None:
+    """Return the number of the last entry of the previous page. Raises `Problem`."""
+    if isinstance(after, str):
+        raise filters.other_list()
+    return after
 
 
 def entry_json(entry: DecisionEntry) -> dict[str, Any]:
@@ -81,7 +96,7 @@ async def decisions(call: Call) -> Response:
     """
     limit = call.query["limit"]
     of = filter_of(call.principal, call.query)
-    question = decision_questions.listed(of, call.query["after"], limit)
+    question = decision_questions.listed(of, number_of(call.query["after"]), limit)
     entries = await call.service.look(question)
     more = entries[-1].number if len(entries) == limit else None
     return Json({"decisions": [entry_json(entry) for entry in entries], "next": more})
@@ -92,7 +107,8 @@ async def page(call: Call) -> Response:
     """Show who decided what."""
     principal, query = call.principal, dict(call.query)
     of, limit = filter_of(principal, query), LISTED
-    entries = await call.service.look(decision_questions.listed(of, query["after"], limit + 1))
+    after = number_of(query["after"])
+    entries = await call.service.look(decision_questions.listed(of, after, limit + 1))
     counts, _ = await call.service.figures.of(principal.scope)
     shown = entries[:limit]
     older = None

@@ -3,6 +3,7 @@
 from __future__ import annotations
 
 import datetime
+import re
 from collections.abc import Iterable, Mapping
 from decimal import Decimal
 from typing import Any
@@ -11,6 +12,7 @@ from sagas.definition.labels import Labels, checked
 from sagas.inspection.pages import Position
 from sagas.server.access import check_definition
 from sagas.server.auth import Principal
+from sagas.server.problems import Problem
 from sagas.server.shapes import (
     DECIMAL,
     Field,
@@ -26,7 +28,10 @@ from sagas.storage.filters import Filter
 
 LIMIT = Field(Number(1, 1000, whole=True), "maximum number of entries", default=100)
 POSITION = r"-?[0-9]+(\.[0-9]+)?-[0-9]+"
-CURSOR = Text(max_length=64, pattern=POSITION)
+MERGED = "[A-Za-z0-9_-]+"
+"""The form of a token of a store over several databases."""
+MAX_TOKEN = 4096
+CURSOR = Text(max_length=MAX_TOKEN, pattern=f"{POSITION}|{MERGED}")
 """A position in the list: when a saga started, and its id, such as 1795934845.949-1048577."""
 
 
@@ -113,7 +118,16 @@ def cursor_of(position: tuple[float, int]) -> str:
 
 def position_of(cursor: str | None) -> Position:
     """Return the position in a cursor."""
-    return None if cursor is None else parse_position(cursor)
+    if cursor is None:
+        return None
+    if not re.fullmatch(POSITION, cursor):
+        raise other_list()
+    return parse_position(cursor)
+
+
+def other_list() -> Problem:
+    """Return the problem for a token of another list, or of another store."""
+    return Problem("InvalidRequest", "after: must be `next` of the previous page", "after")
 
 
 def parse_position(cursor: str) -> tuple[float, int]:

@@ -63,8 +63,11 @@ async def ready(call: Call) -> Response:
     Returns 503 if the store cannot be written or the service is stopping. A proxy then uses
     another service.
     """
-    reason = call.service.ready()
-    return Json({"ready": reason is None, "reason": reason}, 200 if reason is None else 503)
+    reason, unavailable = call.service.ready(), call.service.unavailable
+    fields: dict[str, Any] = {"ready": reason is None, "reason": reason}
+    if unavailable is not None:
+        fields["unavailable"] = unavailable
+    return Json(fields, 200 if reason is None else 503)
 
 
 @routes.get(
