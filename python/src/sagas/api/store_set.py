@@ -12,12 +12,12 @@ from sagas.api.merged_calls import MergedCalls, of_all, routed
 from sagas.api.restarts import Restarts
 from sagas.api.store import Run, Store
 from sagas.api.worker_set import WorkerSet
-from sagas.base.errors import Closed, InvalidStore
+from sagas.base.errors import InvalidStore, StoreUnavailable
 from sagas.core.results import ActiveAttempt
 from sagas.definition import arguments
 from sagas.definition.call_options import Seconds
 from sagas.definition.labels import Labels
-from sagas.definition.payloads import Codec
+from sagas.definition.payloads import Codec, Payloads
 from sagas.definition.saga import Saga
 from sagas.definition.saga_result import SagaResult
 from sagas.definition.start_options import Deadline, I, NO_INPUT
@@ -212,8 +212,22 @@ class StoreSet(MergedCalls, Store):
         self._set.map  # raises if the store is closed
         return []
 
-    def _location(self) -> str:
-        raise Closed("a store over several databases has no single location")
+    def _now(self) -> float:
+        return self._first._now()
+
+    def _stored(self) -> Payloads:
+        return self._first._stored()
+
+    def _declared(self) -> dict[str, builtins.list[str]]:
+        return self._first._declared()
+
+    @property
+    def _first(self) -> Store:
+        """The store of a database that is open, for what is the same in all."""
+        if not (members := self._set.opened()):
+            self._set.map  # raises if the store is closed
+            raise StoreUnavailable("; ".join(self._set.unavailable.values()))
+        return members[0]
 
     abort = routed(Store.abort)
     complete = routed(Store.complete)

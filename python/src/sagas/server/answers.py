@@ -87,7 +87,7 @@ DEADLINE = time("deadline", "when the saga is aborted if it has not ended", null
 UNAVAILABLE = {
     "unavailable": Field(
         Mapped(Text()),
-        "why a database is missing, by its name; only if the store has several databases",
+        "why databases are missing, by their numbers; only if the store has several",
         default=None,
     )
 }
@@ -615,7 +615,9 @@ NODE = Record(
         "concurrency": Field(Nullable(COUNT), "how many functions may run; null: unknown"),
         "drain": Field(Nullable(DRAIN), "null: it is not drained"),
         "database": Field(
-            MAYBE, "the database that it is a node of, if the store has several", default=None
+            COST,
+            "the number of the database that it is a node of, if there are several",
+            default=None,
         ),
     },
 )

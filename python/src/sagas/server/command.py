@@ -425,7 +425,8 @@ def options_of(parsed: argparse.Namespace, app: App | None) -> dict[str, Any]:
         check_blobs(result.get("blobs"), result.get("blob_threshold", MIN_THRESHOLD))
         arguments.keeping(result.get("retention"), result.get("archive_dir"))
         direct = result.get("direct_url")
-        for url in store_name.urls_of(direct) if isinstance(direct, str) else [direct]:
+        urls = store_name.urls_of(direct) if isinstance(direct, str) else direct or ()
+        for url in urls:
             arguments.url("--direct-url", url)
     except (TypeError, ValueError) as error:
         raise Trouble(str(error)) from error

@@ -94,13 +94,11 @@ class DatabaseChoice(NamedTuple):
 
     Attributes:
         number: Its number in the store.
-        name: Its URL, without the password.
         fault: Why it cannot be used, or None.
         is_shown: Whether the page shows it.
     """
 
     number: int
-    name: str
     fault: str | None
     is_shown: bool
 
@@ -190,7 +188,7 @@ class Service:
         self.page_permissions: dict[tuple[str, str], Permission | None] = {}
         """What the routes of the dashboard require, by their methods and paths."""
         self.unwritten: float | None = None
-        self.figures = Figures(self.hub, self.look)
+        self.figures: Figures = Figures(self.hub, self.look)
         self.explanations = Explanations()
         self.shown_fields = ShownFields(self)
         if settings.siblings:
@@ -210,7 +208,7 @@ class Service:
 
     @property
     def unavailable(self) -> dict[str, str] | None:
-        """Why each database that cannot be used cannot be used; None if the store has one."""
+        """Why databases cannot be used, by their numbers; None if the store has only one."""
         return None
 
     @property

@@ -9,8 +9,9 @@ from __future__ import annotations
 import asyncio
 import dataclasses
 import functools
+import logging
 import re
-from collections.abc import Iterator
+from collections.abc import Iterator, Mapping
 from typing import TYPE_CHECKING, Any, cast
 from urllib.parse import parse_qsl
 
@@ -18,12 +19,14 @@ from prometheus_client.core import GaugeMetricFamily, Metric
 from starlette.requests import Request
 
 from sagas.api.store_set import StoreSet
+from sagas.base.errors import StoreUnavailable
 from sagas.core.pauses import Pause
 from sagas.server import metric_sums
 from sagas.server.auth import Principal
 from sagas.server.metrics import PROCESSES, Metrics, dump_of, metric_of, of_processes, text_of
 from sagas.server.middleware import SERVICE
 from sagas.server.operations import Call, Operation
+from sagas.server.problems import Problem
 from sagas.server.service import DatabaseChoice, Service, Shared
 from sagas.server.settings import Settings, StoreSettings
 from sagas.server.siblings import ProcessQuestion
@@ -35,8 +38,15 @@ if TYPE_CHECKING:
     from sagas.api.database_set import DatabaseSet
     from sagas.api.store import Store
 
+logger = logging.getLogger("sagas.server")
 CHOSEN = "sagas_database"
 """The cookie with the number of the database that the dashboard shows."""
+NO_ANSWER = "the database does not answer"
+NOT_NAMED = "the service was started without this database"
+UNAVAILABLE = (
+    "database {numbers} of the store cannot be read or written at the moment. Retry the same "
+    "request later; the service's log has the cause"
+)
 OF_PROCESS = ("process_", "sagas_start_time", "sagas_build")
 """The beginnings of the names of metrics that a process has once."""
 START_FORM = "/ui/start"
@@ -118,13 +128,36 @@ class ServiceSet(Service):
 
     @property
     def unavailable(self) -> dict[str, str] | None:
-        """Why each database that cannot be used cannot be used, by its name."""
-        missing = self._stores.unavailable
-        for index, store in enumerate(self.member_set.members):
-            member, name = self._of_store[store], self.member_set.names[index]
-            if store in self.member_set.in_use() and (reason := member.ready()) is not None:
-                missing[name] = reason
-        return missing
+        """Why each database that cannot be used cannot be used, by its number in the store."""
+        in_use = self.member_set.in_use()
+        faults = {
+            store: NO_ANSWER if store not in in_use else self._of_store[store].ready()
+            for store in self.member_set.members
+        }
+        numbers = enumerate(self.member_set.members, 1)
+        missing = {str(number): faults[store] for number, store in numbers}
+        count = self.member_set.map.count
+        unknown = range(len(self.members) + 1, count + 1)
+        return {number: fault for number, fault in missing.items() if fault is not None} | {
+            str(number): NOT_NAMED for number in unknown
+        }
+
+    def numbered(self, missing: Mapping[str, str]) -> dict[str, str]:
+        """Return why databases are missing, by their numbers, for answers.
+
+        The names and the reasons are for the log: callers learn nothing of the servers.
+        """
+        names = self.member_set.map.names
+        numbers = sorted(names.index(name) + 1 for name in missing if name in names)
+        return {
+            str(number): NO_ANSWER if number <= len(self.members) else NOT_NAMED
+            for number in numbers
+        }
+
+    def refused(self, missing: Mapping[str, str]) -> Problem:
+        """Return the problem of a call that needs databases which do not answer."""
+        numbers = ", ".join(self.numbered(missing)) or "of the store"
+        return Problem("StoreUnavailable", UNAVAILABLE.format(numbers=numbers))
 
     def pauses_of(self, principal: Principal) -> list[Pause]:
         """See `Service.pauses_of`. A pause is in all databases."""
@@ -155,9 +188,15 @@ class ServiceSet(Service):
 
     async def of_key(self, operation: Operation, call: Call, key: str) -> Response:
         """Return the answer of the database that has a key. See `DatabaseSet.call`."""
-        return await self.member_set.call(
-            key, lambda store: operation.handler(of_service(call, self.chosen(store)))
-        )
+        try:
+            return await self.member_set.call(
+                key, lambda store: operation.handler(of_service(call, self.chosen(store)))
+            )
+        except StoreUnavailable as error:
+            logger.info("%s: %s", operation.name or operation.path, error)
+            positions = self.member_set.map.positions(key)
+            names = [self.member_set.map.names[position] for position in positions]
+            raise self.refused(dict.fromkeys(names, str(error))) from error
 
     def chosen(self, store: Store) -> Service:
         """Return the service of a database, whose pages name it."""
@@ -188,10 +227,10 @@ class ServiceSet(Service):
 
     def choices(self, shown: Service) -> list[DatabaseChoice]:
         """Return the databases for the menu of the dashboard."""
-        faults = self._stores.unavailable
+        faults = self.unavailable or {}
         return [
-            DatabaseChoice(index + 1, name, faults.get(name), self.members[index] is shown)
-            for index, name in enumerate(self.member_set.names)
+            DatabaseChoice(number, faults.get(str(number)), member is shown)
+            for number, member in enumerate(self.members, 1)
         ]
 
 
@@ -245,8 +284,8 @@ class MetricSet:
         each = GaugeMetricFamily(
             "sagas_database_up", "Whether a database of the store can be used", labels=["database"]
         )
-        for name in self._services.member_set.names:
-            each.add_metric([name], int(name not in missing))
+        for number in range(1, self._services.member_set.map.count + 1):
+            each.add_metric([str(number)], int(str(number) not in missing))
         yield each
         generation = self._services.member_set.map.generation
         yield GaugeMetricFamily("sagas_generation", "The generation of the map", generation)

@@ -4,6 +4,7 @@ from __future__ import annotations
 
 import dataclasses
 import json
+import logging
 from collections.abc import Awaitable, Callable, Iterable, Mapping
 from typing import TYPE_CHECKING, Any
 
@@ -19,12 +20,13 @@ from sagas.server.operations import Call, Operation
 from sagas.server.problems import Problem
 from sagas.server.routes import attention, decisions, filters
 from sagas.server.routes.operators import MAX_TARGETS, SHOWN
-from sagas.server.service_set import ServiceSet, of_service
+from sagas.server.service_set import NO_ANSWER, ServiceSet, of_service
 
 if TYPE_CHECKING:
     from sagas.api.store import Store
     from sagas.inspection.attention_pages import Entry
 
+logger = logging.getLogger("sagas.server")
 Work = Callable[[ServiceSet, Operation, Call], Awaitable[Response]]
 Body = dict[str, Any]
 Parts = Mapping[int, Body]
@@ -43,16 +45,16 @@ async def answer_of(services: ServiceSet, operation: Operation, call: Call, stor
 async def each(
     services: ServiceSet, operation: Operation, call: Call
 ) -> tuple[Parts, dict[str, str]]:
-    """Return the answer of each database, and why the others have none, by name.
+    """Return the answer of each database, and why the others have none, by number.
 
-    Raises `StoreUnavailable` if no database answers.
+    Raises `Problem` if no database answers.
     """
     parts, missing = await services.member_set.each(
         lambda store, _: answer_of(services, operation, call, store)
     )
     if not parts:
-        raise StoreUnavailable("; ".join(missing.values()))
-    return parts, missing
+        raise services.refused(missing)
+    return parts, services.numbered(missing)
 
 
 def rows_of(parts: Parts, name: str) -> list[Body]:
@@ -119,7 +121,7 @@ async def nodes(services: ServiceSet, operation: Operation, call: Call) -> Respo
 
 def _nodes(services: ServiceSet, parts: Parts) -> list[Body]:
     rows = [
-        {**row, "database": services.member_set.names[index]}
+        {**row, "database": index + 1}
         for index, part in sorted(parts.items())
         for row in part["nodes"]
     ]
@@ -202,7 +204,7 @@ async def sagas(services: ServiceSet, operation: Operation, call: Call) -> Respo
         missing,
     )
     rows = [json_views.summary(row) for row in result]
-    return Json({"sagas": rows, "next": result.next, "unavailable": missing})
+    return Json({"sagas": rows, "next": result.next, "unavailable": services.numbered(missing)})
 
 
 async def decisions_of(services: ServiceSet, operation: Operation, call: Call) -> Response:
@@ -225,7 +227,7 @@ async def decisions_of(services: ServiceSet, operation: Operation, call: Call) -
         missing,
     )
     rows = [decisions.entry_json(entry) for entry in result]
-    return Json({"decisions": rows, "next": result.next, "unavailable": missing})
+    return Json({"decisions": rows, "next": result.next, "unavailable": services.numbered(missing)})
 
 
 async def attention_of(services: ServiceSet, operation: Operation, call: Call) -> Response:
@@ -262,7 +264,14 @@ async def attention_of(services: ServiceSet, operation: Operation, call: Call) -
         missing,
     )
     rows = [json_views.entry(entry, shown[id(entry)]) for entry in result]
-    return Json({"counts": counts, "entries": rows, "next": result.next, "unavailable": missing})
+    return Json(
+        {
+            "counts": counts,
+            "entries": rows,
+            "next": result.next,
+            "unavailable": services.numbered(missing),
+        }
+    )
 
 
 # -- changes
@@ -278,8 +287,8 @@ def in_some(
 ) -> Work:
     """Return the work of a change of all databases. `unknown`: it concerns nothing of one.
 
-    The answer is a list. Raises `StoreUnavailable` if a database does not answer; the others have
-    the change.
+    The answer is a list. Raises `Problem` if a database does not answer; the others have the
+    change.
     """
 
     async def work(services: ServiceSet, operation: Operation, call: Call) -> Response:
@@ -297,8 +306,8 @@ def in_some(
         if errors and not parts:
             raise errors[0]
         if missing:
-            raise StoreUnavailable("; ".join(missing.values()))
-        return Json({name: merge(services, parts), "unavailable": missing})
+            raise services.refused(missing)
+        return Json({name: merge(services, parts), "unavailable": {}})
 
     return work
 
@@ -312,7 +321,7 @@ async def change_schedule(services: ServiceSet, operation: Operation, call: Call
         except NoSuchSchedule as unknown:
             error = unknown
     if missing := services.member_set.unavailable:
-        raise StoreUnavailable("; ".join(missing.values()))
+        raise services.refused(missing)
     assert error is not None
     raise error
 
@@ -328,7 +337,7 @@ async def redeliver(services: ServiceSet, operation: Operation, call: Call) -> R
                 raise
             problem = unknown
     if missing := services.member_set.unavailable:
-        raise StoreUnavailable("; ".join(missing.values()))
+        raise services.refused(missing)
     assert problem is not None
     raise problem
 
@@ -360,7 +369,8 @@ async def bulk(services: ServiceSet, operation: Operation, call: Call) -> Respon
             store = services.member_set.member(index)
             done = await answer_of(services, operation, changing, store)
         except StoreUnavailable as error:
-            missing[services.member_set.names[index]] = str(error)
+            logger.info("%s: %s", operation.name, error)
+            missing[str(index + 1)] = NO_ANSWER
             done = part
         limit -= done["done"] + len(done["refused"])
         answers.append(done)
