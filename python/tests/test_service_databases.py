@@ -137,10 +137,12 @@ def test_lists_are_merged_in_pages(client: httpx.Client) -> None:
         "/v1/attention", params={"after": get(client, "/v1/sagas", limit=1)["next"]}
     )
     assert error_of(answer) == "InvalidRequest"
-    (order,) = [
-        row for row in get(client, "/v1/definitions")["definitions"] if row["name"] == "order"
-    ]
-    assert order["sagas"]["open"] == 8
+
+    def open_orders() -> int:
+        rows = get(client, "/v1/definitions")["definitions"]
+        return sum(row["sagas"]["open"] for row in rows if row["name"] == "order")
+
+    until(lambda: open_orders() == 8)  # counts are kept for a moment
     assert get(client, "/v1/trends")["total"]["started"] >= 0
     nodes = get(client, "/v1/nodes")["nodes"]
     assert [row["name"] for row in nodes] == ["one", "one"]
@@ -207,11 +209,11 @@ def test_a_service_client_needs_no_change(service: Served, client: httpx.Client)
     keys = both("client")
     with sagas.ServiceClient(service.url) as caller:
         for key in keys:
-            assert caller.start("order", key).new
+            assert caller.start("trip", key).new
         listed = caller.list(search="client")
         assert [row.key for row in listed] == keys[::-1]
         for _ in keys:
-            all_done(client, "order/review", "order/send")
+            all_done(client, "trip/flight", "trip/car", "trip/tour")
         assert all(caller.wait(key, timeout=60).ok for key in keys)
 
 
@@ -239,10 +241,10 @@ def test_metrics_are_sums(client: httpx.Client) -> None:
     """Counters and gauges cover both databases, and each has its own gauge."""
     text = client.get("/metrics").text
     started = re.search(r'sagas_started_total\{saga="trip"\} ([0-9.]+)', text)
-    assert started and float(started[1]) > 4
+    assert started and float(started[1]) >= 4
     assert text.count("sagas_database_up{") == 2 and "sagas_store_up 1.0" in text
     assert "sagas_generation 1.0" in text
-    assert text.count("process_cpu_seconds_total ") == 1
+    assert len(re.findall("^process_cpu_seconds_total ", text, re.M)) == 1
 
 
 def test_one_database_away(client: httpx.Client, servers: list[Server]) -> None:
