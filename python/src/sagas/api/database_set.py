@@ -17,9 +17,17 @@ from typing import Any, Generic, Protocol, TypeVar
 from sagas.base.cancellation import cancel_all
 from sagas.base.errors import Closed, InvalidStore, NoSuchSaga, SagasError, StoreUnavailable
 from sagas.base.logger import logger
-from sagas.core.database_map import DatabaseMap, MapRead, MapRow, is_refusal, state_of
+from sagas.core.database_map import (
+    DatabaseMap,
+    MapRead,
+    MapRow,
+    is_refusal,
+    missing_map,
+    state_of,
+)
 from sagas.definition import arguments
 from sagas.storage import store_name
+from sagas.storage.store_name import FORM
 from sagas.storage.record_file import record_path
 
 T = TypeVar("T")
@@ -58,8 +66,7 @@ def checked_urls(urls: Sequence[object]) -> list[str]:
     for url in urls:
         if not isinstance(url, str) or not store_name.is_url(url):
             raise InvalidStore(
-                f"{arguments.shown(url)}: this is not a URL of a PostgreSQL database. A store over "
-                f"several databases has a list of {store_name.FORM}"
+                f"{arguments.shown(url)}: this is not a URL of a PostgreSQL database. Write {FORM}"
             )
     return [str(url) for url in urls]
 
@@ -128,10 +135,7 @@ class DatabaseSet(Generic[M]):
         state = state_of(reads, self.names)
         if state is None:
             if not is_node:
-                raise InvalidStore(
-                    f"{self.names[0]}: the store has no map yet. Start a node with all databases, "
-                    "or run `sagas store URL,URL init`"
-                )
+                raise missing_map(self.names[0])
             await asyncio.to_thread(map_changes.create, self.urls, logger.warning)
             reads = await asyncio.to_thread(map_changes.read_all, self.urls, self.names)
             state = state_of(reads, self.names)

@@ -95,8 +95,7 @@ class DatabaseMap:
 
     def grown(self, database: str, name: str) -> DatabaseMap:
         """Return the map of the next generation, with one more database."""
-        if self.count >= MAX_DATABASES:
-            raise InvalidStore(f"{name}: a store has at most {MAX_DATABASES} databases")
+        check_count(self.count + 1)
         return dataclasses.replace(
             self,
             generation=self.generation + 1,
@@ -149,10 +148,30 @@ class MapState:
     is_complete: bool
 
 
+def check_count(count: int) -> None:
+    """Raise `InvalidStore` if a store cannot have this number of databases."""
+    if not 0 < count <= MAX_DATABASES:
+        raise InvalidStore(f"{count} databases: a store has 1 to {MAX_DATABASES}")
+
+
+def missing_map(name: str) -> InvalidStore:
+    """Return the error for a store without a map."""
+    return InvalidStore(
+        f"{name}: the store has no map yet. Start a node with all databases, or run `sagas store "
+        "URL,URL init`"
+    )
+
+
+def interrupted(name: str) -> InvalidStore:
+    """Return the error for a map that not all databases have."""
+    return InvalidStore(
+        f"{name}: the last `map add` was interrupted. Nothing was written. Run it again"
+    )
+
+
 def created(store: str, databases: Sequence[str], names: Sequence[str]) -> DatabaseMap:
     """Return the map of the first generation."""
-    if len(names) > MAX_DATABASES:
-        raise InvalidStore(f"{len(names)} databases: a store has at most {MAX_DATABASES}")
+    check_count(len(names))
     return DatabaseMap(store, 1, (len(names),), tuple(databases), tuple(names))
 
 
@@ -197,9 +216,8 @@ def state_of(reads: Sequence[MapRead], names: Sequence[str]) -> MapState | None:
 
 
 def check_names(names: Sequence[str]) -> None:
-    """Raise `InvalidStore` if there is no name, or one twice."""
-    if not names:
-        raise InvalidStore("a store over several databases needs at least one URL")
+    """Raise `InvalidStore` if there are no names or too many, or one is there twice."""
+    check_count(len(names))
     for index, name in enumerate(names):
         if name in names[:index]:
             raise InvalidStore(f"{name} is named twice. Name each database once")
@@ -241,17 +259,15 @@ def _check_order(
 ) -> None:
     """Raise `InvalidStore` if the caller names another number of databases, or another order."""
     if len(names) != newest.count:
-        since = f"since generation {newest.generation}"
         raise InvalidStore(
-            f"{len(names)} databases are named, and the store has {newest.count} {since}. Nothing "
-            f"was written. Name them in this order: {newest.ordered()}"
+            f"{len(names)} databases are named, and there are {newest.count}. Nothing was written. "
+            f"The order is {newest.ordered()}"
         )
     for index, row in rows:
         if row.position != index:
             raise InvalidStore(
-                f"{names[index]} is database {row.position + 1} of the store, and is named as "
-                f"database {index + 1}. Nothing was written. Name them in this order: "
-                f"{newest.ordered()}"
+                f"{names[index]} is database {row.position + 1}, and is named as {index + 1}. "
+                f"Nothing was written. The order is {newest.ordered()}"
             )
 
 
@@ -259,6 +275,6 @@ def check_alone(row: MapRow | None, name: str) -> None:
     """Raise `InvalidStore` if a database is opened alone, and the store has several."""
     if row is not None and row.map.count > 1:
         raise InvalidStore(
-            f"{name} is database {row.position + 1} of {row.map.count} of a store. Nothing was "
-            f"written. Open all of them together, in this order: {row.map.ordered()}"
+            f"{name} is database {row.position + 1} of {row.map.count}. Nothing was written. Open "
+            f"all of them: {row.map.ordered()}"
         )

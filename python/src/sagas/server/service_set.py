@@ -1,4 +1,4 @@
-"""The service of a store over several databases: a service of each, behind one address.
+"""The service of a store over several databases: a service of each, at one address.
 
 A call with a key is carried out by the service of its database. Lists are merged, and a page of the
 dashboard shows one database. `routes/merged.py` says which calls are which.

@@ -27,6 +27,8 @@ from sagas.core.database_map import (
     MapRow,
     check_names,
     created,
+    interrupted,
+    missing_map,
     position_of,
     routed_part,
     state_of,
@@ -128,8 +130,8 @@ def create(urls: Sequence[str], notify: Notify) -> DatabaseMap:
         for link, name in zip(links, names):
             if len(names) > 1 and database_maps.is_used(link):
                 raise InvalidStore(
-                    f"{name} has sagas, and no map. Nothing was written. Begin with this database "
-                    "alone, and add the others: `sagas store URL map add URL`"
+                    f"{name} has sagas, and no map. Begin with it alone: `sagas store URL map add "
+                    "URL`"
                 )
         for link, name in zip(links, names):
             schema.migrate(link, name)
@@ -171,13 +173,9 @@ def _target(links: Sequence[Connection], names: Sequence[str], notify: Notify) -
         return state.map
     state = state_of(reads[:-1], names[:-1])
     if state is None and len(names) > 2:
-        raise InvalidStore(
-            f"{names[0]}: the store has no map yet. Run `sagas store URL,URL init` first"
-        )
+        raise missing_map(names[0])
     if state is not None and not state.is_complete:
-        raise InvalidStore(
-            f"{names[0]}: the last `map add` was interrupted. Nothing was written. Run it again"
-        )
+        raise interrupted(names[0])
     if database_maps.is_used(links[-1]):
         raise InvalidStore(f"{names[-1]} has sagas. Nothing was written. Add an empty database")
     for link, name in zip(links, names):
@@ -231,7 +229,7 @@ def repair(urls: Sequence[str], notify: Notify) -> DatabaseMap:
         rows = [database_maps.read_row(link) for link in links]
         present = [row for row in rows if row is not None]
         if not present:
-            raise InvalidStore(f"{names[0]}: no database has a map")
+            raise missing_map(names[0])
         newest = max(present, key=lambda row: row.map.generation).map
         as_new: list[MapRead] = [
             MapRow(newest, index if row is None else row.position, True)
@@ -278,10 +276,10 @@ def retire(urls: Sequence[str], notify: Notify) -> DatabaseMap:
     names = named(urls)
     with _locked(urls, names) as links:
         state = state_of([database_maps.read_row(link) for link in links], names)
-        if state is None or not state.is_complete:
-            raise InvalidStore(
-                f"{names[0]}: the store has no map, or `map add` was interrupted. Run it again"
-            )
+        if state is None:
+            raise missing_map(names[0])
+        if not state.is_complete:
+            raise interrupted(names[0])
         of_store = state.map
         for count in [*_counts(links, of_store)][:-1]:
             if count.sagas:
