@@ -131,8 +131,8 @@ class Program:
         while not (self.is_over or self.stop.is_set()) and time.monotonic() < end:
             with open(self.errors, "ab") as errors:
                 process = subprocess.Popen(self.command, stdout=subprocess.PIPE, stderr=errors)
-            least, most = self.seconds
-            until = time.monotonic() + self.draw.uniform(least, most + self.kills)
+            minimum, maximum = self.seconds
+            until = time.monotonic() + self.draw.uniform(minimum, maximum + self.kills)
             while process.poll() is None and not self.stop.wait(0.05):
                 if time.monotonic() > until and not self.is_quiet.is_set():
                     break
@@ -202,11 +202,11 @@ class Round:
 
     def judge(self, urls: list[str], notes: list[Json], count: int) -> None:
         """Compare the witness's notes with the databases."""
-        where: dict[str, list[int]] = defaultdict(list)
+        numbers: dict[str, list[int]] = defaultdict(list)
         for number, url in enumerate(urls, 1):
             for key in rows(url, KEYS):
-                where[key].append(number)
-        self.faults += [f"{key} is in databases {of}" for key, of in where.items() if len(of) > 1]
+                numbers[key].append(number)
+        self.faults += [f"{key} is in databases {of}" for key, of in numbers.items() if len(of) > 1]
         tokens: dict[tuple[str, str], set[str]] = defaultdict(set)
         started = {note["key"] for note in notes if note["what"] == "started"}
         for note in notes:
@@ -217,7 +217,7 @@ class Round:
             for (key, step), of in tokens.items()
             if len(of) > 1
         ]
-        self.faults += [f"{key} was acknowledged, and is gone" for key in started - {*where}]
+        self.faults += [f"{key} was acknowledged, and is gone" for key in started - {*numbers}]
         self.faults += [f"k{n} was not started" for n in range(count) if f"k{n}" not in started]
         for number, url in enumerate(urls, 1):
             if rows(url, OPEN) != [0]:

@@ -83,8 +83,8 @@ def test_the_first_lines_of_a_user(urls: list[str]) -> None:
                 assert run.key in keys_of(await store.database_of(run.key))
 
     run(main())
-    found = [keys_of(url) for url in urls]
-    assert sum(map(len, found)) == 30 and all(found)
+    keys = [keys_of(url) for url in urls]
+    assert sum(map(len, keys)) == 30 and all(keys)
 
 
 def test_a_client_starts_in_the_database_of_the_key(urls: list[str]) -> None:

@@ -110,7 +110,7 @@ class DatabaseSet(Generic[M]):
         self.names = map_changes.named(urls)
         self._map: DatabaseMap | None = None
         self._faults: dict[int, str] = {}  # of databases that are not open, or do not answer
-        self._behind: dict[int, str] = {}  # of databases whose map went back
+        self._reverted: dict[int, str] = {}  # of databases whose map went back
         self._away = [asyncio.Event() for _ in self.urls]
         self._open: set[int] = set()
         self._opening: set[int] = set()
@@ -202,7 +202,7 @@ class DatabaseSet(Generic[M]):
     @property
     def unavailable(self) -> dict[str, str]:
         """Why each database that cannot be used now cannot be used, by its name."""
-        faults = self._faults | self._behind
+        faults = self._faults | self._reverted
         missing = {self.names[index]: fault for index, fault in sorted(faults.items())}
         for name in self.map.names[len(self.urls) :]:
             missing[name] = f"{name}: this program was opened without this database"
@@ -218,7 +218,7 @@ class DatabaseSet(Generic[M]):
         if self._faults.pop(index, None) is not None:
             logger.info("%s: the database is used again", self.names[index])
         self._away[index].clear()
-        self._behind.pop(index, None)
+        self._reverted.pop(index, None)
 
     async def _watch(self) -> None:
         while True:
@@ -286,7 +286,7 @@ class DatabaseSet(Generic[M]):
         except InvalidStore as error:
             for index, read in enumerate(reads):
                 if isinstance(read, MapRow) and read.map.generation < generation:
-                    self._behind[index] = str(error)
+                    self._reverted[index] = str(error)
 
     # -- routing
 
@@ -296,7 +296,7 @@ class DatabaseSet(Generic[M]):
 
     def in_use(self) -> list[M]:
         """Return the members that are open and answer."""
-        faults = self._faults | self._behind
+        faults = self._faults | self._reverted
         return [self.members[index] for index in sorted(self._open - {*faults})]
 
     def member(self, position: int) -> M:
@@ -318,8 +318,8 @@ class DatabaseSet(Generic[M]):
     def used(self, position: int) -> M:
         """As `member`, if the database has the present map. Raises `StoreUnavailable`."""
         member = self.member(position)
-        if position in self._behind:
-            raise StoreUnavailable(self._behind[position])
+        if position in self._reverted:
+            raise StoreUnavailable(self._reverted[position])
         return member
 
     async def position(self, key: str) -> int:
@@ -389,7 +389,7 @@ class DatabaseSet(Generic[M]):
         Returns:
             The results, by the index of the database, and why the others have none, by name.
         """
-        faults = self._faults | self._behind
+        faults = self._faults | self._reverted
         positions = [index for index in range(len(self.urls)) if index not in faults]
         results = await asyncio.gather(
             *(self._unless_away(index, work) for index in positions), return_exceptions=True

@@ -20,7 +20,7 @@ if TYPE_CHECKING:
     from sagas.storage.interface import Peers
 
 MAX_SHARDS = 10_000
-"""Maximum number of shards of which the database is remembered."""
+"""Maximum number of shards whose databases are remembered."""
 
 
 class WorkerSet(Workers):

@@ -1,4 +1,4 @@
-"""Commands over several databases: `map`, and each other command in the databases that it is for."""
+"""Commands over several databases: `map`, and other commands in the databases that they are for."""
 
 from __future__ import annotations
 

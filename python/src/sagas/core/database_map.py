@@ -210,7 +210,7 @@ def state_of(reads: Sequence[MapRead], names: Sequence[str]) -> MapState | None:
     if is_complete:
         for index, row in rows:
             if not _is_new(row, newest):
-                raise InvalidStore(behind(names[index], row.map.generation, newest.generation))
+                raise InvalidStore(reverted(names[index], row.map.generation, newest.generation))
     counts = min((row.map.counts for _, row in rows if _is_new(row, newest)), key=len)
     return MapState(dataclasses.replace(newest, counts=counts), away, is_complete)
 
@@ -223,7 +223,7 @@ def check_names(names: Sequence[str]) -> None:
             raise InvalidStore(f"{name} is named twice. Name each database once")
 
 
-def behind(name: str, generation: int, newest: int) -> str:
+def reverted(name: str, generation: int, newest: int) -> str:
     """Return the message about a database whose map went back."""
     return (
         f"{name}: its map has generation {generation}, and the store has generation {newest}. It "
