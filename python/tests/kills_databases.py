@@ -48,7 +48,9 @@ from witness import Witness, witness_at
 import sagas
 from sagas.cli import store_command
 
-LEASE, LONG = 3.0, 400.0
+LEASE, LONG = 3.0, 900.0
+MAX_KILLS = 4
+"""How often a program is killed in a round, so that a slow machine gets on."""
 Json = dict[str, Any]
 KEYS = "SELECT key FROM sagas.sagas UNION ALL SELECT key FROM sagas.pending_starts"
 OPEN = "SELECT count(*) FROM sagas.sagas WHERE phase IS NULL"
@@ -131,16 +133,17 @@ class Program:
         while not (self.is_over or self.stop.is_set()) and time.monotonic() < end:
             with open(self.errors, "ab") as errors:
                 process = subprocess.Popen(self.command, stdout=subprocess.PIPE, stderr=errors)
-            minimum, maximum = self.seconds
-            until = time.monotonic() + self.draw.uniform(minimum, maximum + self.kills)
+            assert process.stdout
+            process.stdout.readline()  # it begins now, however long its imports took
+            until = time.monotonic() + self.draw.uniform(*self.seconds)
             while process.poll() is None and not self.stop.wait(0.05):
-                if time.monotonic() > until and not self.is_quiet.is_set():
+                is_spared = self.is_quiet.is_set() or self.kills >= MAX_KILLS
+                if time.monotonic() > until and not is_spared:
                     break
             if process.poll() is None:
                 process.kill()
                 self.kills += 1
             process.wait()
-            assert process.stdout
             process.stdout.close()
             self.is_over = process.returncode == 0
 
@@ -170,7 +173,7 @@ def freeze(server: Server, seconds: float) -> None:
 def disturb(servers: list[Server], draw: random.Random, over: threading.Event) -> int:
     """Freeze or stop one server after the other, until the round is over. Return how often."""
     turns = 0
-    while not over.wait(draw.uniform(1, 4)):
+    while not over.wait(draw.uniform(3, 9) + turns):
         server = draw.choice(servers)
         if draw.random() < 0.5:
             freeze(server, draw.uniform(0.5, 7))
@@ -262,9 +265,7 @@ def play(seed: int, count: int, servers: list[Server]) -> Round:
         program((5, 20), name, *me, "--client", of, socket, name, str(count))
         for name, of in (("old", two), ("new", three))
     ]
-    change = program(
-        (1, 6), "change", sys.executable, "-m", "sagas", "store", two, "map", "add", urls[2]
-    )
+    change = program((0, 2), "change", *me, "--add", two, urls[2])
     turns: list[int] = []
     with witness_at(folder / "socket", folder / "notes"):
         disturbing = threading.Thread(
@@ -364,6 +365,9 @@ def main() -> int:
 if __name__ == "__main__":
     if sys.argv[1:2] == ["--node"]:
         asyncio.run(node(sys.argv[2].split(","), *sys.argv[3:5]))
+    elif sys.argv[1:2] == ["--add"]:
+        print("open", flush=True)
+        sys.exit(store_command.main([sys.argv[2], "map", "add", sys.argv[3]]))
     elif sys.argv[1:2] == ["--client"]:
         asyncio.run(client(sys.argv[2].split(","), *sys.argv[3:5], int(sys.argv[5])))
     else:

@@ -3,10 +3,11 @@
 from __future__ import annotations
 
 import builtins
+import inspect
 import json
 import os
 import secrets
-from collections.abc import Coroutine, Sequence
+from collections.abc import Callable, Coroutine, Sequence
 from types import TracebackType
 from typing import TYPE_CHECKING, Any, TypeVar
 
@@ -75,6 +76,12 @@ SELECT 1 FROM done
 """
 
 
+def _signature_of(init: Callable[..., None]) -> inspect.Signature:
+    """Return the signature of a class whose `__new__` only selects a subclass."""
+    signature = inspect.signature(init)
+    return signature.replace(parameters=[*signature.parameters.values()][1:])
+
+
 class Client(SharedCalls):
     """Start and inspect sagas of a PostgreSQL store, without executing any.
 
@@ -85,7 +92,7 @@ class Client(SharedCalls):
         path: The database, without the password.
     """
 
-    def __new__(cls, url: str | Sequence[str] = "", *args: Any, **options: Any) -> Client:
+    def __new__(cls, url: str | Sequence[str] = "", *_args: Any, **_options: Any) -> Client:
         """Return a client; over several databases a `ClientSet`."""
         if cls is Client and database_set.is_several(url):
             from sagas.api.client_set import ClientSet
@@ -261,6 +268,13 @@ class Client(SharedCalls):
         """Return the URL of the database that has a key, or that a start of it goes to.
 
         If the store has one database, it is that one.
+
+        Args:
+            key: The saga's key.
+
+        Raises:
+            StoreUnavailable: The database does not answer.
+            Closed: The client is closed.
         """
         self._open_notifier
         return str(self._url)
@@ -583,6 +597,9 @@ class Client(SharedCalls):
         known = await self._known(row)
         kind = self._kind(row, known.definition)
         return history.stored_result(kind, row, known.results, known.shape)
+
+
+setattr(Client, "__signature__", _signature_of(Client.__init__))
 
 
 class ClientRun:

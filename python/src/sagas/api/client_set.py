@@ -19,7 +19,7 @@ from sagas.definition.start_options import Deadline, I, NO_INPUT
 
 
 class ClientSet(MergedCalls, Client):
-    """Start and inspect sagas of a store over several databases. Made by `Client([...])`.
+    """Start and inspect sagas of several databases. Made by `Client([...])`.
 
     Each call goes to the database that has the key. Lists are merged.
     """

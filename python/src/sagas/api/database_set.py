@@ -1,4 +1,4 @@
-"""The databases of a store over several: which are open, which do not answer, and which has a key.
+"""The databases of a store over several: which are open, and which has a key.
 
 It holds a store or a client for each database, routes each call by its key, and decides nothing
 that these decide. `core/database_map.py` has the rule, and the triggers of each database refuse a
@@ -64,7 +64,7 @@ def is_several(path: object) -> bool:
 def checked_urls(urls: Sequence[object]) -> list[str]:
     """Return the URLs of the databases. Raises `InvalidStore`."""
     for url in urls:
-        if not isinstance(url, str) or not store_name.is_url(url):
+        if not isinstance(url, str) or not store_name.supports_nodes(url):
             raise InvalidStore(
                 f"{arguments.shown(url)}: this is not a URL of a PostgreSQL database. Write {FORM}"
             )

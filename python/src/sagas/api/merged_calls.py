@@ -213,7 +213,10 @@ class MergedCalls(SharedCalls):
         return merged(parts, lambda row: row.since, missing, limit)
 
     async def pauses(self) -> MergedList[Pause]:
-        """Return the pauses, the oldest first. A pause is in all databases, and listed once."""
+        """Return the pauses, the oldest first. See `Store.pauses`.
+
+        A pause is in all databases, and listed once.
+        """
         parts, missing = await self._of_each(lambda member, _: member.pauses())
         rows = sorted((row for part in parts.values() for row in part), key=lambda row: row.at)
         scopes = {(row.saga, row.step, row.queue): row for row in reversed(rows)}
@@ -301,7 +304,7 @@ class MergedCalls(SharedCalls):
         labels: Labels | None = None,
         by: str | None = None,
     ) -> BatchResult:
-        """Mark every saga of a filter as resolved, in all databases. See `Store.resolve_all`."""
+        """Mark every saga of a filter as resolved. See `Store.resolve_all`."""
         options: dict[str, Any] = {"saga": saga, "labels": labels, "by": by}
         return await self._batch(lambda member, _: member.resolve_all(note, **options))
 
@@ -397,7 +400,10 @@ class MergedCalls(SharedCalls):
         overlap: str = "allow",
         labels: Labels | None = None,
     ) -> None:
-        """Start a saga at certain times, in the database of the name. See `Store.schedule`."""
+        """Start a saga at certain times. See `Store.schedule`.
+
+        The schedule and its sagas are in the database of its name.
+        """
         timing.check_name(name)
         options: dict[str, Any] = {"cron": cron, "every": every, "timezone": timezone}
         options |= {"catch_up": catch_up, "max": max, "overlap": overlap, "labels": labels}

@@ -24,11 +24,14 @@ from sagas.definition.start_options import Deadline, I, NO_INPUT
 
 
 class StoreSet(MergedCalls, Store):
-    """Hold an open store over several databases. Made by `sagas.open` for a list of URLs.
+    """Hold an open store over several databases. Made by `sagas.open([...])`.
 
     A saga lives in one database, with its children. Each call goes to the database that has the
     key, and lists are merged. The program is a node of each database: limits, and the arguments of
     `sagas.open`, hold for each.
+
+    Attributes:
+        workers: The tasks for workers, of all databases.
     """
 
     def __init__(self, path: Sequence[str], sagas: Iterable[Saga[Any]], **options: Any) -> None:
@@ -75,7 +78,7 @@ class StoreSet(MergedCalls, Store):
 
     @property
     def leased(self) -> bool:
-        """Whether workers claim the tasks of steps with `external=True`. See `Store.leased`."""
+        """Whether workers claim the tasks of external steps. See `Store`."""
         return self._is_leased
 
     @leased.setter

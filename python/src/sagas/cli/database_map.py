@@ -77,7 +77,7 @@ def _changes(path: str) -> Any:
 
 
 def _check_url(url: str) -> None:
-    if not store_name.is_url(url):
+    if not store_name.supports_nodes(url):
         raise Trouble(f"only a PostgreSQL store has a map: name it by {store_name.FORM}", 2)
 
 

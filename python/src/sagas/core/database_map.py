@@ -89,12 +89,21 @@ class DatabaseMap:
         return [*enumerate(self.counts, first)]
 
     def positions(self, key: str) -> tuple[int, ...]:
-        """Return the databases that may have a key: that of the newest generation first."""
+        """Return the databases that may have a key: that of the newest generation first.
+
+        Args:
+            key: The key of a saga, or of a child.
+        """
         part = routed_part(key)
         return tuple(dict.fromkeys(position_of(part, count) for count in reversed(self.counts)))
 
     def grown(self, database: str, name: str) -> DatabaseMap:
-        """Return the map of the next generation, with one more database."""
+        """Return the map of the next generation, with one more database.
+
+        Args:
+            database: A random name of the new database.
+            name: Its URL, without the password.
+        """
         check_count(self.count + 1)
         return dataclasses.replace(
             self,

@@ -154,6 +154,7 @@ class Shared:
         self.streams = StreamLimits(streams.maximum, streams.max_each, streams.kept)
         self.workers: OrderedDict[str, Seen] = OrderedDict()
         self.claims = WaitingClaims()
+        self.group: ServiceSet | None = None
 
 
 class Service:
@@ -161,7 +162,6 @@ class Service:
 
     def __init__(self, settings: Settings, shared: Shared | None = None) -> None:
         self.settings = settings
-        self.group: ServiceSet | None = None
         self.share(shared or Shared(settings))
         self.metrics = Metrics(self, settings.sagas)
         self.quotas = Quotas(settings.quota, self.look)
@@ -197,10 +197,24 @@ class Service:
 
     def share(self, shared: Shared) -> None:
         """Use what services share."""
-        self.hub, self.tokens, self.sessions = shared.hub, shared.tokens, shared.sessions
-        self.rates, self.refusals = shared.rates, shared.refusals
+        self.shared, self.hub = shared, shared.hub
+        self.tokens, self.sessions, self.rates = shared.tokens, shared.sessions, shared.rates
         self.concurrency, self.streams = shared.concurrency, shared.streams
-        self.workers, self.claims = shared.workers, shared.claims
+
+    @property
+    def refusals(self) -> Rates:
+        """The rates of requests without a valid token, by address."""
+        return self.shared.refusals
+
+    @property
+    def workers(self) -> OrderedDict[str, Seen]:
+        """The workers that polled, by name."""
+        return self.shared.workers
+
+    @property
+    def claims(self) -> WaitingClaims:
+        """The claims that wait."""
+        return self.shared.claims
 
     async def carry_out(self, operation: Operation, call: Call) -> Response:
         """Return the answer to a call. Raises `Problem`, and errors of the package."""
@@ -214,7 +228,7 @@ class Service:
     @property
     def database_choices(self) -> list[DatabaseChoice]:
         """The databases among which a page of the dashboard selects, if the store has several."""
-        return [] if self.group is None else self.group.choices(self)
+        return [] if self.shared.group is None else self.shared.group.choices(self)
 
     async def reach(self) -> None:
         """Find out whether the database answers. See `factory.reach`."""

@@ -84,8 +84,7 @@ class ServiceSet(Service):
         if settings.siblings:
             settings.siblings.answers[ProcessQuestion.METRICS] = lambda _: self.metrics.dump()
             settings.siblings.answers[ProcessQuestion.END_CLAIMS] = self.claims.end
-        for member in self.members:
-            member.group = self
+        shared.group = self
 
     @property
     def member_set(self) -> DatabaseSet[Store]:

@@ -1,4 +1,4 @@
-"""The calls of the API that concern all databases of a store, and how their answers are merged."""
+"""Calls of the API that concern all databases of a store, and how answers are merged."""
 
 from __future__ import annotations
 

@@ -1,4 +1,6 @@
-"""Changes of the map of a store over several databases. They may be interrupted, and repeated.
+"""Changes of the map of a store over several databases.
+
+They may be interrupted, and repeated.
 
 One program at a time changes the map: it has a lock in each database. A new generation begins in
 this order:
