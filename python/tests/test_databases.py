@@ -5,6 +5,7 @@ from __future__ import annotations
 import asyncio
 import contextlib
 import itertools
+import json
 from collections.abc import Iterator
 from typing import Any
 
@@ -14,6 +15,7 @@ from cases import Task, run, until
 from server import Server
 
 import sagas
+from sagas.cli import store_command
 from sagas.core.database_map import DatabaseMap, position_of, routed_part
 from sagas.storage.postgresql import database_maps, map_changes
 
@@ -374,3 +376,51 @@ def test_a_map_that_went_back_is_seen(urls: list[str]) -> None:
     run(main())
     assert map_changes.repair(urls, print).generation == 2
     assert map_changes.create(urls, print).generation == 2
+
+
+def test_commands_over_several_databases(
+    urls: list[str], capsys: pytest.CaptureFixture[str]
+) -> None:
+    """A key selects the database, and other commands run in each under its name."""
+    saga, three = order(), ",".join(urls)
+
+    def command(*words: str) -> tuple[int, str]:
+        status = store_command.main([three, *words])
+        return status, capsys.readouterr().out
+
+    assert store_command.main([",".join(urls[:2]), "init"]) == 0
+    assert store_command.main([",".join(urls[:2]), "map", "add", urls[2]]) == 0
+    keys = [keys_at(position, 3, 1)[0] for position in range(3)]
+
+    async def main() -> None:
+        async with sagas.open(urls, [saga]) as store:
+            for key in keys:
+                await (await store.start(saga, key)).wait(timeout=60)
+
+    run(main())
+    capsys.readouterr()
+    for key in keys:
+        assert command("show", key)[1].startswith(f"key      {key}")
+    assert command("show", "missing")[0] == 1
+    status, text = command("list", "--json")
+    assert status == 0
+    assert [[row["key"] for row in rows] for rows in json.loads(text).values()] == [
+        [key] for key in keys
+    ]
+    assert command("audit")[0] == 0
+    fields = json.loads(command("map", "--json")[1])
+    assert (fields["generation"], fields["complete"], len(fields["databases"])) == (2, True, 3)
+    assert [row["sagas"] for row in fields["generations"]] == [0, None]
+    assert command("map", "retire")[0] == 0
+    assert len(json.loads(command("map", "--json")[1])["generations"]) == 1
+    assert command("map", "add")[0] == 2
+    assert store_command.main([f"{urls[1]},{urls[0]},{urls[2]}", "list"]) == 4
+
+
+def test_each_public_call_is_of_all_databases() -> None:
+    """No call of a store or client is left out: it would need the only database."""
+    inherited = {"serve", "opened_with", "restart"}  # they use calls that are
+    for single, several in ((sagas.Store, sagas.StoreSet), (sagas.Client, sagas.ClientSet)):
+        names = {name for name in dir(single) if name[0] != "_"} - inherited
+        missing = {name for name in names if getattr(single, name) is getattr(several, name, None)}
+        assert missing == set()

@@ -166,6 +166,8 @@ def run(command: Command, path: str, options: argparse.Namespace) -> int:
         )
     if isinstance(key, str) and options.command != "decisions":
         return command(_database(urls, state.map, key), options)
+    if options.command == "schedules" and options.name is not None:
+        return command(urls[state.map.positions(options.name)[0]], options)
     return _each(command, urls, changes.named(urls), away, options)
 
 

@@ -56,7 +56,9 @@ def settings_of_each(settings: Settings) -> Iterator[Settings]:
     """Yield the settings of the service of each database."""
     urls, options = urls_of(settings.path), settings.store.options
     direct = options.get("direct_url")
-    servers: list[str | None] = [*urls_of(direct)] if direct else [None] * len(urls)
+    servers: list[str | None] = [None] * len(urls)
+    if direct:  # a store of `--app` may have a list
+        servers = [*urls_of(direct)] if isinstance(direct, str) else [*direct]
     for number, (url, server) in enumerate(zip(urls, servers), 1):
         more: dict[str, Any] = {"direct_url": server} if server else {}
         if options.get("record") is not None:
