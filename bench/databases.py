@@ -165,7 +165,7 @@ def main() -> None:
                 figures[name].append(timed(name, servers, options))
     print(f"{'store':8}{'sagas/s':>10}{'ratio':>8}{'commits':>10}{'connections':>13}")
     for name, of_store in figures.items():
-        ratios = [turn.rate / one.rate for turn, one in zip(of_store, figures["one"])]
+        ratios = [turn.rate / single.rate for turn, single in zip(of_store, figures["one"])]
         rate, commits, connections = (statistics.median(column) for column in zip(*of_store))
         ratio = statistics.median(ratios)
         print(f"{name:8}{rate:10.0f}{ratio:8.2f}{commits:10.2f}{connections:13.0f}")

@@ -384,8 +384,8 @@ def test_commands_over_several_databases(
     """A key selects the database, and other commands run in each under its name."""
     saga, three = order(), ",".join(urls)
 
-    def command(*words: str) -> tuple[int, str]:
-        status = store_command.main([three, *words])
+    def command(*arguments: str) -> tuple[int, str]:
+        status = store_command.main([three, *arguments])
         return status, capsys.readouterr().out
 
     assert store_command.main([",".join(urls[:2]), "init"]) == 0
