@@ -803,13 +803,13 @@ def test_a_primary_that_was_replaced_and_lives(by: str, monkeypatch: pytest.Monk
 
 def test_a_thread_does_not_wait_for_ever_for_a_standby(monkeypatch: pytest.MonkeyPatch) -> None:
     """The server has no timeout for a commit that waits for one. A node writes its charts so."""
-    monkeypatch.setattr(connections, "PATIENCE", 0.5)
-    monkeypatch.setattr(connections, "GRACE", 0.5)
     with paired(synchronous=True) as pair:
         url = pair.primary.create()
         assert store_command.main([url, "init"]) == 0
         pair.hold_back()
-        with pytest.raises(admin.Trouble, match="no answer in 1 s"):
+        monkeypatch.setattr(connections, "PATIENCE", 3.0)
+        monkeypatch.setattr(connections, "GRACE", 1.0)
+        with pytest.raises(admin.Trouble, match="no answer in 4 s"):
             with admin.writing(url) as connection:
                 trends.add(connection, [(60, 0, "order", "started", 1)], 0.0)
 
