@@ -1,4 +1,4 @@
-"""What the store asks of a PostgreSQL server: where it is named, and what holds without it."""
+"""What the store asks of a PostgreSQL server: one module names it. And what holds without it."""
 
 from __future__ import annotations
 

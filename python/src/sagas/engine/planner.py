@@ -139,21 +139,16 @@ class Planner:
         """
         if self.threads == 1 or len(values) < 2:
             return [function(value) for value in values]
-        is_interrupted = False
-
-        def stop() -> None:
-            nonlocal is_interrupted
-            is_interrupted = True
-
-        def call(value: V) -> T:
-            if is_interrupted:
-                raise PlanningStopped
-            return function(value)
-
         with (
-            delayed_interrupt(stop),
+            delayed_interrupt() as interrupt,
             ThreadPoolExecutor(min(self.threads, len(values)), "sagas-plan") as threads,
         ):
+
+            def call(value: V) -> T:
+                if interrupt.is_pending:
+                    raise PlanningStopped
+                return function(value)
+
             try:
                 return [*threads.map(call, values)]
             except BaseException:
